@@ -1,0 +1,6 @@
+-- The theorems about every run, from what knows no pool to demand 3.
+pub mod Sums
+pub mod Order
+pub mod Machine
+pub mod Phases
+pub mod Wraps
