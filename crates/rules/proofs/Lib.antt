@@ -4,3 +4,8 @@ pub mod Order
 pub mod Machine
 pub mod Phases
 pub mod Wraps
+pub mod Visits
+pub mod Passes
+pub mod Held
+pub mod Stamps
+pub mod Good
