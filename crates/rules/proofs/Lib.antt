@@ -1,4 +1,5 @@
--- The theorems about every run, from what knows no pool to demand 3.
+-- What fit words have; then the theorems about every run, from what knows no pool to demand 3.
+pub mod Fitness
 pub mod Sums
 pub mod Order
 pub mod Machine
