@@ -51,12 +51,17 @@ pub record Holds (w : ℕ) (below first : ℕ → ℕ) (item : ℕ → ℕ → I
 
 -- the same functions, otherwise written
 pub holds-ext : {w : ℕ} {below below′ first first′ : ℕ → ℕ} {item : ℕ → ℕ → Item} {xs : List Item}
-  → ((j : ℕ) → j < w → below j ≡ below′ j) → ((j : ℕ) → j < w → first j ≡ first′ j)
-  → Holds w below first item xs → Holds w below′ first′ item xs
+    → ((j : ℕ) → j < w → below j ≡ below′ j) → ((j : ℕ) → j < w → first j ≡ first′ j)
+    → Holds w below first item xs → Holds w below′ first′ item xs
 holds-ext {w} {below} {below′} {first} {first′} {item} {xs} b f h =
-    record { same = λ p. omega (arith, h .same p,
-      sum-ext (rowsOf item p below) (rowsOf item p below′) w (λ j l. ap (upTo (λ r. p (item j r))) (b j l)),
-      sum-ext (rowsOf item p first) (rowsOf item p first′) w (λ j l. ap (upTo (λ r. p (item j r))) (f j l))) }
+    record {
+      same = λ p. omega (
+        arith,
+        h .same p,
+        sum-ext (rowsOf item p below) (rowsOf item p below′) w (λ j l. ap (upTo (λ r. p (item j r))) (b j l)),
+        sum-ext (rowsOf item p first) (rowsOf item p first′) w (λ j l. ap (upTo (λ r. p (item j r))) (f j l)),
+      );
+    }
 
 module _ {w : ℕ} {below first : ℕ → ℕ} {item : ℕ → ℕ → Item} {xs : List Item} (h : Holds w below first item xs) where
   pub held-total : length xs + sumN below w ≡ sumN first w
@@ -69,57 +74,61 @@ module _ {w : ℕ} {below first : ℕ → ℕ} {item : ℕ → ℕ → Item} {xs
   many-held c e = omega (arith, held-total, sum-gap below first w c e)
 
   pub held-count : ((j : ℕ) → j < w → below j ≤ first j) → (p : Item → Bool)
-    → countItems p xs ≡ sumN (λ k. rowsOf item p first k - rowsOf item p below k) w
+      → countItems p xs ≡ sumN (λ k. rowsOf item p first k - rowsOf item p below k) w
   held-count o p =
-      omega (arith, h .same p, sum-sub (rowsOf item p below) (rowsOf item p first) w
-        (λ k l. rows-more (λ r. p (item k r)) (below k) (first k) (o k l) .0))
+      omega (
+        arith,
+        h .same p,
+        sum-sub (rowsOf item p below) (rowsOf item p first) w
+            (λ k l. rows-more (λ r. p (item k r)) (below k) (first k) (o k l) .0),
+      )
 
   -- ---- a put: row `suc (first j)` of sub j is new
   pub holds-put : {first′ : ℕ → ℕ} {item′ : ℕ → ℕ → Item} (j : ℕ) (new : Item) → j < w
-    → ((k : ℕ) → k < w → below k ≤ first k)
-    → first′ j ≡ suc (first j) → ((k : ℕ) → k ≢ j → first′ k ≡ first k)
-    → item′ j (suc (first j)) ≡ new → ((k r : ℕ) → r ≤ first k → item′ k r ≡ item k r)
-    → Holds w below first′ item′ (new ∷ xs)
+      → ((k : ℕ) → k < w → below k ≤ first k)
+      → first′ j ≡ suc (first j) → ((k : ℕ) → k ≢ j → first′ k ≡ first k)
+      → item′ j (suc (first j)) ≡ new → ((k r : ℕ) → r ≤ first k → item′ k r ≡ item k r)
+      → Holds w below first′ item′ (new ∷ xs)
   holds-put {first′} {item′} j new lj o here off it old = record { same = same }
     where
       same : (p : Item → Bool) → countItems p (new ∷ xs) + sumN (rowsOf item′ p below) w ≡ sumN (rowsOf item′ p first′) w
       same p =
           let a : sumN (rowsOf item′ p below) w ≡ sumN (rowsOf item p below) w =
-                sum-ext _ _ w (λ k l. upTo-ext _ _ (below k) (λ r u v. ap p (old k r (omega (arith, o k l))))) in
+          sum-ext _ _ w (λ k l. upTo-ext _ _ (below k) (λ r u v. ap p (old k r (omega (arith, o k l))))) in
           let b : sumN (rowsOf item′ p first′) w ≡ sumN (rowsOf item p first) w + bit (p new) =
-                sum-bump (rowsOf item p first) (rowsOf item′ p first′) w j (bit (p new)) lj
-                  (λ k l n. ap (upTo (λ r. p (item′ k r))) (off k n) ∙ upTo-ext _ _ (first k) (λ r u v. ap p (old k r v)))
-                  (ap (upTo (λ r. p (item′ j r))) here ∙ upTo-suc (λ r. p (item′ j r)) (first j)
-                    ∙ omega (arith, upTo-ext (λ r. p (item′ j r)) (λ r. p (item j r)) (first j) (λ r u v. ap p (old j r v)), ap (λ (y : Item). bit (p y)) it)) in
+          sum-bump (rowsOf item p first) (rowsOf item′ p first′) w j (bit (p new)) lj
+          (λ k l n. ap (upTo (λ r. p (item′ k r))) (off k n) ∙ upTo-ext _ _ (first k) (λ r u v. ap p (old k r v)))
+          (ap (upTo (λ r. p (item′ j r))) here ∙ upTo-suc (λ r. p (item′ j r)) (first j)
+          ∙ omega (arith, upTo-ext (λ r. p (item′ j r)) (λ r. p (item j r)) (first j) (λ r u v. ap p (old j r v)), ap (λ (y : Item). bit (p y)) it)) in
           omega (arith, h .same p, count-cons p new xs)
 
   -- ---- a take: a row of sub j leaves, the lowest held one or the highest, and its item leaves the list
   pub holds-low : {below′ : ℕ → ℕ} {others : List Item} (j : ℕ) → j < w
-    → below′ j ≡ suc (below j) → ((k : ℕ) → k ≢ j → below′ k ≡ below k)
-    → ((p : Item → Bool) → countItems p xs ≡ bit (p (item j (suc (below j)))) + countItems p others)
-    → Holds w below′ first item others
+      → below′ j ≡ suc (below j) → ((k : ℕ) → k ≢ j → below′ k ≡ below k)
+      → ((p : Item → Bool) → countItems p xs ≡ bit (p (item j (suc (below j)))) + countItems p others)
+      → Holds w below′ first item others
   holds-low {below′} {others} j lj here off out = record { same = same }
     where
       same : (p : Item → Bool) → countItems p others + sumN (rowsOf item p below′) w ≡ sumN (rowsOf item p first) w
       same p =
           let b : sumN (rowsOf item p below′) w ≡ sumN (rowsOf item p below) w + bit (p (item j (suc (below j)))) =
-                sum-bump (rowsOf item p below) (rowsOf item p below′) w j (bit (p (item j (suc (below j))))) lj
-                  (λ k l n. ap (upTo (λ r. p (item k r))) (off k n))
-                  (ap (upTo (λ r. p (item j r))) here ∙ upTo-suc (λ r. p (item j r)) (below j)) in
+          sum-bump (rowsOf item p below) (rowsOf item p below′) w j (bit (p (item j (suc (below j))))) lj
+          (λ k l n. ap (upTo (λ r. p (item k r))) (off k n))
+          (ap (upTo (λ r. p (item j r))) here ∙ upTo-suc (λ r. p (item j r)) (below j)) in
           omega (arith, h .same p, out p)
 
   pub holds-top : {first′ : ℕ → ℕ} {others : List Item} (j : ℕ) → j < w
-    → first j ≡ suc (first′ j) → ((k : ℕ) → k ≢ j → first′ k ≡ first k)
-    → ((p : Item → Bool) → countItems p xs ≡ bit (p (item j (suc (first′ j)))) + countItems p others)
-    → Holds w below first′ item others
+      → first j ≡ suc (first′ j) → ((k : ℕ) → k ≢ j → first′ k ≡ first k)
+      → ((p : Item → Bool) → countItems p xs ≡ bit (p (item j (suc (first′ j)))) + countItems p others)
+      → Holds w below first′ item others
   holds-top {first′} {others} j lj here off out = record { same = same }
     where
       same : (p : Item → Bool) → countItems p others + sumN (rowsOf item p below) w ≡ sumN (rowsOf item p first′) w
       same p =
           let b : sumN (rowsOf item p first) w ≡ sumN (rowsOf item p first′) w + bit (p (item j (suc (first′ j)))) =
-                sum-bump (rowsOf item p first′) (rowsOf item p first) w j (bit (p (item j (suc (first′ j))))) lj
-                  (λ k l n. ap (upTo (λ r. p (item k r))) (sym (off k n)))
-                  (ap (upTo (λ r. p (item j r))) here ∙ upTo-suc (λ r. p (item j r)) (first′ j)) in
+          sum-bump (rowsOf item p first′) (rowsOf item p first) w j (bit (p (item j (suc (first′ j))))) lj
+          (λ k l n. ap (upTo (λ r. p (item k r))) (sym (off k n)))
+          (ap (upTo (λ r. p (item j r))) here ∙ upTo-suc (λ r. p (item j r)) (first′ j)) in
           omega (arith, h .same p, out p)
 
 -- ---- finding an item by its stamp
@@ -134,8 +143,10 @@ skip-found : (st : ℕ) (x : Item) (xs : List Item) → eqb (x .stamp) st ≡ fa
 unfolding find cond
 skip-found st x xs t r =
     record {
-      out = record { item = r .out .item; others = x ∷ r .out .others }; found = rw (t, r .found) refl; stamp-is = r .stamp-is;
-      counts = λ p. omega (arith, r .counts p, count-cons p x xs, count-cons p x (r .out .others))
+      out = record { item = r .out .item; others = x ∷ r .out .others };
+      found = rw (t, r .found) refl;
+      stamp-is = r .stamp-is;
+      counts = λ p. omega (arith, r .counts p, count-cons p x xs, count-cons p x (r .out .others));
     }
 
 here-found : (st : ℕ) (x : Item) (xs : List Item) → eqb (x .stamp) st ≡ true → IsFound st (x ∷ xs)
@@ -174,8 +185,8 @@ module _ {w : ℕ} {below first : ℕ → ℕ} {item : ℕ → ℕ → Item} {xs
       let b′ = rows-more (λ n. p (item j n)) (below j) (r - 1) (omega arith) .0 in
       let c : bit (p it) ≡ 1 = ap bit (eq-eqb (it .stamp) (it .stamp) refl) in
       let d : sumN (rowsOf item p below) w + 1 ≤ sumN (rowsOf item p first) w =
-            sum-gap-at (rowsOf item p below) (rowsOf item p first) w j 1 lj
-              (λ k l. rows-more (λ n. p (item k n)) (below k) (first k) (o k l) .0) (omega (arith, a′, b, b′, c)) in
+      sum-gap-at (rowsOf item p below) (rowsOf item p first) w j 1 lj
+      (λ k l. rows-more (λ n. p (item k n)) (below k) (first k) (o k l) .0) (omega (arith, a′, b, b′, c)) in
       omega (arith, d, h .same p)
 
   -- the stamp with another value
@@ -190,9 +201,12 @@ module _ {w : ℕ} {below first : ℕ → ℕ} {item : ℕ → ℕ → Item} {xs
       go true y = ap not (eq-eqb _ _ (ap (λ (x : Item). x .value) (single m n l a b (eqb-true _ _ y))))
 
   none-other : countItems other xs ≡ 0
-  none-other = omega (arith, h .same other,
-      sum-ext (rowsOf item other first) (rowsOf item other below) w
-        (λ m l. rows-flat (λ n. other (item m n)) (below m) (first m) (o m l) (λ n a b. not-other m n l a b)))
+  none-other = omega (
+    arith,
+    h .same other,
+    sum-ext (rowsOf item other first) (rowsOf item other below) w
+        (λ m l. rows-flat (λ n. other (item m n)) (below m) (first m) (o m l) (λ n a b. not-other m n l a b)),
+  )
 
   module _ (f : IsFound (it .stamp) xs) where
     found-value : f .out .item .value ≡ it .value
@@ -210,8 +224,10 @@ module _ {w : ℕ} {below first : ℕ → ℕ} {item : ℕ → ℕ → Item} {xs
     is-row : RowFound it xs
     is-row =
         record {
-          out = f .out; found = f .found; item-is = found-it;
-          counts = λ p. f .counts p ∙ ap (λ (x : Item). bit (p x) + countItems p (f .out .others)) found-it
+          out = f .out;
+          found = f .found;
+          item-is = found-it;
+          counts = λ p. f .counts p ∙ ap (λ (x : Item). bit (p x) + countItems p (f .out .others)) found-it;
         }
 
   pub find-row : RowFound it xs
@@ -219,8 +235,8 @@ module _ {w : ℕ} {below first : ℕ → ℕ} {item : ℕ → ℕ → Item} {xs
 
 -- ---- the machine's distance is that of the list
 pub distance-held : (g : Settings) (s : State) (xs : List Item) (stamp : ℕ)
-  → ((j : ℕ) → j < g .width → belowIn g s j ≤ s .first j)
-  → Holds (g .width) (belowIn g s) (s .first) (s .item) xs
-  → countItems (passedOver (g .kind) stamp) xs ≡ distanceIn g s stamp
+    → ((j : ℕ) → j < g .width → belowIn g s j ≤ s .first j)
+    → Holds (g .width) (belowIn g s) (s .first) (s .item) xs
+    → countItems (passedOver (g .kind) stamp) xs ≡ distanceIn g s stamp
 unfolding distanceIn
 distance-held g s xs stamp o h = held-count h o (passedOver (g .kind) stamp)

@@ -10,3 +10,8 @@ pub mod Passes
 pub mod Held
 pub mod Stamps
 pub mod Good
+pub mod Gives
+pub mod Turns
+pub mod queue
+pub mod stack
+pub mod words

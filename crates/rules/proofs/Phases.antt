@@ -158,3 +158,17 @@ same-either false x = refl
 pub idle-phase : (kind : ℕ) (o : Slot) → o .number ≡ 0 → phaseOf kind o ≡ Idle
 unfolding phaseOf queuePhase stackPhase
 idle-phase kind o e = rw e (simp cond-false (same-either (eqb kind 0) Idle))
+
+-- the phases that both kinds have
+window-back : (kind : ℕ) (side : Side) (v x : ℕ) (o : Slot) → phaseOf kind (encodePhase (Window side) v x o) ≡ Window side
+unfolding phaseOf queuePhase stackPhase encodePhase cond
+window-back kind Putting v x o = same-either (eqb kind 0) (Window Putting)
+window-back kind Taking v x o = same-either (eqb kind 0) (Window Taking)
+
+pub window-phase : (kind : ℕ) (side : Side) (v x : ℕ) (o : Slot) → phaseOf kind (encode (worker v x (Window side)) o) ≡ Window side
+unfolding encode
+window-phase kind side v x o = window-back kind side v x o
+
+pub rest-phase : (kind x : ℕ) (v : ℕ) (o : Slot) → phaseOf kind (encode (worker v x Idle) o) ≡ Idle
+unfolding encode encodePhase
+rest-phase kind x v o = idle-phase kind _ refl

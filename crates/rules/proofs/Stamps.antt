@@ -20,17 +20,19 @@ pub item-new : (f : ℕ → ℕ → Item) (j r : ℕ) (v : Item) → upd f j (up
 item-new f j r v = ap (λ (h : ℕ → Item). h r) (upd-same f j (upd (f j) r v)) ∙ upd-same (f j) r v
 
 pub item-old : (f : ℕ → ℕ → Item) (j r : ℕ) (v : Item) (k n : ℕ) → (k ≡ j → n ≢ r) → upd f j (upd (f j) r v) k n ≡ f k n
-item-old f j r v k n ne = elim (ℕ-discrete k j)
-    [ yes e ↦ rw e (ap (λ (h : ℕ → Item). h n) (upd-same f j (upd (f j) r v)) ∙ upd-other (f j) r v n (ne e))
-    | no m ↦ ap (λ (h : ℕ → Item). h n) (upd-other f j (upd (f j) r v) k m) ]
+item-old f j r v k n ne = elim (ℕ-discrete k j) [
+  | yes e ↦ rw e (ap (λ (h : ℕ → Item). h n) (upd-same f j (upd (f j) r v)) ∙ upd-other (f j) r v n (ne e))
+  | no m ↦ ap (λ (h : ℕ → Item). h n) (upd-other f j (upd (f j) r v) k m)
+]
 
 module _ {w : ℕ} {first : ℕ → ℕ} {item : ℕ → ℕ → Item} {puts : ℕ} (o : Stamped w first item puts) where
   -- two rows with one stamp are one row
   pub stamp-once : (j k r r′ : ℕ) → j < w → k < w → 1 ≤ r → r ≤ first j → 1 ≤ r′ → r′ ≤ first k
-    → item k r′ .stamp ≡ item j r .stamp → (k ≡ j) × (r′ ≡ r)
-  stamp-once j k r r′ lj lk a b a′ b′ e = elim (ℕ-discrete k j)
-      [ yes y ↦ (y, rows (rw y at b′) (rw y at e) (decLt r r′) (decLt r′ r))
-      | no n ↦ absurd (o .apart k j r′ r lk lj n a′ b′ a b e) ]
+      → item k r′ .stamp ≡ item j r .stamp → (k ≡ j) × (r′ ≡ r)
+  stamp-once j k r r′ lj lk a b a′ b′ e = elim (ℕ-discrete k j) [
+    | yes y ↦ (y, rows (rw y at b′) (rw y at e) (decLt r r′) (decLt r′ r))
+    | no n ↦ absurd (o .apart k j r′ r lk lj n a′ b′ a b e)
+  ]
     where
       rows : r′ ≤ first j → item j r′ .stamp ≡ item j r .stamp → Dec (r < r′) → Dec (r′ < r) → r′ ≡ r
       rows l e (yes y) d = absurd (omega (arith, o .rise j r r′ lj a y l))
@@ -39,7 +41,7 @@ module _ {w : ℕ} {first : ℕ → ℕ} {item : ℕ → ℕ → Item} {puts : �
 
   -- so only one item has it
   pub single : (j r : ℕ) → j < w → 1 ≤ r → r ≤ first j
-    → (m n : ℕ) → m < w → 1 ≤ n → n ≤ first m → item m n .stamp ≡ item j r .stamp → item m n ≡ item j r
+      → (m n : ℕ) → m < w → 1 ≤ n → n ≤ first m → item m n .stamp ≡ item j r .stamp → item m n ≡ item j r
   single j r lj a b m n lm a′ b′ e =
       let t = stamp-once j m r n lj lm a b a′ b′ e in
       rw (t .0, t .1) refl
@@ -51,7 +53,7 @@ module _ {w : ℕ} {first : ℕ → ℕ} {item : ℕ → ℕ → Item} {puts : �
         least = λ j r l a b. o .least j r l a (le-trans b (less j l));
         low = λ j r l a b. o .low j r l a (le-trans b (less j l));
         rise = λ j r r′ l a b c. o .rise j r r′ l a b (le-trans c (less j l));
-        apart = λ j k r r′ lj lk n a b a′ b′. o .apart j k r r′ lj lk n a (le-trans b (less j lj)) a′ (le-trans b′ (less k lk))
+        apart = λ j k r r′ lj lk n a b a′ b′. o .apart j k r r′ lj lk n a (le-trans b (less j lj)) a′ (le-trans b′ (less k lk));
       }
 
   -- ---- a put: row `suc (first j)` of sub j is new, with the next stamp
@@ -63,11 +65,13 @@ module _ {w : ℕ} {first : ℕ → ℕ} {item : ℕ → ℕ → Item} {puts : �
     Row m r = ((m ≡ j) × (r ≡ suc (first j)) × (item′ m r ≡ new)) ⊎ ((r ≤ first m) × (item′ m r ≡ item m r))
 
     pub row-cases : (m r : ℕ) → r ≤ first′ m → Row m r
-    row-cases m r l = elim (ℕ-discrete m j)
-        [ yes y ↦ elim (ℕ-discrete r (suc (first j)))
-            [ yes u ↦ inl (y, u, rw (y, u) it)
-            | no n ↦ let b : r ≤ first m = rw y (let l′ : r ≤ first′ j = rw y at l in omega (arith, here)) in inr (b, old m r b) ]
-        | no n ↦ let b : r ≤ first m = omega (arith, off m n) in inr (b, old m r b) ]
+    row-cases m r l = elim (ℕ-discrete m j) [
+      | yes y ↦ elim (ℕ-discrete r (suc (first j))) [
+        | yes u ↦ inl (y, u, rw (y, u) it)
+        | no n ↦ let b : r ≤ first m = rw y (let l′ : r ≤ first′ j = rw y at l in omega (arith, here)) in inr (b, old m r b)
+      ]
+      | no n ↦ let b : r ≤ first m = omega (arith, off m n) in inr (b, old m r b)
+    ]
 
     pub stamped-put : Stamped w first′ item′ (suc puts)
     stamped-put = record { least = least; low = low; rise = rise; apart = apart }
@@ -78,12 +82,14 @@ module _ {w : ℕ} {first : ℕ → ℕ} {item : ℕ → ℕ → Item} {puts : �
             go : Row m r → 1 ≤ item′ m r .stamp
             go (inl c) = rw (c .2) (omega arith)
             go (inr c) = rw (c .1) (o .least m r l a (c .0))
+
         low : (m r : ℕ) → m < w → 1 ≤ r → r ≤ first′ m → item′ m r .stamp ≤ suc puts
         low m r l a b = go (row-cases m r b)
           where
             go : Row m r → item′ m r .stamp ≤ suc puts
             go (inl c) = rw (c .2) (omega arith)
             go (inr c) = rw (c .1) (omega (arith, o .low m r l a (c .0)))
+
         rise : (m r r′ : ℕ) → m < w → 1 ≤ r → r < r′ → r′ ≤ first′ m → item′ m r .stamp < item′ m r′ .stamp
         rise m r r′ l a b c = go (row-cases m r′ c)
           where
@@ -92,6 +98,7 @@ module _ {w : ℕ} {first : ℕ → ℕ} {item : ℕ → ℕ → Item} {puts : �
                 let u : r ≤ first m = rw (y .0) (omega arith) in
                 rw (y .2, old m r u) (omega (arith, o .low m r l a u))
             go (inr y) = rw (y .1, old m r (omega (arith, y .0))) (o .rise m r r′ l a b (y .0))
+
         apart : (m n r r′ : ℕ) → m < w → n < w → m ≢ n → 1 ≤ r → r ≤ first′ m → 1 ≤ r′ → r′ ≤ first′ n → item′ m r .stamp ≢ item′ n r′ .stamp
         apart m n r r′ lm ln ne a b a′ b′ u = go (row-cases m r b) (row-cases n r′ b′)
           where

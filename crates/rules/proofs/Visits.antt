@@ -29,7 +29,7 @@ module _ (g : Settings) where
   Steps x = ((suc x < g .width) × (nextOf g x ≡ suc x)) ⊎ ((suc x ≡ g .width) × (nextOf g x ≡ 0))
 
   pub visited-next : {index scan j : ℕ} → index < g .width → j < g .width → Visited (g .width) (nextOf g index) (suc scan) j
-    → (j ≡ index) ⊎ Visited (g .width) index scan j
+      → (j ≡ index) ⊎ Visited (g .width) index scan j
   visited-next {index} {scan} {j} l m v = go (next-cases g index l) v
     where
       go : Steps index → Visited (g .width) (nextOf g index) (suc scan) j → (j ≡ index) ⊎ Visited (g .width) index scan j

@@ -1,0 +1,1 @@
+-- The queue's invariant, and why each of its steps keeps it.

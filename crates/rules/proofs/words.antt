@@ -1,0 +1,2 @@
+-- The words follow the machine.
+pub mod Lists
