@@ -15,3 +15,5 @@ pub mod Turns
 pub mod queue
 pub mod stack
 pub mod words
+pub mod Slots
+pub mod Subs
