@@ -1,2 +1,5 @@
 -- The words follow the machine.
 pub mod Lists
+pub mod Writes
+pub mod Says
+pub mod Cells
