@@ -3,3 +3,7 @@ pub mod Lists
 pub mod Writes
 pub mod Says
 pub mod Cells
+pub mod Fit
+pub mod After
+pub mod Landed
+pub mod Follows
