@@ -17,3 +17,4 @@ pub mod stack
 pub mod words
 pub mod Slots
 pub mod Subs
+pub mod Transfer

@@ -7,3 +7,4 @@ pub mod Fit
 pub mod After
 pub mod Landed
 pub mod Follows
+pub mod Made
