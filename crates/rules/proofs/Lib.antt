@@ -17,4 +17,7 @@ pub mod stack
 pub mod words
 pub mod Slots
 pub mod Subs
+pub mod Given
+pub mod Tried
 pub mod Transfer
+pub mod Runs

@@ -1,7 +1,8 @@
 -- What a step does to the rows of its sub, by how it ends: a put adds the row above, where a cell is free; a take removes a
--- held row; any other step leaves the held rows as they are. It is read off the rules, with the tests that they make.
+-- held row; any other step leaves the held rows as they are, and a refusal is a 23 or a 26. It is read off the rules, with the
+-- tests that they make.
 use mathlib.Core.Path.{_≡_, refl, sym, ap, _∙_}
-use mathlib.Core.Logic.{_≢_}
+use mathlib.Core.Logic.{_≢_, _⊎_, inl, inr}
 use mathlib.Core.Bool.{Bool, true, false}
 use Prim.Native.Nat.{ℕ, suc, _+_, _-_, _≤_, _<_}
 use native.Mathlib.Nat.{le-refl}
@@ -62,7 +63,7 @@ pub record Removes (g : Settings) (v : View) (e : Effect) : Type 0 where
   pub high : e .row .0 ≤ v .first
 
 abbrev pub SubAfter : Settings → View → Effect → Outcome → Type 0
-SubAfter g v e (Refused n) = Unit {0}
+SubAfter g v e (Refused n) = (n ≡ 23) ⊎ (n ≡ 26)
 SubAfter g v e Moving = Keeps g v e
 SubAfter g v e Landed = Lands g v e
 SubAfter g v e Removed = Removes g v e
@@ -82,7 +83,7 @@ module _ (g : Settings) (b : Bounds g) (v : View) (fits : SubFits g (v .first) (
   commit-by : (side : Side) (matches able : Bool) (done : Effect) → (able ≡ true → Does done) → Does (commitBy g v side matches able done)
   unfolding commitBy
   commit-by side matches able done d =
-      cases Does matches _ _ (λ e. cases Does able _ _ d (λ e. tt)) (λ e. record { below = le-refl _; first = le-refl _ })
+      cases Does matches _ _ (λ e. cases Does able _ _ d (λ e. inl refl)) (λ e. record { below = le-refl _; first = le-refl _ })
 
   queue-does : g .kind ≡ 0 → (side : Side) (seen : ℕ) → Does (queueCommit g v side seen)
   unfolding queueCommit
@@ -133,7 +134,7 @@ module _ (g : Settings) (b : Bounds g) (v : View) (fits : SubFits g (v .first) (
 
   rule-by-does : (p : Phase) → OfKind (g .kind) p → Does (ruleBy g v p)
   unfolding ruleBy windowRule queuePutRead queueTakeRead stackRead checkRule queueShift stackShift confirmRule confirmedOf
-  rule-by-does Idle t = tt
+  rule-by-does Idle t = inr refl
   rule-by-does (Window side) t = record { below = le-refl _; first = le-refl _ }
   rule-by-does (QueuePutRead window scan) t =
       cases Does _ _ _ (λ e. record { below = le-refl _; first = le-refl _ }) (λ e. miss scan _ _ _)

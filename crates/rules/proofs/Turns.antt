@@ -38,11 +38,12 @@ use Rattle.rules.specs.Step.{ruleOf}
 use Rattle.rules.specs.Confirm.{counted}
 use Rattle.rules.specs.Sequential.{Operation, putting, taking, Contents, noItems}
 use Rattle.rules.specs.Run.{Call, beginPut, beginTake, step, begin}
+pub use Rattle.rules.specs.Consequences.{sumSoFar}
 use Rattle.rules.specs.declared.Settings.{Settings}
 use Rattle.rules.specs.declared.Side.{Side}
 use Rattle.rules.specs.declared.Side.the-variants.{Putting, Taking}
 use Rattle.rules.specs.declared.Phase.{Phase}
-use Rattle.rules.specs.declared.Phase.the-variants.{Idle, Window, QueuePutRead, QueueTakeRead, StackRead, Check, QueueCommit, StackCommit, QueueShift, StackShift, Confirm}
+use Rattle.rules.specs.declared.Phase.the-variants.{Idle, Window}
 use Rattle.rules.specs.declared.Slot.{Slot}
 use Rattle.rules.specs.declared.Answer.the-variants.{Moving}
 use Rattle.rules.proofs.Sums.{upd, upd-same, upd-other}
@@ -73,20 +74,6 @@ pub record Counts (g : Settings) (s : State) : Type 0 where
 pub record Holding (g : Settings) (s : State) (q : Contents) : Type 0 where
   pub held : Holds (g .width) (belowIn g s) (s .first) (s .item) (q .items)
   pub count : q .count ≡ s .puts
-
--- what a pass has summed up before its next read
-abbrev pub sumSoFar : Phase → ℕ
-sumSoFar Idle = 0
-sumSoFar (Window side) = 0
-sumSoFar (QueuePutRead window scan) = 0
-sumSoFar (QueueTakeRead window bare scan sum) = sum
-sumSoFar (StackRead side window version scan sum) = sum
-sumSoFar (Check side version seen) = 0
-sumSoFar (QueueCommit side seen) = 0
-sumSoFar (StackCommit side seen) = 0
-sumSoFar (QueueShift side window) = 0
-sumSoFar (StackShift side version scan sum) = 0
-sumSoFar (Confirm side scan sum) = 0
 
 -- no sum that a step adds up reaches 2^32, and no commit that matches is refused
 pub record Safe (g : Settings) (s : State) : Type 0 where

@@ -19,3 +19,4 @@ pub mod Step
 pub mod Sequential
 pub mod Run
 pub mod Statement
+pub mod Consequences

@@ -80,7 +80,7 @@ module _ (g : Settings) (limits : settingsFit g ≡ true) (ws : List ℕ) (s : S
     unfolding slotAt
     number-same = ap (λ (x : Slot). x .number) (says .slot i li)
 
-    view-same : viewOf ws (workerAt g i) ≡ viewIn s i
+    pub view-same : viewOf ws (workerAt g i) ≡ viewIn s i
     unfolding viewOf
     view-same =
         let a = ap (λ (x : ℕ). getD ws (subAt x) 0) index-same ∙ says .first (subIn s i) lj in

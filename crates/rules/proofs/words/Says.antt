@@ -10,11 +10,11 @@ use native.Mathlib.Omega.{arith}
 use lib.ListN.{length, getD}
 use Rattle.rules.specs.Layout.{stepsAt, putsAt, topAt, markAt, needed, settingsOf, firstOf, secondOf, workerAt}
 use Rattle.rules.specs.Worker.{slotAt}
-use Rattle.rules.specs.Held.{Item, itemAt, rowsBelow, itemsAbove, heldSub, heldBelow, countItems, passedOver, distanceOf}
+use Rattle.rules.specs.Held.{Item, itemAt, rowsBelow, itemsAbove, heldSub, heldBelow, heldItems, countItems, passedOver, distanceOf}
 use Rattle.rules.specs.declared.Settings.{Settings}
 use Rattle.rules.proofs.Sums.{sumN, sum-none, sum-more, upTo, upTo-suc, bit}
 use Rattle.rules.proofs.Machine.{State, belowIn, countIn, distanceIn}
-use Rattle.rules.proofs.Held.{count-none, count-cons}
+use Rattle.rules.proofs.Held.{count-none, count-cons, count-append}
 
 pub record Says (g : Settings) (ws : List ℕ) (s : State) : Type 0 where
   pub long : needed g ≤ length ws
@@ -31,10 +31,6 @@ pub record Says (g : Settings) (ws : List ℕ) (s : State) : Type 0 where
   pub cell : (j r : ℕ) → j < g .width → belowIn g s j < r → r ≤ s .first j → itemAt ws g j r ≡ s .item j r
 
 -- ---- counts over the held cells
-count-append : (p : Item → Bool) (xs ys : List Item) → countItems p (xs ++ ys) ≡ countItems p xs + countItems p ys
-count-append p [] ys = omega (arith, count-none p)
-count-append p (x ∷ xs) ys = omega (arith, count-cons p x (xs ++ ys), count-cons p x xs, count-append p xs ys)
-
 count-one : (p : Item → Bool) (x : Item) → countItems p (x ∷ []) ≡ bit (p x)
 count-one p x = omega (arith, count-cons p x [], count-none p)
 
@@ -63,13 +59,18 @@ module _ (g : Settings) (ws : List ℕ) (s : State) (says : Says g ws s) (o : (j
       let a′ : countItems p (itemsAbove ws g j (belowIn g s j) k) + upTo (λ r. p (s .item j r)) (belowIn g s j) ≡ upTo (λ r. p (s .item j r)) (s .first j) = rw e at a in
       rw (says .first j l, says .second j l) (omega arith)
 
-  held-count : (m : ℕ) → m ≤ g .width → countItems p (heldBelow ws g m) ≡ sumN (countIn g s p) m
+  words-count : (m : ℕ) → m ≤ g .width → countItems p (heldBelow ws g m) ≡ sumN (countIn g s p) m
   unfolding heldBelow
-  held-count zero l = count-none p ∙ sym (sum-none (countIn g s p))
-  held-count (suc m) l =
-      omega (arith, count-append p (heldBelow ws g m) (heldSub ws g m), held-count m (omega arith), sub-count m l, sum-more (countIn g s p) m)
+  words-count zero l = count-none p ∙ sym (sum-none (countIn g s p))
+  words-count (suc m) l =
+      omega (arith, count-append p (heldBelow ws g m) (heldSub ws g m), words-count m (omega arith), sub-count m l, sum-more (countIn g s p) m)
+
+-- the items in the held cells, as counts go
+pub held-same : (g : Settings) (ws : List ℕ) (s : State) → Says g ws s → ((j : ℕ) → j < g .width → belowIn g s j ≤ s .first j)
+    → (p : Item → Bool) → countItems p (heldItems ws g) ≡ sumN (countIn g s p) (g .width)
+held-same g ws s says o p = words-count g ws s says o p (g .width) (omega arith)
 
 pub distance-same : (g : Settings) (ws : List ℕ) (s : State) → Says g ws s → ((j : ℕ) → j < g .width → belowIn g s j ≤ s .first j)
     → (stamp : ℕ) → distanceOf ws g stamp ≡ distanceIn g s stamp
 unfolding distanceOf distanceIn
-distance-same g ws s says o stamp = held-count g ws s says o (passedOver (g .kind) stamp) (g .width) (omega arith)
+distance-same g ws s says o stamp = held-same g ws s says o (passedOver (g .kind) stamp)
