@@ -21,3 +21,4 @@ pub mod Given
 pub mod Tried
 pub mod Transfer
 pub mod Runs
+pub mod Orders

@@ -106,3 +106,77 @@ module _ (g : Settings) (limits : settingsFit g ≡ true) (k : Kind g) where
         | no ne ↦
             omega (arith, ih, both, item-not 1 a (hasStamp stamp) ne, ap (λ (x : ℕ). bit (leb stamp x)) (n .changed .other ne))
       ]
+
+  -- ---- every state is safe
+  safe-words : {ws : List ℕ} {s : State} → Rel ws s → NoSumWraps g ws
+  safe-words {ws} {s} r =
+      let says = r .says in
+      let safe : Safe g s = k .safe s (r .list) (r .whole .common) (r .whole .inv) in
+      let counts : Counts g s = k .counts s (r .list) (r .whole .inv) in
+      record {
+        steps = rw (says .steps) (omega (arith, r .whole .common .steps-few));
+        puts = rw (says .puts) (safe .puts);
+        top = rw (says .top) (safe .top);
+        mark = rw (says .mark) (safe .mark);
+        first = λ j l. rw (says .first j l) (safe .first j l);
+        second = λ j l. rw (says .second j l) (safe .second j l);
+        pass = λ i l. rw (says .slot i l, view-same g limits ws s says (r .whole .common) counts i l) (safe .pass i);
+      }
+
+  pub safe-after : {ws : List ℕ} {s : State} → Rel ws s → (cs : List Call) → NoSumWraps g (wordsAfter ws cs)
+  unfolding wordsAfter
+  safe-after r [] = safe-words r
+  safe-after r (c ∷ cs) = safe-after (next-related g limits k r c .related) cs
+
+  -- ---- no call finds the pool unfit
+  abbrev Fine : Next State → Type 0
+  Fine o = (numberOf (o .answer) ≢ 21) × (numberOf (o .answer) ≢ 23)
+
+  not-21 : (s : State) (i : ℕ) (e : Effect) (o : Outcome) → SubAfter g (viewIn s i) e o → numberOf (applyInBy g s i e o .answer) ≢ 21
+  unfolding applyInBy
+  not-21 s i e (Refused n) (inl h) u = omega arith
+  not-21 s i e (Refused n) (inr h) u = omega arith
+  not-21 s i e Moving h u = omega arith
+  not-21 s i e Landed h u = omega arith
+  not-21 s i e Removed h u = omega arith
+  not-21 s i e Empty h u = omega arith
+  not-21 s i e Full h u = omega arith
+
+  fine-rule : (s : State) (q : Contents) → Common g s → k .Inv s q → (i : ℕ) → Fine (applyIn g s i (ruleOf g (viewIn s i)))
+  unfolding applyIn
+  fine-rule s q common inv i =
+      let counts : Counts g s = k .counts s q inv in
+      let lj : subIn s i < g .width = common .slots i .index in (
+        not-21 s i (ruleOf g (viewIn s i)) (ruleOf g (viewIn s i) .outcome)
+            (rule-sub g (settings-bounds g limits) (viewIn s i) (counts .sub _ lj) (counts .first-few _ lj) (counts .second-few _ lj)),
+        k .safe s q common inv .able i,
+      )
+
+  fine-step : (s : State) (q : Contents) → Common g s → k .Inv s q → (i : ℕ) → Fine (stepIn g s i)
+  unfolding stepIn
+  fine-step s q common inv i =
+      cases Fine _ _ _ (λ a. ((λ u. omega arith), (λ u. omega arith)))
+      (λ a. cases Fine _ _ _ (λ b. ((λ u. omega arith), (λ u. omega arith)))
+      (λ b. cases Fine _ _ _ (λ c. ((λ u. omega arith), (λ u. omega arith))) (λ c. fine-rule s q common inv i)))
+
+  fine-begin : (s : State) (i : ℕ) (side : Side) (v : ℕ) → Fine (beginIn g s i side v)
+  unfolding beginIn
+  fine-begin s i side v =
+      cases Fine _ _ _ (λ a. ((λ u. omega arith), (λ u. omega arith)))
+      (λ a. cases Fine _ _ _
+      (λ b. cases Fine _ _ _ (λ c. ((λ u. omega arith), (λ u. omega arith))) (λ c. ((λ u. omega arith), (λ u. omega arith))))
+      (λ b. ((λ u. omega arith), (λ u. omega arith))))
+
+  fine-call : (s : State) (q : Contents) → Common g s → k .Inv s q → (c : Call) → Fine (nextIn g s c)
+  unfolding nextIn
+  fine-call s q common inv (beginPut i v) = fine-begin s i Putting v
+  fine-call s q common inv (beginTake i) = fine-begin s i Taking 0
+  fine-call s q common inv (step i) = fine-step s q common inv i
+
+  pub fine-at : {ws : List ℕ} {s : State} → Rel ws s → (cs : List Call) (f : ℕ)
+      → (numberOf (at (run ws cs) f .answer) ≢ 21) × (numberOf (at (run ws cs) f .answer) ≢ 23)
+  unfolding run
+  fine-at r [] f = ((λ u. omega arith), (λ u. omega arith))
+  fine-at {s = s} r (c ∷ cs) zero =
+      rw (next-related g limits k r c .answer) (fine-call s (r .list) (r .whole .common) (r .whole .inv) c)
+  fine-at r (c ∷ cs) (suc f) = fine-at (next-related g limits k r c .related) cs f
