@@ -1,1 +1,4 @@
 -- The queue's invariant, and why each of its steps keeps it.
+pub mod Inv
+pub mod Moves
+pub mod Put
