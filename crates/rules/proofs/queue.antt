@@ -2,3 +2,4 @@
 pub mod Inv
 pub mod Moves
 pub mod Put
+pub mod Landed

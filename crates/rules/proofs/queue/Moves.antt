@@ -69,10 +69,10 @@ module _ (g : Settings) (kind : g .kind ≡ 0) (v index : ℕ) (p : Phase) (of :
   abbrev slot : Slot
   slot = encode (worker v index p) kept
 
-  told-status : statusOf (slot .value) (phaseOf (g .kind) slot) ≡ statusOf v p
+  pub told-status : statusOf (slot .value) (phaseOf (g .kind) slot) ≡ statusOf v p
   told-status = rw (queue-phase g kind (worker v index p) of kept, encode-value (worker v index p) kept) refl
 
-  told-knows : (t : State) → Knows g t index p → Knows g t (slot .index) (phaseOf (g .kind) slot)
+  pub told-knows : (t : State) → Knows g t index p → Knows g t (slot .index) (phaseOf (g .kind) slot)
   told-knows t h = rw (queue-phase g kind (worker v index p) of kept, encode-index (worker v index p) kept) h
 
   told-link : (s₀ : State) (q₀ : Contents) (put : ℕ → ℕ)
