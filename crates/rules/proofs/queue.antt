@@ -3,3 +3,4 @@ pub mod Inv
 pub mod Moves
 pub mod Put
 pub mod Landed
+pub mod Empty
