@@ -4,3 +4,4 @@ pub mod Moves
 pub mod Put
 pub mod Landed
 pub mod Empty
+pub mod Take
