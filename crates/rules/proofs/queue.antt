@@ -5,3 +5,4 @@ pub mod Put
 pub mod Landed
 pub mod Empty
 pub mod Take
+pub mod Taken
