@@ -6,3 +6,4 @@ pub mod Landed
 pub mod Empty
 pub mod Take
 pub mod Taken
+pub mod Turn

@@ -24,6 +24,7 @@ use Rattle.rules.specs.declared.Side.the-variants.{Taking}
 use Rattle.rules.specs.declared.Phase.{Phase}
 use Rattle.rules.specs.declared.Phase.the-variants.{Window, QueueTakeRead, QueueCommit, QueueShift, Confirm}
 use Rattle.rules.specs.declared.Slot.{Slot}
+use Rattle.rules.specs.declared.View.{View}
 use Rattle.rules.specs.declared.Effect.{Effect}
 use Rattle.rules.proofs.Sums.{sumN}
 use Rattle.rules.proofs.Machine.{State, subIn, viewIn, phaseIn, applyIn}
@@ -36,6 +37,10 @@ use Rattle.rules.proofs.Turns.{Common}
 use Rattle.rules.proofs.queue.Inv.{Windows, Read, TakeReads, Knows, Inv, sum-few, mark-few}
 use Rattle.rules.proofs.queue.Moves.{Stepped, Upward, walk, try, stay, lose, shift, end-empty, win}
 use Rattle.rules.proofs.queue.Empty.{read-spent, read-bare, pass-begins}
+
+-- what a pass sums up of each sub is its items put
+pub counted-put : (g : Settings) → g .kind ≡ 0 → (v : View) → counted g v ≡ v .first
+counted-put g kind v = rw kind (cond-true _ _)
 
 module _ (g : Settings) (good : Good g) (kind : g .kind ≡ 0) (s : State) (q : Contents) (common : Common g s) (inv : Inv g s q) (i : ℕ) where
   abbrev Steps : Effect → Type 0
@@ -185,9 +190,6 @@ module _ (g : Settings) (good : Good g) (kind : g .kind ≡ 0) (s : State) (q : 
     scan-lt : scan < g .width
     scan-lt = subst (Knows g s j) now (inv .knows i)
 
-    counts-put : counted g (viewIn s i) ≡ s .first j
-    counts-put = rw kind (cond-true _ _)
-
     one-more : (s₀ : State) (q₀ : Contents) → Pass (g .width) (q₀ .items ≡ []) (s₀ .first) (s .first) j scan sum
         → Pass (g .width) (q₀ .items ≡ []) (s₀ .first) (s .first) (nextOf g j) (suc scan) (sub32 sum (s .first j))
     one-more s₀ q₀ h = pass-more g j scan sum some-few index scan-lt h
@@ -195,7 +197,7 @@ module _ (g : Settings) (good : Good g) (kind : g .kind ≡ 0) (s : State) (q : 
     pub take-confirm : Steps (confirmRule g (viewIn s i) Taking scan sum)
     unfolding confirmRule confirmedOf
     take-confirm =
-        rw (counts-put, add32-suc scan (omega (arith, scan-lt, good .bounds .width16)))
+        rw (counted-put g kind (viewIn s i), add32-suc scan (omega (arith, scan-lt, good .bounds .width16)))
         (cases Steps (ltb (suc scan) (g .width)) _ _
         (λ a. stay g kind s q inv i (Confirm Taking scan sum) now (nextOf g j) (Confirm Taking (suc scan) (sub32 sum (s .first j))) tt _
         (ltb-true _ _ a) taking refl refl one-more)
