@@ -4,39 +4,35 @@
 -- grows; the windows' room leaves it a free cell. It gets the greatest stamp, so the stamps' order can break only below it:
 -- a row above a multiple of the depth is in a window that every sub had to reach first, so no put lands below that multiple.
 use mathlib.Core.Path.{_≡_, refl, sym, ap, _∙_, subst}
-use mathlib.Core.Logic.{_≢_, _⊎_, inl, inr}
-use mathlib.Core.List.{_∷_}
-use Prim.Native.Nat.{ℕ, suc, _+_, _-_, _*_, _^_, _≤_, _<_}
+use mathlib.Core.Logic.{_≢_, inl, inr}
+use Prim.Native.Nat.{ℕ, suc, _-_, _*_, _≤_, _<_}
 use native.Mathlib.Nat.{le-refl}
 use native.Mathlib.Decide.{ℕ-discrete}
 use native.Mathlib.Omega.{arith}
 use lib.Dec.{ltb, eqb}
 use borrow.Author.Tests.{ltb-false, eqb-true}
-use Rattle.laws.specs.Choice.{cond, cases}
-use Rattle.laws.specs.Wrap.{add32, sub32}
+use Rattle.laws.specs.Choice.{cases}
+use Rattle.laws.specs.Wrap.{add32}
 use Rattle.rules.specs.Held.{Item}
-use Rattle.rules.specs.Worker.{fresh, zeroSlot, phaseOf}
-use Rattle.rules.specs.Effects.{nextOf}
+use Rattle.rules.specs.Worker.{fresh}
+use Rattle.rules.specs.Effects.{hopOf}
 use Rattle.rules.specs.Commit.{queueCommit, commitBy, landedOf}
-use Rattle.rules.specs.Sequential.{Operation, putting, Contents}
+use Rattle.rules.specs.Sequential.{putting, Contents}
 use Rattle.rules.specs.declared.Settings.{Settings}
 use Rattle.rules.specs.declared.Side.the-variants.{Putting}
 use Rattle.rules.specs.declared.Phase.the-variants.{Idle, Window, QueueCommit}
-use Rattle.rules.specs.declared.Slot.{Slot}
 use Rattle.rules.specs.declared.Effect.{Effect}
 use Rattle.rules.specs.declared.Answer.the-variants.{Put}
-use Rattle.rules.proofs.Sums.{upd, upd-same, upd-other, upd-self, sumN, sum-bump}
-use Rattle.rules.proofs.Order.{Next, ends}
+use Rattle.rules.proofs.Sums.{upd, upd-same, upd-other, upd-self, sum-bump}
 use Rattle.rules.proofs.Machine.{State, next, subIn, viewIn, phaseIn, applyIn, applyInBy}
-use Rattle.rules.proofs.Phases.{statusOf}
 use Rattle.rules.proofs.Wraps.{add32-suc, sub32-is, multiple-lt}
 use Rattle.rules.proofs.Held.{Holds, holds-put}
-use Rattle.rules.proofs.Stamps.{Stamped, item-new, item-old, Row, row-cases, stamped-put}
+use Rattle.rules.proofs.Stamps.{item-new, item-old, Row, row-cases, stamped-put}
 use Rattle.rules.proofs.Gives.{putOn, gives-put, final-put}
 use Rattle.rules.proofs.Good.{Good}
 use Rattle.rules.proofs.Turns.{Common}
 use Rattle.rules.proofs.queue.Inv.{Windows, Stamps, Pool, Knows, Inv, Grown, put-few}
-use Rattle.rules.proofs.queue.Moves.{Stepped, told-status, told-knows, others-after, status-after, inv-after, walk}
+use Rattle.rules.proofs.queue.Moves.{Stepped, walk, end}
 
 -- the item, and the state, of a put by worker i that lands
 abbrev newItem : State → ℕ → Item
@@ -64,6 +60,9 @@ apply-landed g s i a b =
 
 module _ (g : Settings) (good : Good g) (kind : g .kind ≡ 0) (s : State) (q : Contents) (common : Common g s) (inv : Inv g s q) (i : ℕ)
     (seen : ℕ) (now : phaseIn g s i ≡ QueueCommit Putting seen) where
+  abbrev Steps : Effect → Type 0
+  Steps e = Stepped g s q i (applyIn g s i e)
+
   abbrev j : ℕ
   j = subIn s i
 
@@ -175,28 +174,18 @@ module _ (g : Settings) (good : Good g) (kind : g .kind ≡ 0) (s : State) (q : 
     grown : Grown s t
     grown = record { top = le-refl _; mark = le-refl _; put = put-grown; taken = λ m. le-refl _ }
 
-    abbrev rest : Slot
-    rest = fresh 0 j Idle
-
-    lands : Stepped g s q i (applyIn g s i (landedOf (viewIn s i) (add32 (s .first j) 1) (s .second j) (add32 (s .first j) 1)))
+    lands : Steps (landedOf (viewIn s i) (add32 (s .first j) 1) (s .second j) (add32 (s .first j) 1))
     lands =
-        rw (apply-landed g s i (omega (arith, few)) (omega (arith, inv .pool .puts-few, inv .pool .steps-few))) (record {
-          turn = λ some-left. ends i (putting (s .slot i .value)) refl (final-put _ _ _ _)
-              (ap (statusOf (s .slot i .value)) now)
-              (status-after g s i t rest refl grown ∙ told-status g kind 0 j Idle tt zeroSlot)
-              (others-after g s i t rest refl grown)
-              (putOn g q (s .slot i .value))
-              (gives-put g q (s .slot i .value) j (record { 0 = suc (s .first j) }) (suc (s .puts)) (sym counted))
-              (inv-after g s i t rest refl grown q _ inv (pool some-left) (told-knows g kind 0 j Idle tt zeroSlot t tt));
-          able = omega arith;
-        })
+        rw (apply-landed g s i (omega (arith, few)) (omega (arith, inv .pool .puts-few, inv .pool .steps-few)))
+        (end g kind s q inv i (QueueCommit Putting seen) now j t refl grown _ (putting (s .slot i .value)) _ refl (final-put _ _ _ _)
+        (gives-put g q (s .slot i .value) j (record { 0 = suc (s .first j) }) (suc (s .puts)) (sym counted)) pool)
 
-  pub put-commit : Stepped g s q i (applyIn g s i (queueCommit g (viewIn s i) Putting seen))
+  pub put-commit : Steps (queueCommit g (viewIn s i) Putting seen)
   unfolding queueCommit commitBy
   put-commit =
-      cases (λ (e : Effect). Stepped g s q i (applyIn g s i e)) (eqb (s .first j) seen) _ _
+      cases Steps (eqb (s .first j) seen) _ _
       (λ a. rw (sub32-is (s .first j) (s .second j) (o .held j index) (omega (arith, few)))
-      (cases (λ (e : Effect). Stepped g s q i (applyIn g s i e)) (ltb (s .first j - s .second j) (g .rows)) _ _
+      (cases Steps (ltb (s .first j - s .second j) (g .rows)) _ _
       (λ b. lands (eqb-true _ _ a))
       (λ b. absurd (omega (arith, free (eqb-true _ _ a), ltb-false (s .first j - s .second j) (g .rows) b)))))
-      (λ a. walk g kind s q inv i (QueueCommit Putting seen) now (nextOf g j) (Window Putting) tt _ tt (putting (s .slot i .value)) refl refl)
+      (λ a. walk g kind s q inv i (QueueCommit Putting seen) now (hopOf g j) (Window Putting) tt _ tt (putting (s .slot i .value)) refl refl)

@@ -1,9 +1,9 @@
--- The steps that change no sub: a worker moves on, a window moves up, or an operation ends with 3 or 4. The invariant stays
--- because the pool's part of it knows no worker and no step count, and what the others know is kept by growing windows.
+-- The law of a step, for each way in which a step can end. What is left to a phase is what its worker knows afterwards, and
+-- where it changes the pool the pool's part of the invariant: what the others know is kept, for windows and counts only grow.
 use mathlib.Core.Path.{_≡_, refl, sym, ap, _∙_, subst}
 use mathlib.Core.Logic.{_≢_}
 use mathlib.Core.List.{[]}
-use Prim.Native.Nat.{ℕ, suc, _≤_, _<_}
+use Prim.Native.Nat.{ℕ, _≤_, _<_}
 use native.Mathlib.Nat.{le-refl}
 use native.Mathlib.Omega.{arith}
 use lib.ListN.{length}
@@ -12,27 +12,26 @@ use Rattle.rules.specs.Worker.{fresh, zeroSlot, phaseOf, encode}
 use Rattle.rules.specs.Effects.{movedOf, finishedOf}
 use Rattle.rules.specs.Shift.{shiftedOf}
 use Rattle.rules.specs.Sequential.{Operation, putting, taking, Contents, leastFull}
-use Rattle.rules.specs.Run.{Call, step, Final}
+use Rattle.rules.specs.Run.{step, Final}
 use Rattle.rules.specs.Statement.{Gives}
 use Rattle.rules.specs.declared.Settings.{Settings}
 use Rattle.rules.specs.declared.Side.{Side}
-use Rattle.rules.specs.declared.Side.the-variants.{Putting, Taking}
 use Rattle.rules.specs.declared.Phase.{Phase}
-use Rattle.rules.specs.declared.Phase.the-variants.{Idle, Window, Confirm}
+use Rattle.rules.specs.declared.Phase.the-variants.{Idle, Window}
 use Rattle.rules.specs.declared.Slot.{Slot}
 use Rattle.rules.specs.declared.Outcome.the-variants.{Empty as NoItem, Full as NoRoom}
 use Rattle.rules.specs.declared.Answer.{Answer}
 use Rattle.rules.specs.declared.Answer.the-variants.{Moving, Empty, Full}
 use Rattle.rules.proofs.Sums.{upd, upd-same, upd-other, upd-all}
-use Rattle.rules.proofs.Order.{Next, Status, idle, pending, tried, Turn, walks, tries, stays, loses, ends, wins, Others}
+use Rattle.rules.proofs.Order.{Next, idle, pending, tried, walks, tries, stays, loses, ends, wins, Others}
 use Rattle.rules.proofs.Machine.{State, next, subIn, viewIn, phaseIn, applyIn, nextIn, turnedIn, apply-moved, apply-shifted, apply-empty, apply-full}
-use Rattle.rules.proofs.Phases.{operationOf, statusOf, worker, OfQueue, queue-phase, rest-phase, encode-value, encode-index}
+use Rattle.rules.proofs.Phases.{operationOf, statusOf, worker, OfQueue, queue-phase, encode-value, encode-index}
 use Rattle.rules.proofs.Passes.{Pass, pass-grow}
 use Rattle.rules.proofs.Gives.{gives-empty, gives-full, final-empty, final-full}
-use Rattle.rules.proofs.Turns.{statusIn, status-here, status-other, Turned}
+use Rattle.rules.proofs.Turns.{statusIn, Turned}
 use Rattle.rules.proofs.queue.Inv.{Windows, Pool, Knows, Inv, confirmed, left, Linked, Snap, Grown, knows-grown}
 
--- the law of one step, and that it is no refused commit
+-- the law of one step, and that it is no commit that matches and is refused
 pub record Stepped (g : Settings) (s : State) (q : Contents) (i : ℕ) (o : Next State) : Type 0 where
   pub turn : s .steps < 4000000000 → Turned g (Inv g) (Snap g) s q (step i) o
   pub able : numberOf (o .answer) ≢ 23
@@ -45,17 +44,17 @@ module _ (g : Settings) (s : State) (i : ℕ) (t : State) (x : Slot) (slots : t 
   slot-other : (j : ℕ) → j ≢ i → t .slot j ≡ s .slot j
   slot-other j n = ap (λ (f : ℕ → Slot). f j) slots ∙ upd-other (s .slot) i x j n
 
-  pub others-after : Others g (nextIn g) (statusIn g) (Inv g) (Snap g) s i t
+  others-after : Others g (nextIn g) (statusIn g) (Inv g) (Snap g) s i t
   others-after =
       record {
         same = λ j n. ap (λ (y : Slot). statusOf (y .value) (phaseOf (g .kind) y)) (slot-other j n);
         kept = λ j n s₀ q₀ z. subst (Linked g s₀ q₀ (t .first)) (sym (slot-other j n)) (pass-grow (grown .put) z);
       }
 
-  pub status-after : statusIn g t i ≡ statusOf (x .value) (phaseOf (g .kind) x)
+  status-after : statusIn g t i ≡ statusOf (x .value) (phaseOf (g .kind) x)
   status-after = ap (λ (y : Slot). statusOf (y .value) (phaseOf (g .kind) y)) slot-here
 
-  pub inv-after : (q q′ : Contents) → Inv g s q → Pool g t q′ → Knows g t (x .index) (phaseOf (g .kind) x) → Inv g t q′
+  inv-after : (q q′ : Contents) → Inv g s q → Pool g t q′ → Knows g t (x .index) (phaseOf (g .kind) x) → Inv g t q′
   inv-after q q′ inv pool here =
       record {
         pool = pool;
@@ -64,12 +63,12 @@ module _ (g : Settings) (s : State) (i : ℕ) (t : State) (x : Slot) (slots : t 
             (λ e. here) (λ n. knows-grown g grown (subIn s j) (phaseIn g s j) (inv .knows j)));
       }
 
--- a worker as its slot tells it
+-- ---- a worker whose slot was written with a phase
 module _ (g : Settings) (kind : g .kind ≡ 0) (v index : ℕ) (p : Phase) (of : OfQueue p) (kept : Slot) where
   abbrev slot : Slot
   slot = encode (worker v index p) kept
 
-  pub told-status : statusOf (slot .value) (phaseOf (g .kind) slot) ≡ statusOf v p
+  told-status : statusOf (slot .value) (phaseOf (g .kind) slot) ≡ statusOf v p
   told-status = rw (queue-phase g kind (worker v index p) of kept, encode-value (worker v index p) kept) refl
 
   pub told-knows : (t : State) → Knows g t index p → Knows g t (slot .index) (phaseOf (g .kind) slot)
@@ -85,7 +84,7 @@ pub record Upward (g : Settings) (s : State) (top mark : ℕ) : Type 0 where
   pub on : s .mark ≤ mark
   pub windows : Windows g top mark (s .first) (s .second)
 
--- ---- worker i is in phase p₀, and its step changes no sub
+-- ---- worker i is in phase p₀
 module _ (g : Settings) (kind : g .kind ≡ 0) (s : State) (q : Contents) (inv : Inv g s q) (i : ℕ) (p₀ : Phase) (now : phaseIn g s i ≡ p₀) where
   abbrev value : ℕ
   value = s .slot i .value
@@ -93,6 +92,7 @@ module _ (g : Settings) (kind : g .kind ≡ 0) (s : State) (q : Contents) (inv :
   status-now : statusIn g s i ≡ statusOf value p₀
   status-now = ap (statusOf value) now
 
+  -- a step that changes no sub
   module _ (top mark : ℕ) (m : Upward g s top mark) (x : Slot) where
     abbrev t : State
     t = turnedIn s i top mark x
@@ -190,34 +190,44 @@ module _ (g : Settings) (kind : g .kind ≡ 0) (s : State) (q : Contents) (inv :
       rw (apply-shifted g s i side top mark)
       (walks-on (subIn s i) (Window side) tt (s .slot i) tt top mark m (operationOf side value) a refl)
 
-  -- ---- to idle, with an answer that changes nothing
+  -- ---- to idle at an index, with an answer
+  module _ (index : ℕ) (t : State) (slots : t .slot ≡ upd (s .slot) i (fresh 0 index Idle)) (up : Grown s t) where
+    status-rest : statusIn g t i ≡ idle
+    status-rest = status-after g s i t _ slots up ∙ told-status g kind 0 index Idle tt zeroSlot
+
+    inv-rest : (q′ : Contents) → Pool g t q′ → Inv g t q′
+    inv-rest q′ o = inv-after g s i t _ slots up q q′ inv o (told-knows g kind 0 index Idle tt zeroSlot t tt)
+
+    -- an operation that was not tried
+    pub end : (a : Answer) (op : Operation) (q′ : Contents) → statusOf value p₀ ≡ pending op → Final a → Gives g q op a q′
+        → (s .steps < 4000000000 → Pool g t q′) → Stepped g s q i (next a t)
+    end a op q′ e final gives o =
+        record {
+          turn = λ few. ends i op refl final (status-now ∙ e) status-rest (others-after g s i t _ slots up) q′ gives (inv-rest q′ (o few));
+          able = omega (arith, final .high);
+        }
+
+  -- ---- an answer that changes nothing
   module _ (index : ℕ) where
     abbrev rest : Slot
     rest = fresh 0 index Idle
 
-    status-rest : statusIn g (turnedIn s i (s .top) (s .mark) rest) i ≡ idle
-    status-rest = status-turned _ _ unmoved rest ∙ told-status g kind 0 index Idle tt zeroSlot
-
-    inv-rest : s .steps < 4000000000 → Inv g (turnedIn s i (s .top) (s .mark) rest) q
-    inv-rest = inv-turned _ _ unmoved rest (told-knows g kind 0 index Idle tt zeroSlot _ tt)
-
-    end-with : (a : Answer) (op : Operation) → statusOf value p₀ ≡ pending op → Final a → Gives g q op a q
-        → Stepped g s q i (next a (turnedIn s i (s .top) (s .mark) rest))
-    end-with a op e final gives =
-        record {
-          turn = λ few. ends i op refl final (status-now ∙ e) status-rest (others _ _ unmoved rest) q gives (inv-rest few);
-          able = omega (arith, final .high);
-        }
+    abbrev rested : State
+    rested = turnedIn s i (s .top) (s .mark) rest
 
     -- 3, where no item is held now
     pub end-empty : statusOf value p₀ ≡ pending taking → q .items ≡ []
         → Stepped g s q i (applyIn g s i (finishedOf (viewIn s i) NoItem index))
-    end-empty e none = rw (apply-empty g s i index) (end-with Empty taking e final-empty (gives-empty g q none))
+    end-empty e none =
+        rw (apply-empty g s i index)
+        (end index rested refl (grown _ _ unmoved rest) Empty taking q e final-empty (gives-empty g q none) (pool _ _ unmoved rest))
 
     -- 4
     pub end-full : statusOf value p₀ ≡ pending (putting value) → leastFull g ≤ length (q .items)
         → Stepped g s q i (applyIn g s i (finishedOf (viewIn s i) NoRoom index))
-    end-full e many = rw (apply-full g s i index) (end-with Full (putting value) e final-full (gives-full g q value many))
+    end-full e many =
+        rw (apply-full g s i index)
+        (end index rested refl (grown _ _ unmoved rest) Full (putting value) q e final-full (gives-full g q value many) (pool _ _ unmoved rest))
 
     -- 3, where no item was held when it was tried
     pub win : statusOf value p₀ ≡ tried taking
@@ -225,7 +235,8 @@ module _ (g : Settings) (kind : g .kind ≡ 0) (s : State) (q : Contents) (inv :
         → Stepped g s q i (applyIn g s i (finishedOf (viewIn s i) NoItem index))
     win e none =
         rw (apply-empty g s i index) (record {
-          turn = λ few. wins i taking refl final-empty (status-now ∙ e) status-rest (others _ _ unmoved rest) (inv-rest few)
+          turn = λ few. wins i taking refl final-empty (status-now ∙ e) (status-rest index rested refl (grown _ _ unmoved rest))
+              (others _ _ unmoved rest) (inv-rest index rested refl (grown _ _ unmoved rest) q (pool _ _ unmoved rest few))
               (λ s₀ q₀ h. gives-empty g q₀ (none s₀ q₀ (rw now at h)));
           able = omega arith;
         })

@@ -2,18 +2,16 @@
 --
 -- A pass that has missed every sub has seen every sub at its window, so the window may move up; and where it may not,
 -- because the rows are used up, each sub holds at least R - d items.
-use mathlib.Core.Path.{_≡_, refl, sym, ap, _∙_, subst}
-use mathlib.Core.Logic.{_≢_, _⊎_, inl, inr}
-use Prim.Native.Nat.{ℕ, suc, _+_, _-_, _*_, _^_, _≤_, _<_}
+use mathlib.Core.Path.{_≡_, refl, subst}
+use mathlib.Core.Logic.{_⊎_, inl, inr}
+use Prim.Native.Nat.{ℕ, suc, _+_, _-_, _*_, _≤_, _<_}
 use native.Mathlib.Nat.{le-refl, le-trans}
 use native.Mathlib.Omega.{arith}
 use lib.Dec.{ltb, leb, eqb}
-use lib.ListN.{length}
 use borrow.Author.Tests.{ltb-true, ltb-false, leb-true, leb-false, eqb-true, eqb-false}
-use Rattle.laws.specs.Choice.{cond, cases}
-use Rattle.laws.specs.Wrap.{add32, sub32}
+use Rattle.laws.specs.Choice.{cases}
 use Rattle.rules.specs.Worker.{zeroSlot}
-use Rattle.rules.specs.Effects.{movedOf, nextOf, withPass}
+use Rattle.rules.specs.Effects.{movedOf, nextOf}
 use Rattle.rules.specs.Window.{windowRule}
 use Rattle.rules.specs.Read.{queuePutRead, missOf}
 use Rattle.rules.specs.Shift.{queueShift, shiftBy}

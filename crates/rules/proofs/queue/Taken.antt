@@ -12,30 +12,27 @@ use native.Mathlib.Decide.{ℕ-discrete, decLe}
 use native.Mathlib.Omega.{arith}
 use lib.Dec.{ltb, eqb}
 use borrow.Author.Tests.{ltb-false, eqb-true, le-ltb}
-use Rattle.laws.specs.Choice.{cond, cond-true, cases}
+use Rattle.laws.specs.Choice.{cond-true, cases}
 use Rattle.laws.specs.Wrap.{add32}
 use Rattle.rules.specs.Held.{Item, countItems, passedOver}
-use Rattle.rules.specs.Worker.{fresh, zeroSlot, phaseOf}
-use Rattle.rules.specs.Effects.{nextOf}
+use Rattle.rules.specs.Worker.{fresh}
+use Rattle.rules.specs.Effects.{hopOf}
 use Rattle.rules.specs.Commit.{queueCommit, commitBy, removedOf}
 use Rattle.rules.specs.Sequential.{taking, Contents, mostPassed, passedBy}
 use Rattle.rules.specs.declared.Settings.{Settings}
 use Rattle.rules.specs.declared.Side.the-variants.{Taking}
 use Rattle.rules.specs.declared.Phase.the-variants.{Idle, Window, QueueCommit}
-use Rattle.rules.specs.declared.Slot.{Slot}
 use Rattle.rules.specs.declared.Effect.{Effect}
 use Rattle.rules.proofs.Sums.{upd, upd-same, upd-other, upd-self, upTo, sum-within-but, rows-more, rows-flat, times-pred}
-use Rattle.rules.proofs.Order.{ends}
 use Rattle.rules.proofs.Machine.{State, next, subIn, viewIn, phaseIn, belowIn, takenIn, distanceIn, applyIn, applyInBy}
-use Rattle.rules.proofs.Phases.{statusOf}
 use Rattle.rules.proofs.Wraps.{add32-suc}
 use Rattle.rules.proofs.Held.{Holds, rowsOf, holds-low, holds-ext, RowFound, find-row, distance-held}
 use Rattle.rules.proofs.Stamps.{single}
 use Rattle.rules.proofs.Gives.{takenOff, gives-taken, final-taken}
 use Rattle.rules.proofs.Good.{Good, queue-below, queue-most}
 use Rattle.rules.proofs.Turns.{Common}
-use Rattle.rules.proofs.queue.Inv.{Windows, Stamps, Pool, TakeCommits, Knows, Inv, Grown, taken-few}
-use Rattle.rules.proofs.queue.Moves.{Stepped, told-status, told-knows, others-after, status-after, inv-after, walk}
+use Rattle.rules.proofs.queue.Inv.{Windows, Pool, TakeCommits, Knows, Inv, Grown, taken-few}
+use Rattle.rules.proofs.queue.Moves.{Stepped, walk, end}
 
 -- the state after worker i has taken the oldest item of its sub
 abbrev removedIn : State → ℕ → State
@@ -67,6 +64,9 @@ holds-below g kind s q o = holds-ext (λ m l. sym (queue-below g kind (s .second
 
 module _ (g : Settings) (good : Good g) (kind : g .kind ≡ 0) (s : State) (q : Contents) (common : Common g s) (inv : Inv g s q) (i : ℕ)
     (seen : ℕ) (now : phaseIn g s i ≡ QueueCommit Taking seen) where
+  abbrev Steps : Effect → Type 0
+  Steps e = Stepped g s q i (applyIn g s i e)
+
   abbrev j : ℕ
   j = subIn s i
 
@@ -192,27 +192,17 @@ module _ (g : Settings) (good : Good g) (kind : g .kind ≡ 0) (s : State) (q : 
     grown : Grown s t
     grown = record { top = le-refl _; mark = le-refl _; put = λ m. le-refl _; taken = taken-grown }
 
-    abbrev rest : Slot
-    rest = fresh 0 j Idle
-
-    takes : Stepped g s q i (applyIn g s i (removedOf (viewIn s i) (s .first j) (add32 (s .second j) 1) (add32 (s .second j) 1)))
+    takes : Steps (removedOf (viewIn s i) (s .first j) (add32 (s .second j) 1) (add32 (s .second j) 1))
     takes =
-        rw (apply-removed g s i (omega (arith, taken-few good (inv .pool) j index))) (record {
-          turn = λ some-left. ends i taking refl (final-taken _ _ _ _ _)
-              (ap (statusOf (s .slot i .value)) now)
-              (status-after g s i t rest refl grown ∙ told-status g kind 0 j Idle tt zeroSlot)
-              (others-after g s i t rest refl grown)
-              q′
-              (gives-taken g q it j (record { 0 = r }) (distanceIn g s (it .stamp)) found distance distance-le)
-              (inv-after g s i t rest refl grown q q′ inv (pool some-left) (told-knows g kind 0 j Idle tt zeroSlot t tt));
-          able = omega arith;
-        })
+        rw (apply-removed g s i (omega (arith, taken-few good (inv .pool) j index)))
+        (end g kind s q inv i (QueueCommit Taking seen) now j t refl grown _ taking q′ refl (final-taken _ _ _ _ _)
+        (gives-taken g q it j (record { 0 = r }) (distanceIn g s (it .stamp)) found distance distance-le) pool)
 
-  pub take-commit : Stepped g s q i (applyIn g s i (queueCommit g (viewIn s i) Taking seen))
+  pub take-commit : Steps (queueCommit g (viewIn s i) Taking seen)
   unfolding queueCommit commitBy
   take-commit =
-      cases (λ (e : Effect). Stepped g s q i (applyIn g s i e)) (eqb (s .second j) seen) _ _
-      (λ a. cases (λ (e : Effect). Stepped g s q i (applyIn g s i e)) (ltb (s .second j) (s .first j)) _ _
+      cases Steps (eqb (s .second j) seen) _ _
+      (λ a. cases Steps (ltb (s .second j) (s .first j)) _ _
       (λ b. takes (eqb-true _ _ a))
       (λ b. absurd (omega (arith, there (eqb-true _ _ a), ltb-false (s .second j) (s .first j) b))))
-      (λ a. walk g kind s q inv i (QueueCommit Taking seen) now (nextOf g j) (Window Taking) tt _ tt taking refl refl)
+      (λ a. walk g kind s q inv i (QueueCommit Taking seen) now (hopOf g j) (Window Taking) tt _ tt taking refl refl)

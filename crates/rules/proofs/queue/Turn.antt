@@ -2,14 +2,12 @@
 -- reaches 2^32. Each phase's step is in the file of its operation; here they are put together.
 use mathlib.Core.Path.{_≡_, refl, sym, subst}
 use mathlib.Core.Logic.{_≢_}
-use Prim.Native.Nat.{ℕ, _+_, _*_, _^_, _≤_, _<_}
+use Prim.Native.Nat.{ℕ, _+_, _^_, _<_}
 use native.Mathlib.Nat.{le-refl}
 use native.Mathlib.Omega.{arith}
 use lib.Dec.{eqb}
 use Rattle.laws.specs.Choice.{cond, cond-true}
-use Rattle.rules.specs.Held.{Item}
 use Rattle.rules.specs.Worker.{fresh, zeroSlot, phaseOf}
-use Rattle.rules.specs.Fit.{SubFits}
 use Rattle.rules.specs.Effects.{refusedOf}
 use Rattle.rules.specs.Step.{ruleOf, ruleBy}
 use Rattle.rules.specs.Confirm.{counted}
@@ -20,15 +18,15 @@ use Rattle.rules.specs.declared.Side.the-variants.{Putting, Taking}
 use Rattle.rules.specs.declared.Phase.{Phase}
 use Rattle.rules.specs.declared.Phase.the-variants.{Idle, Window, QueuePutRead, QueueTakeRead, StackRead, Check, QueueCommit, StackCommit, QueueShift, StackShift, Confirm}
 use Rattle.rules.specs.declared.Slot.{Slot}
-use Rattle.rules.proofs.Sums.{upd-other, upd-all, sum-zero, upTo-none}
+use Rattle.rules.proofs.Sums.{upd-other, upd-all, sum-zero}
 use Rattle.rules.proofs.Order.{refused}
 use Rattle.rules.proofs.Machine.{State, subIn, viewIn, phaseIn, applyIn, applyInBy, madeIn}
-use Rattle.rules.proofs.Phases.{idle-phase, window-phase}
+use Rattle.rules.proofs.Phases.{idle-phase}
 use Rattle.rules.proofs.Passes.{summed-more, summed-le}
 use Rattle.rules.proofs.Held.{count-none}
 use Rattle.rules.proofs.Good.{Good}
-use Rattle.rules.proofs.Turns.{Common, Counts, Holding, Safe, sumSoFar, begun, Kind}
-use Rattle.rules.proofs.queue.Inv.{Windows, Stamps, Pool, Knows, Inv, Linked, Snap, Grown, knows-grown, sum-few, put-few, taken-few, top-few, mark-few}
+use Rattle.rules.proofs.Turns.{Common, Counts, Safe, sumSoFar, begun, Kind}
+use Rattle.rules.proofs.queue.Inv.{Windows, Stamps, Knows, Inv, Linked, Snap, Grown, knows-grown, sum-few, put-few, taken-few, top-few, mark-few}
 use Rattle.rules.proofs.queue.Moves.{Stepped, told-knows}
 use Rattle.rules.proofs.queue.Put.{put-window, put-read, put-shift}
 use Rattle.rules.proofs.queue.Landed.{put-commit}
