@@ -29,25 +29,32 @@ use Rattle.rules.proofs.Good.{Good}
 -- ---- the pool
 -- the windows, and the counts within them
 pub record Windows (g : Settings) (top mark : ℕ) (put taken : ℕ → ℕ) : Type 0 where
+  -- a window starts at the depth and moves by it
   pub tops : ℕ
   pub marks : ℕ
   pub top-is : top ≡ tops * g .depth
   pub mark-is : mark ≡ marks * g .depth
+  -- the take window moves only below the put window
   pub order : mark ≤ top
-  -- what the windows span has a cell for each row
+  -- the put window moves only where each row of the two windows, and between them, keeps a cell of its own
   pub room : top + g .depth ≤ mark + g .rows
+  -- a put lands in the put window, which moves only after every sub has reached it
   pub put-le : (j : ℕ) → j < g .width → put j ≤ top
   pub put-ge : (j : ℕ) → j < g .width → top ≤ put j + g .depth
+  -- likewise for takes
   pub taken-le : (j : ℕ) → j < g .width → taken j ≤ mark
   pub taken-ge : (j : ℕ) → j < g .width → mark ≤ taken j + g .depth
+  -- a take that matches takes an item that was put
   pub held : (j : ℕ) → j < g .width → taken j ≤ put j
 
 -- the stamps, and their window order: an item above a multiple of the depth is newer than any that is not
 pub record Stamps (g : Settings) (put : ℕ → ℕ) (item : ℕ → ℕ → Item) (puts : ℕ) : Type 0 where
   pub each : Stamped (g .width) put item puts
+  -- when the first item above c * d is put, every sub has its items up to c * d
   pub order : (j k r r′ c : ℕ) → j < g .width → k < g .width → 1 ≤ r → r ≤ c * g .depth → c * g .depth < r′ → r ≤ put j → r′ ≤ put k
       → item j r .stamp < item k r′ .stamp
 
+-- all that does not speak of workers
 pub record Pool (g : Settings) (s : State) (q : Contents) : Type 0 where
   pub windows : Windows g (s .top) (s .mark) (s .first) (s .second)
   pub stamps : Stamps g (s .first) (s .item) (s .puts)
@@ -83,21 +90,28 @@ module _ {g : Settings} {s : State} {q : Contents} (good : Good g) (o : Pool g s
   mark-few = le-trans (o .windows .order) top-few
 
 -- ---- the workers
--- a put that reads: each sub that its pass has missed has reached the window that it saw
+-- a put that reads
 pub record PutReads (g : Settings) (s : State) (index window scan : ℕ) : Type 0 where
   pub scan-lt : scan < g .width
+  -- the window seen was the put window once
   pub window-le : window ≤ s .top
+  -- each sub that the pass has missed has reached the window seen
   pub missed : (j : ℕ) → j < g .width → Visited (g .width) index scan j → window ≤ s .first j
 
--- a take's pass: each sub that it has missed was spent, or bare and has had no take since; and one of the bare is named
+-- a take's pass, with `bare` of its subs bare
 pub record Read (g : Settings) (s : State) (index window bare scan sum : ℕ) : Type 0 where
+  -- the window seen was the take window once
   pub windows : ℕ
   pub window-is : window ≡ windows * g .depth
   pub window-le : window ≤ s .mark
   pub bare-le : bare ≤ scan
+  -- what was read of each sub, of which the sum is made up
   pub sums : Summed (g .width) (s .first) index scan sum
+  -- a sub missed was spent, or bare with all taken that was read
   pub missed : (j : ℕ) → j < g .width → Visited (g .width) index scan j → (window ≤ s .second j) ⊎ (sums .reads j ≤ s .second j)
+  -- with none bare, each was spent
   pub spent : bare ≡ 0 → (j : ℕ) → j < g .width → Visited (g .width) index scan j → window ≤ s .second j
+  -- else one of them was read below the window seen
   pub low : bare ≢ 0 → (j : ℕ) × (j < g .width) × Visited (g .width) index scan j × (sums .reads j < window)
 
 pub record TakeReads (g : Settings) (s : State) (index window bare scan sum : ℕ) : Type 0 where
@@ -109,7 +123,8 @@ pub record TakeCommits (s : State) (index seen : ℕ) : Type 0 where
   pub below : seen < s .mark
   pub there : seen < s .first index
 
--- what a worker at an index knows by its phase; no queue's worker is in a stack's phase
+-- what a worker at an index knows by its phase; no queue's worker is in a stack's phase. A put at commit knows that the row
+-- that it saw last used is below the top of the put window; a worker at shift, that every sub has reached the window seen
 abbrev pub Knows : Settings → State → ℕ → Phase → Type 0
 Knows g s index Idle = Unit {0}
 Knows g s index (Window side) = Unit {0}

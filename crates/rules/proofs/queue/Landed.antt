@@ -101,7 +101,7 @@ module _ (g : Settings) (good : Good g) (kind : g .kind ≡ 0) (s : State) (q : 
     item-off : (m r : ℕ) → r ≤ s .first m → t .item m r ≡ s .item m r
     item-off m r l = item-old (s .item) j (suc (s .first j)) new m r (λ y u. let l′ : r ≤ s .first j = rw y at l in omega arith)
 
-    -- the row is in the put window, and its cell is free
+    -- the row is in the put window
     windows : Windows g (s .top) (s .mark) (t .first) (s .second)
     windows =
         record {
@@ -118,6 +118,7 @@ module _ (g : Settings) (good : Good g) (kind : g .kind ≡ 0) (s : State) (q : 
           held = λ m l. omega (arith, put-grown m, o .held m l);
         }
 
+    -- and its cell is free
     free : s .first j - s .second j < g .rows
     free = omega (arith, below, o .room, o .taken-ge j index)
 

@@ -54,7 +54,7 @@ module _ (g : Settings) (s : State) (i : ℕ) (t : State) (x : Slot) (slots : t 
   status-after : statusIn g t i ≡ statusOf (x .value) (phaseOf (g .kind) x)
   status-after = ap (λ (y : Slot). statusOf (y .value) (phaseOf (g .kind) y)) slot-here
 
-  inv-after : (q q′ : Contents) → Inv g s q → Pool g t q′ → Knows g t (x .index) (phaseOf (g .kind) x) → Inv g t q′
+  pub inv-after : (q q′ : Contents) → Inv g s q → Pool g t q′ → Knows g t (x .index) (phaseOf (g .kind) x) → Inv g t q′
   inv-after q q′ inv pool here =
       record {
         pool = pool;

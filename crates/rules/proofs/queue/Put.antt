@@ -1,4 +1,4 @@
--- The steps of a put, but a commit that lands.
+-- The steps of a put, but its commit.
 --
 -- A pass that has missed every sub has seen every sub at its window, so the window may move up; and where it may not,
 -- because the rows are used up, each sub holds at least R - d items.

@@ -7,7 +7,7 @@ use native.Mathlib.Nat.{le-refl}
 use native.Mathlib.Omega.{arith}
 use lib.Dec.{eqb}
 use Rattle.laws.specs.Choice.{cond, cond-true}
-use Rattle.rules.specs.Worker.{fresh, zeroSlot, phaseOf}
+use Rattle.rules.specs.Worker.{fresh, zeroSlot}
 use Rattle.rules.specs.Effects.{refusedOf}
 use Rattle.rules.specs.Step.{ruleOf, ruleBy}
 use Rattle.rules.specs.Confirm.{counted}
@@ -17,8 +17,7 @@ use Rattle.rules.specs.declared.Side.{Side}
 use Rattle.rules.specs.declared.Side.the-variants.{Putting, Taking}
 use Rattle.rules.specs.declared.Phase.{Phase}
 use Rattle.rules.specs.declared.Phase.the-variants.{Idle, Window, QueuePutRead, QueueTakeRead, StackRead, Check, QueueCommit, StackCommit, QueueShift, StackShift, Confirm}
-use Rattle.rules.specs.declared.Slot.{Slot}
-use Rattle.rules.proofs.Sums.{upd-other, upd-all, sum-zero}
+use Rattle.rules.proofs.Sums.{upd-other, sum-zero}
 use Rattle.rules.proofs.Order.{refused}
 use Rattle.rules.proofs.Machine.{State, subIn, viewIn, phaseIn, applyIn, applyInBy, madeIn}
 use Rattle.rules.proofs.Phases.{idle-phase}
@@ -26,8 +25,8 @@ use Rattle.rules.proofs.Passes.{summed-more, summed-le}
 use Rattle.rules.proofs.Held.{count-none}
 use Rattle.rules.proofs.Good.{Good}
 use Rattle.rules.proofs.Turns.{Common, Counts, Safe, sumSoFar, begun, Kind}
-use Rattle.rules.proofs.queue.Inv.{Windows, Stamps, Knows, Inv, Linked, Snap, Grown, knows-grown, sum-few, put-few, taken-few, top-few, mark-few}
-use Rattle.rules.proofs.queue.Moves.{Stepped, told-knows}
+use Rattle.rules.proofs.queue.Inv.{Windows, Stamps, Pool, Knows, Inv, Linked, Snap, sum-few, put-few, taken-few, top-few, mark-few}
+use Rattle.rules.proofs.queue.Moves.{Stepped, inv-after, told-knows}
 use Rattle.rules.proofs.queue.Put.{put-window, put-read, put-shift}
 use Rattle.rules.proofs.queue.Landed.{put-commit}
 use Rattle.rules.proofs.queue.Take.{counted-put, take-window, take-read, take-shift, take-confirm}
@@ -85,23 +84,21 @@ module _ (g : Settings) (good : Good g) (kind : g .kind ≡ 0) where
   -- ---- a begin
   begins : (s : State) (q : Contents) → Inv g s q → (i : ℕ) (side : Side) (v : ℕ) → Inv g (begun s i side v) q
   begins s q inv i side v =
-      record {
-        pool = record {
-          windows = inv .pool .windows;
-          stamps = inv .pool .stamps;
-          total = inv .pool .total;
-          puts-few = inv .pool .puts-few;
-          steps-few = inv .pool .steps-few;
-          holds = inv .pool .holds;
-          count = inv .pool .count;
-        };
-        knows = λ j. upd-all (λ m (y : Slot). Knows g (begun s i side v) (y .index) (phaseOf (g .kind) y)) (s .slot) i _ j
-            (λ e. told-knows g kind v (subIn s i) (Window side) tt zeroSlot (begun s i side v) tt)
-            (λ n. knows-grown g grown (subIn s j) (phaseIn g s j) (inv .knows j));
-      }
+      inv-after g s i (begun s i side v) _ refl
+      (record { top = le-refl _; mark = le-refl _; put = λ j. le-refl _; taken = λ j. le-refl _ }) q q inv
+      (record {
+        windows = o .windows;
+        stamps = o .stamps;
+        total = o .total;
+        puts-few = o .puts-few;
+        steps-few = o .steps-few;
+        holds = o .holds;
+        count = o .count;
+      })
+      (told-knows g kind v (subIn s i) (Window side) tt zeroSlot (begun s i side v) tt)
     where
-      grown : Grown s (begun s i side v)
-      grown = record { top = le-refl _; mark = le-refl _; put = λ j. le-refl _; taken = λ j. le-refl _ }
+      o : Pool g s q
+      o = inv .pool
 
   begins-kept : (s : State) (i : ℕ) (side : Side) (v : ℕ) (j : ℕ) → j ≢ i
       → (s₀ : State) (q₀ : Contents) → Snap g s₀ q₀ j s → Snap g s₀ q₀ j (begun s i side v)
@@ -114,9 +111,8 @@ module _ (g : Settings) (good : Good g) (kind : g .kind ≡ 0) where
     unfolding applyIn applyInBy
     rests = record { turn = λ few. refused (omega arith) refl; able = omega arith }
 
-    -- no worker is in a phase of which nothing can be known
-    nowhere : (p : Phase) → phaseIn g s i ≡ p → Knows g s (subIn s i) p
-    nowhere p now = subst (Knows g s (subIn s i)) now (inv .knows i)
+    knows-now : (p : Phase) → phaseIn g s i ≡ p → Knows g s (subIn s i) p
+    knows-now p now = subst (Knows g s (subIn s i)) now (inv .knows i)
 
     by-phase : (p : Phase) → phaseIn g s i ≡ p → Stepped g s q i (applyIn g s i (ruleBy g (viewIn s i) p))
     unfolding ruleBy
@@ -125,15 +121,15 @@ module _ (g : Settings) (good : Good g) (kind : g .kind ≡ 0) where
     by-phase (Window Taking) now = take-window g good kind s q common inv i now
     by-phase (QueuePutRead window scan) now = put-read g good kind s q common inv i window scan now
     by-phase (QueueTakeRead window bare scan sum) now = take-read g good kind s q common inv i window bare scan sum now
-    by-phase (StackRead side window version scan sum) now = absurd (nowhere _ now)
-    by-phase (Check side version seen) now = absurd (nowhere _ now)
+    by-phase (StackRead side window version scan sum) now = absurd (knows-now _ now)
+    by-phase (Check side version seen) now = absurd (knows-now _ now)
     by-phase (QueueCommit Putting seen) now = put-commit g good kind s q common inv i seen now
     by-phase (QueueCommit Taking seen) now = take-commit g good kind s q common inv i seen now
-    by-phase (StackCommit side seen) now = absurd (nowhere _ now)
+    by-phase (StackCommit side seen) now = absurd (knows-now _ now)
     by-phase (QueueShift Putting window) now = put-shift g good kind s q common inv i window now
     by-phase (QueueShift Taking window) now = take-shift g good kind s q common inv i window now
-    by-phase (StackShift side version scan sum) now = absurd (nowhere _ now)
-    by-phase (Confirm Putting scan sum) now = absurd (nowhere _ now)
+    by-phase (StackShift side version scan sum) now = absurd (knows-now _ now)
+    by-phase (Confirm Putting scan sum) now = absurd (knows-now _ now)
     by-phase (Confirm Taking scan sum) now = take-confirm g good kind s q common inv i scan sum now
 
     stepped : Stepped g s q i (applyIn g s i (ruleOf g (viewIn s i)))
