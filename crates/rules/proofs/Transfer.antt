@@ -132,7 +132,7 @@ module _ (g : Settings) (limits : settingsFit g ≡ true) (k : Kind g) where
       let rest = events-same (n .related) cs in
       λ u. record { call = c; answer = n .answer u } ∷ rest u
 
-  pub made-related : (ws : List ℕ) → Accepted ws g → Related (makeOf ws g .words) (madeIn g)
+  unfoldable pub made-related : (ws : List ℕ) → Accepted ws g → Related (makeOf ws g .words) (madeIn g)
   made-related ws a =
       record { says = rw (a .words) (made-says ws g (a .enough)); list = noItems; whole = made-whole }
 
