@@ -1,6 +1,6 @@
 -- What an accepted answer says of the specification's list: an item joins for a 1, with the next stamp; the item named leaves
 -- for a 2, within the bound; and nothing changes for a 3 or a 4.
-use mathlib.Core.Path.{_≡_, refl, sym, ap, _∙_}
+use mathlib.Core.Path.{_≡_, refl, sym, ap}
 use mathlib.Core.Logic.{_≢_, _⊎_, inl, inr}
 use mathlib.Core.Bool.{Bool, true, false}
 use mathlib.Core.List.{List, [], _∷_}

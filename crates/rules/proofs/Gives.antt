@@ -1,20 +1,17 @@
 -- What the sequential specification gives for each of the four answers, from what a kind shows of its list.
-use mathlib.Core.Path.{_≡_, refl, sym, ap, _∙_}
-use mathlib.Core.List.{List, [], _∷_}
-use mathlib.Core.Option.{Option, none, some}
+use mathlib.Core.Path.{_≡_, refl}
+use mathlib.Core.List.{[], _∷_}
 use Prim.Native.Nat.{ℕ, suc, _+_, _≤_}
 use native.Mathlib.Omega.{arith}
-use lib.Dec.{leb, eqb}
 use lib.ListN.{length}
 use borrow.Author.Tests.{le-leb}
 use Rattle.laws.specs.Choice.{cond}
-use Rattle.rules.specs.Held.{Item, countItems, passedOver}
-use Rattle.rules.specs.Sequential.{Operation, putting, taking, Contents, Found, find, giveBy, leaving, mostPassed, leastFull, passedBy}
+use Rattle.rules.specs.Held.{Item}
+use Rattle.rules.specs.Sequential.{putting, taking, Contents, Found, giveBy, leaving, mostPassed, leastFull, passedBy}
 use Rattle.rules.specs.Run.{Final}
 use Rattle.rules.specs.Statement.{Gives}
 use Rattle.rules.specs.declared.Settings.{Settings}
 use Rattle.rules.specs.declared.Row.{Row}
-use Rattle.rules.specs.declared.Answer.{Answer}
 use Rattle.rules.specs.declared.Answer.the-variants.{Put, Taken, Empty, Full}
 use Rattle.rules.proofs.Held.{RowFound}
 

@@ -1,12 +1,12 @@
 -- What settings within limits give to a proof.
 use mathlib.Core.Path.{_≡_}
 use mathlib.Core.Bool.{true}
-use Prim.Native.Nat.{ℕ, _+_, _-_, _*_, _/_, _%_, _≤_, _<_}
+use Prim.Native.Nat.{ℕ, _+_, _-_, _*_, _/_}
 use native.Mathlib.Nat.{div-add-mod'}
 use native.Mathlib.Omega.{arith}
-use Rattle.laws.specs.Choice.{cond, cond-true, cond-false}
+use Rattle.laws.specs.Choice.{cond-true, cond-false}
 use Rattle.rules.specs.Limits.{settingsFit, Bounds}
-use Rattle.rules.specs.Held.{rowsBelow, passedOver}
+use Rattle.rules.specs.Held.{rowsBelow}
 use Rattle.rules.specs.Sequential.{mostPassed, leastFull}
 use Rattle.rules.specs.declared.Settings.{Settings}
 use Rattle.rules.proofs.Fitness.{settings-bounds, queue-limits}

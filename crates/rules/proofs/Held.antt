@@ -2,19 +2,18 @@
 -- They are the same items as counts go: for every test as many pass it on the list as among the held rows. That gives the
 -- length, the distance, and that an item is there, and it needs no order of the list and no permutation.
 use mathlib.Core.Path.{_≡_, refl, sym, ap, _∙_}
-use mathlib.Core.Logic.{_≢_, _⊎_, inl, inr}
+use mathlib.Core.Logic.{_≢_}
 use mathlib.Core.Bool.{Bool, true, false, not, _&&_}
 use mathlib.Core.List.{List, [], _∷_, _++_}
-use mathlib.Core.Option.{Option, none, some}
-use Prim.Native.Nat.{ℕ, zero, suc, _+_, _-_, _*_, _≤_, _<_}
-use native.Mathlib.Nat.{le-refl}
+use mathlib.Core.Option.{some}
+use Prim.Native.Nat.{ℕ, suc, _+_, _-_, _*_, _≤_, _<_}
 use native.Mathlib.Omega.{arith}
 use lib.Dec.{eqb}
 use lib.ListN.{length}
-use borrow.Author.Tests.{eqb-true, eqb-false, eq-eqb}
+use borrow.Author.Tests.{eqb-true, eq-eqb}
 use Rattle.laws.specs.Choice.{cond}
 use Rattle.rules.specs.Held.{Item, countItems, passedOver}
-use Rattle.rules.specs.Sequential.{Found, find, keeping}
+use Rattle.rules.specs.Sequential.{Found, find}
 use Rattle.rules.specs.declared.Settings.{Settings}
 use Rattle.rules.proofs.Sums.{sumN, upTo, upTo-suc, upTo-ext, upTo-true, bit, sum-ext, sum-bump, sum-gap, sum-gap-at, sum-sub, rows-more, rows-flat}
 use Rattle.rules.proofs.Machine.{State, belowIn, distanceIn}

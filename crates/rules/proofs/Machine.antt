@@ -3,12 +3,12 @@
 -- when its cell is used again, which is why words and machine are joined over the held rows alone.
 use mathlib.Core.Path.{_≡_, refl, ap}
 use mathlib.Core.Bool.{Bool}
-use Prim.Native.Nat.{ℕ, suc, _+_, _-_, _%_}
+use Prim.Native.Nat.{ℕ, suc, _-_, _%_}
 use lib.Dec.{leb, eqb}
 use Rattle.laws.specs.Choice.{cond}
 use Rattle.rules.specs.Held.{Item, rowsBelow, passedOver}
 use Rattle.rules.specs.Worker.{fresh, phaseOf, encode}
-use Rattle.rules.specs.Effects.{keepOf, movedOf, restartOf, finishedOf}
+use Rattle.rules.specs.Effects.{keepOf, movedOf, finishedOf}
 use Rattle.rules.specs.Shift.{shiftedOf}
 use Rattle.rules.specs.Step.{ruleOf}
 use Rattle.rules.specs.Apply.{stampOf}

@@ -6,15 +6,15 @@ use mathlib.Core.Path.{_≡_, refl, sym, ap, _∙_, subst}
 use mathlib.Core.Logic.{_≢_, _⊎_, inl, inr}
 use mathlib.Core.List.{List, [], _∷_, map, nil≢cons, List·Memᴰ, List·Memᴰ·head, List·Memᴰ·tail}
 use mathlib.Core.Option.{Option, none, some}
-use Prim.Native.Nat.{ℕ, zero, suc, _+_, _≤_, _<_}
+use Prim.Native.Nat.{ℕ, zero, suc, _≤_, _<_}
 use native.Mathlib.Decide.{ℕ-discrete, decLe}
 use native.Mathlib.Nat.{eq-or-lt-of-le, lt-of-not-le}
 use native.Mathlib.Omega.{arith}
-use lib.ListN.{getD, drop}
+use lib.ListN.{drop}
 use Rattle.rules.specs.Answers.{numberOf}
 use Rattle.rules.specs.Sequential.{Operation, putting, taking, Contents, noItems}
-use Rattle.rules.specs.Run.{Call, beginPut, beginTake, step, begin, Event, nothing, at, Final, StepOf, Since, Own}
-use Rattle.rules.specs.Statement.{Placement, Placed, All, Sorted, Covers, Gives, Done, done, Accepted, OneAtATime}
+use Rattle.rules.specs.Run.{Call, step, begin, Event, nothing, at, Final, StepOf, Since, Own}
+use Rattle.rules.specs.Statement.{Placement, Placed, All, Sorted, Gives, done, Accepted, OneAtATime}
 use Rattle.rules.specs.declared.Settings.{Settings}
 use Rattle.rules.specs.declared.Answer.{Answer}
 use Rattle.rules.proofs.Sums.{upd, upd-same, upd-other}

@@ -1,19 +1,19 @@
 -- What any order that demand 3 speaks of has, read off the statement alone: every finished operation's answer is one that the
 -- specification gave, and operations that do not overlap in time stand in the order of time.
-use mathlib.Core.Path.{_≡_, refl, sym, ap, _∙_, subst}
+use mathlib.Core.Path.{_≡_, subst}
 use mathlib.Core.Logic.{_⊎_, inl, inr}
 use mathlib.Core.List.{List, [], _∷_, map, List·Memᴰ, List·Memᴰ·not-nil, List·Memᴰ·cases-cons}
-use Prim.Native.Nat.{ℕ, suc, _≤_, _<_}
+use Prim.Native.Nat.{ℕ, _≤_}
 use native.Mathlib.Nat.{lt-of-not-le}
 use native.Mathlib.Decide.{decLe}
 use native.Mathlib.Omega.{arith}
 use Rattle.rules.specs.Answers.{numberOf}
 use Rattle.rules.specs.Sequential.{Contents, noItems, mostPassed}
-use Rattle.rules.specs.Run.{Call, step, Event, at, distanceIn, Final, StepOf}
+use Rattle.rules.specs.Run.{step, Event, at, distanceIn}
 use Rattle.rules.specs.Statement.{Placement, Placed, All, Gives, done, Accepted, OneAtATime}
 use Rattle.rules.specs.Consequences.{InRealTime}
 use Rattle.rules.specs.declared.Settings.{Settings}
-use Rattle.rules.proofs.Given.{Changed, gives-changed}
+use Rattle.rules.proofs.Given.{gives-changed}
 
 all-at : {A : Type 0} (P : A → Type 0) (xs : List A) (x : A) → All P xs → List·Memᴰ x xs → P x
 all-at P [] x h m = absurd (List·Memᴰ·not-nil m)

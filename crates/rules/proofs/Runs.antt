@@ -1,46 +1,38 @@
 -- Along a run from make, by induction over its calls: the specification's list and the answers so far account for every item,
 -- stamps are handed out in order, and every state is safe.
-use mathlib.Core.Path.{_≡_, refl, sym, ap, _∙_, subst}
-use mathlib.Core.Logic.{_≢_, _⊎_, inl, inr}
+use mathlib.Core.Path.{_≡_, refl, sym, ap, _∙_}
+use mathlib.Core.Logic.{_≢_, inl, inr}
 use mathlib.Core.Bool.{Bool, true, false}
-use mathlib.Core.List.{List, [], _∷_, _++_}
-use Prim.Native.Nat.{ℕ, zero, suc, _+_, _*_, _^_, _≤_, _<_}
+use mathlib.Core.List.{List, [], _∷_}
+use Prim.Native.Nat.{ℕ, zero, suc, _+_, _≤_, _<_}
 use native.Mathlib.Decide.{ℕ-discrete}
 use native.Mathlib.Omega.{arith}
 use lib.Dec.{leb, eqb}
-use lib.ListN.{getD}
-use borrow.Author.Tests.{leb-true, leb-false, eqb-true, eqb-false, le-leb, eq-eqb, ne-eqb}
-use Rattle.laws.specs.Choice.{cond, cases}
+use borrow.Author.Tests.{leb-true, leb-false, eqb-true}
+use Rattle.laws.specs.Choice.{cases}
 use Rattle.rules.specs.Answers.{numberOf}
-use Rattle.rules.specs.Limits.{settingsFit, Bounds}
-use Rattle.rules.specs.Layout.{firstOf, secondOf, workerAt}
-use Rattle.rules.specs.Worker.{slotAt, phaseOf}
+use Rattle.rules.specs.Limits.{settingsFit}
 use Rattle.rules.specs.Held.{Item, heldItems, countItems}
-use Rattle.rules.specs.Effects.{viewOf}
-use Rattle.rules.specs.Confirm.{counted}
 use Rattle.rules.specs.Step.{ruleOf}
 use Rattle.rules.specs.Sequential.{Contents}
-use Rattle.rules.specs.Run.{Call, beginPut, beginTake, step, callOf, Event, run, at, stampIn}
-use Rattle.rules.specs.Consequences.{wordsAfter, itemIn, itemsIn, hasStamp, sumSoFar, NoSumWraps}
+use Rattle.rules.specs.Run.{Call, beginPut, beginTake, step, callOf, run, at}
+use Rattle.rules.specs.Consequences.{wordsAfter, itemIn, itemsIn, hasStamp, NoSumWraps}
 use Rattle.rules.specs.declared.Settings.{Settings}
 use Rattle.rules.specs.declared.Side.{Side}
 use Rattle.rules.specs.declared.Side.the-variants.{Putting, Taking}
-use Rattle.rules.specs.declared.Slot.{Slot}
-use Rattle.rules.specs.declared.View.{View}
 use Rattle.rules.specs.declared.Effect.{Effect}
 use Rattle.rules.specs.declared.Outcome.{Outcome}
 use Rattle.rules.specs.declared.Outcome.the-variants.{Refused, Moving, Landed, Removed, Empty, Full}
-use Rattle.rules.specs.declared.Answer.{Answer}
 use Rattle.rules.proofs.Sums.{bit, bit-le}
 use Rattle.rules.proofs.Order.{Next}
 use Rattle.rules.proofs.Fitness.{settings-bounds}
 use Rattle.rules.proofs.Machine.{State, subIn, viewIn, belowIn, applyIn, applyInBy, stepIn, beginIn, nextIn}
 use Rattle.rules.proofs.Held.{count-none, count-append, held-count}
-use Rattle.rules.proofs.Turns.{Common, Counts, Holding, Safe, Kind}
+use Rattle.rules.proofs.Turns.{Common, Counts, Safe, Kind}
 use Rattle.rules.proofs.Subs.{SubAfter, rule-sub, below-first}
-use Rattle.rules.proofs.Given.{Changed, item-of, item-not}
-use Rattle.rules.proofs.Transfer.{Whole, Related, next-related}
-use Rattle.rules.proofs.words.Says.{Says, held-same}
+use Rattle.rules.proofs.Given.{item-of, item-not}
+use Rattle.rules.proofs.Transfer.{Related, next-related}
+use Rattle.rules.proofs.words.Says.{held-same}
 use Rattle.rules.proofs.words.Follows.{view-same}
 
 -- a stamp up to the next one is that one, or is up to the last

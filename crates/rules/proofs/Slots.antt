@@ -1,21 +1,20 @@
 -- Every slot stays fit, whatever the kind: each rule leaves its worker at its index or the next, with a scan below the width
 -- and in a phase of its kind. So a pool from make has `Common`, and no call that a kind's proof sees finds an unfit slot.
-use mathlib.Core.Path.{_≡_, refl, sym, ap, _∙_, subst}
+use mathlib.Core.Path.{_≡_, refl, sym, subst}
 use mathlib.Core.Logic.{_≢_}
 use mathlib.Core.Bool.{Bool, true, false}
-use Prim.Native.Nat.{ℕ, suc, _+_, _%_, _≤_, _<_}
+use Prim.Native.Nat.{ℕ, _≤_, _<_}
 use native.Mathlib.Nat.{mod-lt}
 use native.Mathlib.Omega.{arith}
 use lib.Dec.{ltb, leb, eqb}
-use borrow.Author.Tests.{ltb-true, leb-false, eqb-true, eqb-false, ne-eqb}
+use borrow.Author.Tests.{ltb-true, leb-false, eqb-true, eqb-false}
 use Rattle.laws.specs.Choice.{cond, cases}
 use Rattle.laws.specs.Wrap.{add32, sub32}
-use Rattle.rules.specs.Limits.{Bounds}
 use Rattle.rules.specs.Fit.{phaseFit}
 use Rattle.rules.specs.Worker.{phaseOf, queuePhase, stackPhase, encode, encodePhase, fresh}
-use Rattle.rules.specs.Effects.{keepOf, nextOf, withPass}
-use Rattle.rules.specs.Window.{windowRule, queueSeen, stackSeen}
-use Rattle.rules.specs.Read.{missOf, queuePutRead, queueTakeMiss, afterTakes, queueTakeRead, stackHit, stackRead}
+use Rattle.rules.specs.Effects.{nextOf}
+use Rattle.rules.specs.Window.{windowRule, queueSeen}
+use Rattle.rules.specs.Read.{missOf, queuePutRead, queueTakeMiss, queueTakeRead, stackRead}
 use Rattle.rules.specs.Check.{checkRule}
 use Rattle.rules.specs.Commit.{commitBy, queueCommit, stackCommit}
 use Rattle.rules.specs.Shift.{shiftBy, queueShift, stackShift}
@@ -36,7 +35,7 @@ use Rattle.rules.specs.declared.Outcome.the-variants.{Refused, Moving, L
 use Rattle.rules.proofs.Sums.{upd, upd-all}
 use Rattle.rules.proofs.Wraps.{next-lt}
 use Rattle.rules.proofs.Order.{Next}
-use Rattle.rules.proofs.Machine.{State, next, viewIn, applyIn, applyInBy, stepIn, withSlot, beginIn, nextIn, madeIn}
+use Rattle.rules.proofs.Machine.{State, viewIn, applyIn, applyInBy, stepIn, beginIn, nextIn, madeIn}
 use Rattle.rules.proofs.Phases.{OfQueue, OfStack, worker, encode-index}
 use Rattle.rules.proofs.Turns.{SlotFits, Common}
 

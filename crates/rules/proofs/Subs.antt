@@ -1,16 +1,16 @@
 -- What a step does to the rows of its sub, by how it ends: a put adds the row above, where a cell is free; a take removes a
 -- held row; any other step leaves the held rows as they are, and a refusal is a 23 or a 26. It is read off the rules, with the
 -- tests that they make.
-use mathlib.Core.Path.{_≡_, refl, sym, ap, _∙_}
+use mathlib.Core.Path.{_≡_, refl, sym, _∙_}
 use mathlib.Core.Logic.{_≢_, _⊎_, inl, inr}
-use mathlib.Core.Bool.{Bool, true, false}
+use mathlib.Core.Bool.{Bool, true}
 use Prim.Native.Nat.{ℕ, suc, _+_, _-_, _≤_, _<_}
 use native.Mathlib.Nat.{le-refl}
 use native.Mathlib.Decide.{ℕ-discrete}
 use native.Mathlib.Omega.{arith}
-use lib.Dec.{ltb, leb, eqb}
+use lib.Dec.{eqb}
 use borrow.Author.Tests.{ltb-true, eqb-true}
-use Rattle.laws.specs.Choice.{cond, cases}
+use Rattle.laws.specs.Choice.{cases}
 use Rattle.laws.specs.Wrap.{add32, sub32}
 use Rattle.rules.specs.Limits.{Bounds}
 use Rattle.rules.specs.Fit.{SubFits}

@@ -1,6 +1,6 @@
 -- From a kind's law of one step to demand 3 over the words: the machine's run has its order (Order), and the run over the
 -- words has the same events, since the words follow the machine from make on.
-use mathlib.Core.Path.{_≡_, refl, sym, ap, _∙_, subst}
+use mathlib.Core.Path.{_≡_, refl, sym, ap, subst}
 use mathlib.Core.Bool.{true}
 use mathlib.Core.List.{List, [], _∷_}
 use mathlib.Core.Logic.{_≢_}
@@ -8,23 +8,23 @@ use Prim.Native.Nat.{ℕ, _≤_}
 use native.Mathlib.Omega.{arith}
 use Rattle.rules.specs.Answers.{numberOf}
 use Rattle.rules.specs.Limits.{settingsFit}
-use Rattle.rules.specs.Make.{makeOf, madeWords}
+use Rattle.rules.specs.Make.{makeOf}
 use Rattle.rules.specs.Sequential.{Operation, Contents, noItems}
-use Rattle.rules.specs.Run.{Call, step, Event, callOf, run}
+use Rattle.rules.specs.Run.{Call, step, callOf, run}
 use Rattle.rules.specs.Statement.{OneAtATime}
 use Rattle.rules.specs.declared.Settings.{Settings}
 use Rattle.rules.specs.declared.Answer.{Answer}
-use Rattle.rules.proofs.Order.{Next, events, Status, idle, tried, Turn, refused, opened, walks, tries, stays, loses, ends, wins, Others, one-at-a-time}
+use Rattle.rules.proofs.Order.{Next, events, idle, tried, refused, opened, walks, tries, stays, loses, ends, wins, Others, one-at-a-time}
 use Rattle.rules.proofs.Fitness.{settings-bounds}
-use Rattle.rules.proofs.Machine.{State, phaseIn, nextIn, madeIn}
+use Rattle.rules.proofs.Machine.{State, nextIn, madeIn}
 use Rattle.rules.proofs.Phases.{statusOf, idle-phase}
-use Rattle.rules.proofs.Turns.{Common, Counts, Kind, Turned, statusIn, turn}
+use Rattle.rules.proofs.Turns.{Common, Kind, Turned, statusIn, turn}
 use Rattle.rules.proofs.Slots.{common-next, common-made}
 use Rattle.rules.proofs.Given.{Changed, unchanged-by, gives-changed}
 use Rattle.rules.proofs.Tried.{tried-itemless}
 use Rattle.rules.proofs.words.Says.{Says}
 use Rattle.rules.proofs.words.Follows.{Follows, follows}
-use Rattle.rules.proofs.words.Made.{Accepted, accepted, made-says}
+use Rattle.rules.proofs.words.Made.{Accepted, made-says}
 
 module _ (g : Settings) (limits : settingsFit g ≡ true) (k : Kind g) where
   width1 : 1 ≤ g .width

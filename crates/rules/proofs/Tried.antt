@@ -1,10 +1,9 @@
 -- A worker that has tried its answer is in confirm, and a step of confirm answers neither 1 nor 2.
-use mathlib.Core.Path.{_≡_, refl, sym, ap, _∙_, subst}
+use mathlib.Core.Path.{_≡_, refl}
 use mathlib.Core.Logic.{_≢_}
 use Prim.Native.Nat.{ℕ}
 use native.Mathlib.Omega.{arith}
-use lib.Dec.{leb, eqb}
-use Rattle.laws.specs.Choice.{cond, cases}
+use Rattle.laws.specs.Choice.{cases}
 use Rattle.rules.specs.Answers.{numberOf}
 use Rattle.rules.specs.Effects.{nothingFor, finishedOf}
 use Rattle.rules.specs.Confirm.{confirmRule, confirmedOf}
@@ -16,7 +15,7 @@ use Rattle.rules.specs.declared.Side.the-variants.{Putting, Taking}
 use Rattle.rules.specs.declared.Phase.{Phase}
 use Rattle.rules.specs.declared.Phase.the-variants.{Idle, Window, QueuePutRead, QueueTakeRead, StackRead, Check, QueueCommit, StackCommit, QueueShift, StackShift, Confirm}
 use Rattle.rules.specs.declared.Effect.{Effect}
-use Rattle.rules.proofs.Order.{Next, Status, idle, pending, tried}
+use Rattle.rules.proofs.Order.{Next, pending, tried}
 use Rattle.rules.proofs.Machine.{State, viewIn, phaseIn, applyIn, applyInBy, stepIn}
 use Rattle.rules.proofs.Phases.{statusOf}
 use Rattle.rules.proofs.Turns.{statusIn}

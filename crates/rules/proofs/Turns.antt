@@ -23,35 +23,33 @@
 -- Sums: `add32-is`, `add32-suc`, `sub32-is` (Wraps). Passes: `Summed`, `Pass` (Passes). The list: `Holds` and `find-row`
 -- (Held), with `belowIn g s` as the rows not held: `queue-below`, `stack-below` (Good). Stamps: `Stamped` (Stamps).
 -- What the specification gives: `gives-put`, `gives-taken`, `gives-empty`, `gives-full` (Gives).
-use mathlib.Core.Path.{_≡_, refl, sym, ap, _∙_}
+use mathlib.Core.Path.{_≡_, refl, ap, _∙_}
 use mathlib.Core.Logic.{_≢_}
-use mathlib.Core.Bool.{Bool, true, false}
-use Prim.Native.Nat.{ℕ, suc, _+_, _*_, _^_, _≤_, _<_}
+use mathlib.Core.Bool.{true}
+use Prim.Native.Nat.{ℕ, _+_, _*_, _^_, _≤_, _<_}
 use native.Mathlib.Omega.{arith}
 use lib.Dec.{leb, eqb}
 use borrow.Author.Tests.{leb-false, eqb-true}
-use Rattle.laws.specs.Choice.{cond, cases}
+use Rattle.laws.specs.Choice.{cases}
 use Rattle.rules.specs.Answers.{numberOf}
-use Rattle.rules.specs.Worker.{fresh, zeroSlot, phaseOf, encode}
+use Rattle.rules.specs.Worker.{fresh, zeroSlot, phaseOf}
 use Rattle.rules.specs.Fit.{phaseFit, SubFits}
 use Rattle.rules.specs.Step.{ruleOf}
 use Rattle.rules.specs.Confirm.{counted}
-use Rattle.rules.specs.Sequential.{Operation, putting, taking, Contents, noItems}
+use Rattle.rules.specs.Sequential.{Contents, noItems}
 use Rattle.rules.specs.Run.{Call, beginPut, beginTake, step, begin}
 pub use Rattle.rules.specs.Consequences.{sumSoFar}
 use Rattle.rules.specs.declared.Settings.{Settings}
 use Rattle.rules.specs.declared.Side.{Side}
 use Rattle.rules.specs.declared.Side.the-variants.{Putting, Taking}
-use Rattle.rules.specs.declared.Phase.{Phase}
 use Rattle.rules.specs.declared.Phase.the-variants.{Idle, Window}
 use Rattle.rules.specs.declared.Slot.{Slot}
 use Rattle.rules.specs.declared.Answer.the-variants.{Moving}
 use Rattle.rules.proofs.Sums.{upd, upd-same, upd-other}
-use Rattle.rules.proofs.Order.{Next, Status, idle, pending, tried, Turn, refused, opened, walks, tries, stays, loses, ends, wins, Others}
+use Rattle.rules.proofs.Order.{Next, Status, pending, Turn, refused, opened}
 use Rattle.rules.proofs.Machine.{State, next, subIn, viewIn, phaseIn, belowIn, applyIn, stepIn, withSlot, beginIn, nextIn, madeIn}
 use Rattle.rules.proofs.Phases.{operationOf, statusOf, worker, idle-phase, window-phase, encode-value}
 use Rattle.rules.proofs.Held.{Holds}
-use Rattle.rules.proofs.Good.{Good}
 
 -- ---- what every pool from make has, of either kind
 pub record SlotFits (g : Settings) (o : Slot) : Type 0 where

@@ -1,6 +1,6 @@
 -- The subs that a pass has visited: with `scan` reads done and `index` next, the `scan` subs before `index`, around the end.
 -- No start index has to be remembered.
-use mathlib.Core.Path.{_≡_, refl}
+use mathlib.Core.Path.{_≡_}
 use mathlib.Core.Logic.{_⊎_, inl, inr}
 use Prim.Native.Nat.{ℕ, suc, _+_, _≤_, _<_}
 use native.Mathlib.Decide.{decLt}

@@ -1,37 +1,26 @@
 -- The words after a step say the machine's state after it: first for what the step read and stores again, then for an effect
 -- by how it ends.
-use mathlib.Core.Path.{_≡_, refl, sym, ap, _∙_, subst}
+use mathlib.Core.Path.{_≡_, sym, ap, _∙_}
 use mathlib.Core.Logic.{_≢_, _⊎_, inl, inr}
 use mathlib.Core.List.{List}
-use Prim.Native.Nat.{ℕ, suc, _+_, _-_, _*_, _%_, _^_, _≤_, _<_}
+use Prim.Native.Nat.{ℕ, _+_, _-_, _≤_, _<_}
 use native.Mathlib.Nat.{le-trans}
 use native.Mathlib.Decide.{ℕ-discrete, decLe}
 use native.Mathlib.Omega.{arith}
 use lib.ListN.{length, getD}
-use Rattle.laws.specs.Wrap.{add32, sub32}
-use Rattle.rules.specs.Answers.{Out, out}
-use Rattle.rules.specs.Limits.{Bounds}
-use Rattle.rules.specs.Layout.{stepsAt, putsAt, topAt, markAt, subAt, workersAt, workerAt, cellsAt, cellAt, needed, settingsOf, firstOf, secondOf}
-use Rattle.rules.specs.Fit.{SubFits}
+use Rattle.laws.specs.Wrap.{add32}
+use Rattle.rules.specs.Layout.{subAt, workerAt, cellsAt, cellAt, settingsOf, firstOf, secondOf}
 use Rattle.rules.specs.Worker.{slotAt}
-use Rattle.rules.specs.Held.{Item, itemAt, rowsBelow}
-use Rattle.rules.specs.Apply.{putView, putItem, stampOf, takenOf, applyBy, applyOf}
+use Rattle.rules.specs.Held.{itemAt, rowsBelow}
+use Rattle.rules.specs.Apply.{putView}
 use Rattle.rules.specs.declared.Settings.{Settings}
-use Rattle.rules.specs.declared.Slot.{Slot}
 use Rattle.rules.specs.declared.Effect.{Effect}
-use Rattle.rules.specs.declared.Outcome.{Outcome}
-use Rattle.rules.specs.declared.Outcome.the-variants.{Refused, Moving, Landed, Removed, Empty, Full}
-use Rattle.rules.specs.declared.Answer.the-variants.{Taken}
-use Rattle.rules.proofs.Sums.{upd, upd-same, upd-other, upd-all}
-use Rattle.rules.proofs.Order.{Next}
+use Rattle.rules.proofs.Sums.{upd, upd-same, upd-other}
 use Rattle.rules.proofs.Wraps.{add32-suc}
-use Rattle.rules.proofs.Stamps.{item-new, item-old}
-use Rattle.rules.proofs.Machine.{State, subIn, viewIn, belowIn, afterIn, withItem, takenIn, applyIn, applyInBy}
-use Rattle.rules.proofs.Turns.{Common, Counts}
-use Rattle.rules.proofs.Subs.{Keeps, Lands, Removes, SubAfter}
-use Rattle.rules.proofs.words.Says.{Says, distance-same}
+use Rattle.rules.proofs.Machine.{State, subIn, viewIn, belowIn, afterIn}
+use Rattle.rules.proofs.Subs.{Keeps}
+use Rattle.rules.proofs.words.Says.{Says}
 use Rattle.rules.proofs.words.Writes.{slot-kept, view-length, view-off, view-steps, view-puts, view-top, view-mark, view-first, view-second, view-slot}
-use Rattle.rules.proofs.words.Cells.{place, place-lt, places-apart, item-length, item-off, item-here, item-there}
 
 -- the cells of the held rows have their items
 abbrev pub CellsSay : Settings → List ℕ → State → Type 0

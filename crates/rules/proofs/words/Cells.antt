@@ -1,6 +1,6 @@
 -- Where rows lie: of one sub, R rows in a row have R different cells; rows of two subs never share one. So a put into a sub
 -- with a free cell overwrites no held row.
-use mathlib.Core.Path.{_≡_, refl, sym, ap, _∙_}
+use mathlib.Core.Path.{_≡_, ap}
 use mathlib.Core.Logic.{_≢_}
 use mathlib.Core.List.{List}
 use Prim.Native.Nat.{ℕ, suc, _+_, _-_, _*_, _/_, _%_, _^_, _≤_, _<_}
@@ -10,8 +10,8 @@ use native.Mathlib.Omega.{arith}
 use lib.ListN.{length, getD, set, length-set}
 use lib.Seq.{getD-set-same, getD-set-other}
 use Rattle.laws.specs.Wrap.{sub32}
-use Rattle.rules.specs.Layout.{cellsAt, cellAt, needed}
-use Rattle.rules.specs.Held.{Item, itemAt}
+use Rattle.rules.specs.Layout.{cellAt}
+use Rattle.rules.specs.Held.{itemAt}
 use Rattle.rules.specs.Apply.{putItem}
 use Rattle.rules.specs.declared.Settings.{Settings}
 use Rattle.rules.specs.declared.Row.{Row}

@@ -1,24 +1,24 @@
 -- The words follow the machine: where they say its state, a call answers what the machine answers, and the words that it
 -- leaves say the machine's next state. Both go by the same rule of the same view, so only the view and the stores matter.
-use mathlib.Core.Path.{_≡_, refl, sym, ap, _∙_, subst}
+use mathlib.Core.Path.{_≡_, refl, sym, ap, _∙_}
 use mathlib.Core.Logic.{_≢_, _⊎_, inl, inr}
 use mathlib.Core.Bool.{Bool, true, false}
 use mathlib.Core.List.{List}
-use Prim.Native.Nat.{ℕ, suc, _+_, _*_, _≤_, _<_}
+use Prim.Native.Nat.{ℕ, _+_, _≤_, _<_}
 use native.Mathlib.Decide.{ℕ-discrete, decLe}
 use native.Mathlib.Omega.{arith}
-use lib.ListN.{length, getD}
+use lib.ListN.{getD}
 use lib.Dec.{leb, eqb}
 use borrow.Author.Tests.{leb-false}
 use Rattle.laws.specs.Choice.{cond}
-use Rattle.rules.specs.Answers.{Out, out, refuse}
+use Rattle.rules.specs.Answers.{Out, refuse}
 use Rattle.rules.specs.Limits.{settingsFit, Bounds}
-use Rattle.rules.specs.Layout.{subAt, workerAt, cellAt, cellsAt, settingsOf, firstOf}
+use Rattle.rules.specs.Layout.{subAt, workerAt, cellAt, settingsOf}
 use Rattle.rules.specs.Worker.{slotAt, putSlot, fresh}
 use Rattle.rules.specs.Held.{Item, itemAt, distanceOf}
 use Rattle.rules.specs.Fit.{checkedOf}
 use Rattle.rules.specs.Effects.{viewOf}
-use Rattle.rules.specs.Apply.{putItem, stampOf, takenOf, applyBy, applyOf}
+use Rattle.rules.specs.Apply.{takenOf, applyBy, applyOf}
 use Rattle.rules.specs.Begin.{slotBegin, fitBegin, checkedBegin, beginOf}
 use Rattle.rules.specs.Step.{ruleOf, slotStep, fitStep, checkedStep, stepOf}
 use Rattle.rules.specs.Run.{Call, beginPut, beginTake, step, callOf}
@@ -27,16 +27,15 @@ use Rattle.rules.specs.declared.Side.{Side}
 use Rattle.rules.specs.declared.Side.the-variants.{Putting, Taking}
 use Rattle.rules.specs.declared.Phase.the-variants.{Window}
 use Rattle.rules.specs.declared.Slot.{Slot}
-use Rattle.rules.specs.declared.View.{View}
 use Rattle.rules.specs.declared.Effect.{Effect}
 use Rattle.rules.specs.declared.Outcome.{Outcome}
 use Rattle.rules.specs.declared.Outcome.the-variants.{Refused, Moving, Landed, Removed, Empty, Full}
 use Rattle.rules.specs.declared.Checked.the-variants.{Fit}
 use Rattle.rules.specs.declared.Answer.the-variants.{Moving as Moves, Taken, Refused as NotDone}
-use Rattle.rules.proofs.Sums.{upd, upd-same, upd-other}
+use Rattle.rules.proofs.Sums.{upd-same, upd-other}
 use Rattle.rules.proofs.Order.{Next}
 use Rattle.rules.proofs.Fitness.{settings-bounds}
-use Rattle.rules.proofs.Machine.{State, next, subIn, viewIn, belowIn, afterIn, withItem, takenIn, applyIn, applyInBy, stepIn, withSlot, beginIn, nextIn}
+use Rattle.rules.proofs.Machine.{State, next, subIn, viewIn, belowIn, takenIn, applyIn, applyInBy, stepIn, withSlot, beginIn, nextIn}
 use Rattle.rules.proofs.Turns.{Common, Counts}
 use Rattle.rules.proofs.Subs.{SubAfter, rule-sub, below-first}
 use Rattle.rules.proofs.words.Says.{Says, distance-same}

@@ -1,14 +1,12 @@
 -- A put that lands: its cell is free, so the words go on saying the machine's held rows, and the new one.
-use mathlib.Core.Path.{_≡_, refl, sym, ap, _∙_, subst}
-use mathlib.Core.Logic.{_≢_, _⊎_, inl, inr}
+use mathlib.Core.Path.{_≡_, sym, _∙_}
+use mathlib.Core.Logic.{_≢_}
 use mathlib.Core.List.{List}
-use Prim.Native.Nat.{ℕ, suc, _+_, _-_, _*_, _%_, _^_, _≤_, _<_}
-use native.Mathlib.Nat.{le-trans}
+use Prim.Native.Nat.{ℕ, _+_, _-_, _≤_, _<_}
 use native.Mathlib.Decide.{ℕ-discrete}
 use native.Mathlib.Omega.{arith}
 use lib.ListN.{length, getD}
-use Rattle.rules.specs.Layout.{subAt, workerAt, cellsAt, cellAt, needed, settingsOf, firstOf, secondOf}
-use Rattle.rules.specs.Worker.{slotAt}
+use Rattle.rules.specs.Layout.{subAt, workerAt, cellsAt, cellAt, settingsOf}
 use Rattle.rules.specs.Held.{Item, itemAt, rowsBelow}
 use Rattle.rules.specs.Apply.{putItem, stampOf}
 use Rattle.rules.specs.declared.Settings.{Settings}

@@ -1,12 +1,12 @@
 -- Words after a run of stores.
-use mathlib.Core.Path.{_≡_, refl, sym, ap, _∙_}
-use mathlib.Core.Logic.{_≢_, _⊎_, inl, inr}
+use mathlib.Core.Path.{_≡_, refl, _∙_}
+use mathlib.Core.Logic.{_⊎_, inl, inr}
 use mathlib.Core.List.{List, [], _∷_}
 use Prim.Native.Nat.{ℕ, zero, suc, _+_, _≤_, _<_}
 use native.Mathlib.Nat.{add-zero}
 use native.Mathlib.Omega.{arith}
 use lib.ListN.{length, getD, set, length-set}
-use lib.Seq.{getD-set-same, getD-set-other, sets, length-sets}
+use lib.Seq.{getD-set-same, getD-set-other, sets}
 
 -- outside of a run of stores
 pub sets-out : (vs l : List ℕ) (i m : ℕ) → (m < i) ⊎ (i + length vs ≤ m) → getD (sets l i vs) m 0 ≡ getD l m 0

@@ -1,8 +1,8 @@
 -- The relation between words and machine: the words say the machine's state, each at its place, and of the cells those of the
 -- held rows. A distance counted over the words is then the machine's.
-use mathlib.Core.Path.{_≡_, refl, sym, ap, _∙_}
+use mathlib.Core.Path.{_≡_, sym, ap, _∙_}
 use mathlib.Core.Bool.{Bool}
-use mathlib.Core.List.{List, [], _∷_, _++_}
+use mathlib.Core.List.{List, [], _∷_}
 use Prim.Native.Nat.{ℕ, zero, suc, _+_, _-_, _≤_, _<_}
 use native.Mathlib.Nat.{add-zero, add-suc, add-sub-of-le}
 use native.Mathlib.Numerals.{add-one}
@@ -10,7 +10,7 @@ use native.Mathlib.Omega.{arith}
 use lib.ListN.{length, getD}
 use Rattle.rules.specs.Layout.{stepsAt, putsAt, topAt, markAt, needed, settingsOf, firstOf, secondOf, workerAt}
 use Rattle.rules.specs.Worker.{slotAt}
-use Rattle.rules.specs.Held.{Item, itemAt, rowsBelow, itemsAbove, heldSub, heldBelow, heldItems, countItems, passedOver, distanceOf}
+use Rattle.rules.specs.Held.{Item, itemAt, itemsAbove, heldSub, heldBelow, heldItems, countItems, passedOver, distanceOf}
 use Rattle.rules.specs.declared.Settings.{Settings}
 use Rattle.rules.proofs.Sums.{sumN, sum-none, sum-more, upTo, upTo-suc, bit}
 use Rattle.rules.proofs.Machine.{State, belowIn, countIn, distanceIn}

@@ -1,16 +1,16 @@
 -- What a step's stores leave: the places of a pool's parts do not overlap, so each store is read back at its own place and
 -- every other word is as it was.
-use mathlib.Core.Path.{_≡_, refl, sym, ap, _∙_}
-use mathlib.Core.Logic.{_≢_, _⊎_, inl, inr}
-use mathlib.Core.List.{List, [], _∷_}
-use Prim.Native.Nat.{ℕ, zero, suc, _+_, _-_, _*_, _%_, _≤_, _<_}
+use mathlib.Core.Path.{_≡_, _∙_}
+use mathlib.Core.Logic.{_≢_, _⊎_, inl}
+use mathlib.Core.List.{List}
+use Prim.Native.Nat.{ℕ, _+_, _-_, _≤_, _<_}
 use native.Mathlib.Omega.{arith}
 use lib.ListN.{length, getD, set, length-set}
-use lib.Seq.{getD-set-same, getD-set-other, sets, length-sets}
-use Rattle.laws.specs.Wrap.{add32, sub32}
+use lib.Seq.{getD-set-same, getD-set-other, length-sets}
+use Rattle.laws.specs.Wrap.{add32}
 use Rattle.rules.specs.Layout.{stepsAt, putsAt, topAt, markAt, subAt}
 use Rattle.rules.specs.Worker.{slotAt, putSlot, wordsOf}
-use Rattle.rules.specs.Apply.{putView, putItem}
+use Rattle.rules.specs.Apply.{putView}
 use Rattle.rules.specs.declared.Slot.{Slot}
 use Rattle.rules.specs.declared.Effect.{Effect}
 use Rattle.rules.proofs.words.Lists.{sets-out, sets-in}
