@@ -320,18 +320,25 @@ module _ {S : Type 0} (g : Settings) (next : S → Call → Next S)
           (λ j st fin. absurd (moving n fin))
           (λ j f′ x. other-awaits i w r j f′ (λ m. let y : r .fate i ≡ some f′ = rw m at (x .2) in cc) x)
 
-      by-turn : Turn s q c o → Rest s q p
-      by-turn (refused n e) =
-          let still : ¬ (Final (at es p .answer)) = λ v. omega (arith, same-number, v .high) in
-          let live′ : Live s (suc p) = record {
-            when-open = λ i k x. let b = live .when-open i k x in (b .0, since-suc (b .1) (λ u v. still v));
-            when-tried = λ i k x. let b = live .when-tried i k x in (b .0, since-suc (b .1) (λ u v. still v));
-          } in
-          let r : Rest s q (suc p) = rw e at (ih q (rw e h) (rw e live′)) in
+      -- a refused call changes nothing
+      still : 4 < numberOf (o .answer) → ¬ (Final (at es p .answer))
+      still n v = omega (arith, same-number, v .high)
+
+      live-still : 4 < numberOf (o .answer) → Live s (suc p)
+      live-still n = record {
+        when-open = λ i k x. let b = live .when-open i k x in (b .0, since-suc (b .1) (λ u v. still n v));
+        when-tried = λ i k x. let b = live .when-tried i k x in (b .0, since-suc (b .1) (λ u v. still n v));
+      }
+
+      skip-refused : 4 < numberOf (o .answer) → Rest s q (suc p) → Rest s q p
+      skip-refused n r =
           skip s s q p r (r .fate)
-          (λ i k f a b. fate-back s s p i k f (r .order) (λ s₀ q₀ z. z) (λ u v. still v) (r .fated i k f a b))
-          (λ i st fin. absurd (still fin))
+          (λ i k f a b. fate-back s s p i k f (r .order) (λ s₀ q₀ z. z) (λ u v. still n v) (r .fated i k f a b))
+          (λ i st fin. absurd (still n fin))
           (λ i f x. x)
+
+      by-turn : Turn s q c o → Rest s q p
+      by-turn (refused n e) = skip-refused n (rw e at (ih q (rw e h) (rw e (live-still n))))
       by-turn (opened i k u n a b w h′) =
           let foreign : (j : ℕ) → j ≢ i → at es p .call ≡ step j → ⊥ = λ j m e. begin-no-step i k j (sym u ∙ sym hc ∙ e) in
           let live′ : Live (o .state) (suc p) = live-next s (o .state) p i live (w .same) foreign
