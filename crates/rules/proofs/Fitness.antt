@@ -97,6 +97,10 @@ body-fit ws h g s limits e =
       fit-settings h g (workers .1),
     )
 
+pub head-bounds : (ws : List ℕ) → headFit ws ≡ true → Bounds (settingsOf ws)
+unfolding headFit
+head-bounds ws e = settings-bounds (settingsOf ws) (both-true _ _ e .0)
+
 -- a pool that is checked fit
 pub fit-pool : (ws : List ℕ) (g : Settings) → checkedOf ws ≡ Fit g → FitPool g ws
 unfolding checkedOf headFit

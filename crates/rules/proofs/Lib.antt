@@ -1,5 +1,7 @@
--- What fit words have; then the theorems about every run, from what knows no pool to demand 3.
+-- What the code's proofs cite; then the theorems about every run, from what knows no pool to demand 3.
+pub mod Cells
 pub mod Fitness
+pub mod Making
 pub mod Sums
 pub mod Order
 pub mod Machine
