@@ -4,7 +4,7 @@
 use mathlib.Core.Path.{_≡_, refl, sym, ap, _∙_}
 use mathlib.Core.Logic.{_≢_}
 use mathlib.Core.Bool.{Bool, true, false, not, _&&_}
-use mathlib.Core.List.{List, [], _∷_, _++_}
+use mathlib.Core.List.{List, [], _∷_}
 use mathlib.Core.Option.{some}
 use Prim.Native.Nat.{ℕ, suc, _+_, _-_, _*_, _≤_, _<_}
 use native.Mathlib.Omega.{arith}
@@ -31,10 +31,6 @@ bit-is false = refl
 pub count-cons : (p : Item → Bool) (x : Item) (xs : List Item) → countItems p (x ∷ xs) ≡ bit (p x) + countItems p xs
 unfolding countItems
 count-cons p x xs = rw (bit-is (p x)) refl
-
-pub count-append : (p : Item → Bool) (xs ys : List Item) → countItems p (xs ++ ys) ≡ countItems p xs + countItems p ys
-count-append p [] ys = omega (arith, count-none p)
-count-append p (x ∷ xs) ys = omega (arith, count-cons p x (xs ++ ys), count-cons p x xs, count-append p xs ys)
 
 pub count-all : (xs : List Item) → countItems (λ x. true) xs ≡ length xs
 count-all [] = count-none (λ x. true)

@@ -7,6 +7,7 @@ use Prim.Native.Nat.{ℕ, suc, _-_, _%_}
 use lib.Dec.{leb, eqb}
 use Rattle.laws.specs.Choice.{cond}
 use Rattle.rules.specs.Held.{Item, rowsBelow, passedOver}
+use Rattle.rules.specs.Make.{newMark}
 use Rattle.rules.specs.Worker.{fresh, phaseOf, encode}
 use Rattle.rules.specs.Effects.{keepOf, movedOf, finishedOf}
 use Rattle.rules.specs.Shift.{shiftedOf}
@@ -159,7 +160,7 @@ madeIn g =
       steps = 0;
       puts = 0;
       top = g .depth;
-      mark = cond (eqb (g .kind) 0) (g .depth) 0;
+      mark = newMark g;
       first = λ j. 0;
       second = λ j. 0;
       item = λ j r. record { value = 0; stamp = 0 };

@@ -26,10 +26,11 @@ use Rattle.rules.specs.declared.Outcome.the-variants.{Refused, Moving, L
 use Rattle.rules.proofs.Sums.{bit, bit-le}
 use Rattle.rules.proofs.Order.{Next}
 use Rattle.rules.proofs.Fitness.{settings-bounds}
+use Rattle.rules.proofs.Cells.{count-append, held-fits}
 use Rattle.rules.proofs.Machine.{State, subIn, viewIn, belowIn, applyIn, applyInBy, stepIn, beginIn, nextIn}
-use Rattle.rules.proofs.Held.{count-none, count-append, held-count}
+use Rattle.rules.proofs.Held.{count-none, held-count}
 use Rattle.rules.proofs.Turns.{Common, Counts, Safe, Kind}
-use Rattle.rules.proofs.Subs.{SubAfter, rule-sub, below-first}
+use Rattle.rules.proofs.Subs.{SubAfter, rule-sub}
 use Rattle.rules.proofs.Given.{item-of, item-not}
 use Rattle.rules.proofs.Transfer.{Related, next-related}
 use Rattle.rules.proofs.words.Says.{held-same}
@@ -55,7 +56,7 @@ module _ (g : Settings) (limits : settingsFit g ≡ true) (k : Kind g) where
   held-listed : {ws : List ℕ} {s : State} (r : Rel ws s) (p : Item → Bool) → countItems p (heldItems ws g) ≡ countItems p (r .list .items)
   held-listed {ws} {s} r p =
       let order : (j : ℕ) → j < g .width → belowIn g s j ≤ s .first j =
-      λ j l. below-first g (s .first j) (s .second j) (k .counts s (r .list) (r .whole .inv) .sub j l) in
+      λ j l. held-fits g (s .first j) (s .second j) (k .counts s (r .list) (r .whole .inv) .sub j l) .0 in
       held-same g ws s (r .says) order p ∙ sym (held-count (k .holding s (r .list) (r .whole .inv) .held) order p)
 
   pub accounted : {ws : List ℕ} {s : State} (r : Rel ws s) (cs : List Call) (p : Item → Bool)

@@ -8,8 +8,7 @@ use Prim.Native.Nat.{ℕ, suc, _+_, _-_, _≤_, _<_}
 use native.Mathlib.Nat.{le-refl}
 use native.Mathlib.Decide.{ℕ-discrete}
 use native.Mathlib.Omega.{arith}
-use lib.Dec.{eqb}
-use borrow.Author.Tests.{ltb-true, eqb-true}
+use borrow.Author.Tests.{ltb-true}
 use Rattle.laws.specs.Choice.{cases}
 use Rattle.laws.specs.Wrap.{add32, sub32}
 use Rattle.rules.specs.Limits.{Bounds}
@@ -38,11 +37,6 @@ use Rattle.rules.specs.declared.Outcome.the-variants.{Refused, Moving, L
 use Rattle.rules.proofs.Wraps.{add32-suc, sub32-is}
 use Rattle.rules.proofs.Good.{queue-below, stack-below}
 use Rattle.rules.proofs.Slots.{OfKind, phase-from}
-
--- in a sub that fits, the rows not held end at the first row at most
-pub below-first : (g : Settings) (first second : ℕ) → SubFits g first second → rowsBelow g second ≤ first
-below-first g first second h =
-    cases (λ x. x ≤ first) (eqb (g .kind) 0) second 0 (λ e. h .queue-order (eqb-true _ _ e)) (λ e. omega arith)
 
 -- no row is held that was not held
 pub record Keeps (g : Settings) (v : View) (e : Effect) : Type 0 where

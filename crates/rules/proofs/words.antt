@@ -2,7 +2,7 @@
 pub mod Lists
 pub mod Writes
 pub mod Says
-pub mod Cells
+pub mod Places
 pub mod Fit
 pub mod After
 pub mod Landed

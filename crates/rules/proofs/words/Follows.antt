@@ -35,9 +35,10 @@ use Rattle.rules.specs.declared.Answer.the-variants.{Moving as Moves, Ta
 use Rattle.rules.proofs.Sums.{upd-same, upd-other}
 use Rattle.rules.proofs.Order.{Next}
 use Rattle.rules.proofs.Fitness.{settings-bounds}
+use Rattle.rules.proofs.Cells.{held-fits}
 use Rattle.rules.proofs.Machine.{State, next, subIn, viewIn, belowIn, takenIn, applyIn, applyInBy, stepIn, withSlot, beginIn, nextIn}
 use Rattle.rules.proofs.Turns.{Common, Counts}
-use Rattle.rules.proofs.Subs.{SubAfter, rule-sub, below-first}
+use Rattle.rules.proofs.Subs.{SubAfter, rule-sub}
 use Rattle.rules.proofs.words.Says.{Says, distance-same}
 use Rattle.rules.proofs.words.Writes.{slot-length, slot-off, slot-on, slot-kept}
 use Rattle.rules.proofs.words.Fit.{checked-fit}
@@ -63,7 +64,7 @@ module _ (g : Settings) (limits : settingsFit g ≡ true) (ws : List ℕ) (s : S
   refuses n = record { answer = refl; says = says }
 
   order : (j : ℕ) → j < g .width → belowIn g s j ≤ s .first j
-  order j l = below-first g (s .first j) (s .second j) (counts .sub j l)
+  order j l = held-fits g (s .first j) (s .second j) (counts .sub j l) .0
 
   -- ---- a step
   module _ (i : ℕ) (li : i < g .workers) where
@@ -103,8 +104,8 @@ module _ (g : Settings) (limits : settingsFit g ≡ true) (ws : List ℕ) (s : S
           record {
             answer = refl;
             says =
-                after-says g _ _ (landed-says g ws s says (omega (arith, bounds .rows2, bounds .depth1)) (bounds .rows1024) i lj (counts .first-few _ lj) (order _ lj) e h) i li lj e few
-                (landed-cells g ws s says (omega (arith, bounds .rows2, bounds .depth1)) (bounds .rows1024) i lj (counts .first-few _ lj) (order _ lj) e h);
+                after-says g _ _ (landed-says g ws s says bounds i lj (counts .first-few _ lj) (order _ lj) e h) i li lj e few
+                (landed-cells g ws s says bounds i lj (counts .first-few _ lj) (order _ lj) e h);
           }
       follow-apply Removed h =
           record {

@@ -6,21 +6,24 @@ use Prim.Native.Nat.{ℕ, _+_, _-_, _≤_, _<_}
 use native.Mathlib.Decide.{ℕ-discrete}
 use native.Mathlib.Omega.{arith}
 use lib.ListN.{length, getD}
+use Rattle.laws.specs.Wrap.{sub32}
+use Rattle.rules.specs.Limits.{Bounds}
 use Rattle.rules.specs.Layout.{subAt, workerAt, cellsAt, cellAt, settingsOf}
 use Rattle.rules.specs.Held.{Item, itemAt, rowsBelow}
 use Rattle.rules.specs.Apply.{putItem, stampOf}
 use Rattle.rules.specs.declared.Settings.{Settings}
 use Rattle.rules.specs.declared.Effect.{Effect}
+use Rattle.rules.proofs.Cells.{rows-pos, cell-lt}
 use Rattle.rules.proofs.Sums.{upd, upd-same, upd-other}
 use Rattle.rules.proofs.Stamps.{item-new, item-old}
 use Rattle.rules.proofs.Machine.{State, subIn, viewIn, belowIn, afterIn, withItem}
 use Rattle.rules.proofs.Subs.{Lands}
 use Rattle.rules.proofs.words.Says.{Says}
 use Rattle.rules.proofs.words.Writes.{slot-kept}
-use Rattle.rules.proofs.words.Cells.{place, place-lt, places-apart, item-length, item-off, item-here, item-there}
+use Rattle.rules.proofs.words.Places.{place, places-apart, item-length, item-off, item-here, item-there}
 use Rattle.rules.proofs.words.After.{CellsSay}
 
-module _ (g : Settings) (ws : List ℕ) (s : State) (says : Says g ws s) (rows1 : 1 ≤ g .rows) (rows1024 : g .rows ≤ 1024)
+module _ (g : Settings) (ws : List ℕ) (s : State) (says : Says g ws s) (bounds : Bounds g)
     (i : ℕ) (lj : subIn s i < g .width) (first-few : s .first (subIn s i) ≤ 4000000000) (order : belowIn g s (subIn s i) ≤ s .first (subIn s i))
     (e : Effect) (h : Lands g (viewIn s i) e) where
   abbrev j : ℕ
@@ -43,7 +46,7 @@ module _ (g : Settings) (ws : List ℕ) (s : State) (says : Says g ws s) (rows1 
   before m l = item-off ws g j (e .value) (e .row) (stampOf e) m (λ u. omega arith) (λ u. omega arith)
 
   cell-fits : cellAt g j row + 1 < length ws
-  cell-fits = omega (arith, says .long, place-lt g j row rows1 lj)
+  cell-fits = omega (arith, says .long, cell-lt g j (sub32 row 1) bounds lj)
 
   -- a held row lies elsewhere, and is not the new one
   not-new : (k n : ℕ) → n ≤ s .first k → k ≡ j → n ≢ row
@@ -51,9 +54,9 @@ module _ (g : Settings) (ws : List ℕ) (s : State) (says : Says g ws s) (rows1 
 
   apart : (k n : ℕ) → k < g .width → belowIn g s k < n → n ≤ s .first k → place g k n ≢ place g j row
   apart k n l a b =
-      places-apart g j k (belowIn g s j) row n rows1
+      places-apart g j k (belowIn g s j) row n (rows-pos g bounds)
       (λ y. let a′ : belowIn g s j < n = rw y at a in let b′ : n ≤ s .first j = rw y at b in (a′, omega (arith, h .free), not-new k n b y))
-      (omega (arith, h .row)) (omega (arith, h .row, h .free)) (omega arith)
+      (omega (arith, h .row)) (omega (arith, h .row, h .free)) (omega (arith, bounds .rows1024))
 
   old-cell : CellsSay g vs t
   old-cell k n l a b =

@@ -14,7 +14,8 @@ use Rattle.rules.specs.Held.{Item, itemAt, itemsAbove, heldSub, heldBelo
 use Rattle.rules.specs.declared.Settings.{Settings}
 use Rattle.rules.proofs.Sums.{sumN, sum-none, sum-more, upTo, upTo-suc, bit}
 use Rattle.rules.proofs.Machine.{State, belowIn, countIn, distanceIn}
-use Rattle.rules.proofs.Held.{count-none, count-cons, count-append}
+use Rattle.rules.proofs.Cells.{count-append}
+use Rattle.rules.proofs.Held.{count-none, count-cons}
 
 pub record Says (g : Settings) (ws : List ℕ) (s : State) : Type 0 where
   pub long : needed g ≤ length ws

@@ -4,7 +4,7 @@ use mathlib.Core.Path.{_≡_, ap}
 use mathlib.Core.Logic.{_≢_}
 use mathlib.Core.List.{List}
 use Prim.Native.Nat.{ℕ, suc, _+_, _-_, _*_, _/_, _%_, _^_, _≤_, _<_}
-use native.Mathlib.Nat.{div-add-mod', mod-lt, lt-of-mul-lt-mul-right, mul-le-mul-right}
+use native.Mathlib.Nat.{div-add-mod', mod-lt, lt-of-mul-lt-mul-right}
 use native.Mathlib.Decide.{ℕ-discrete}
 use native.Mathlib.Omega.{arith}
 use lib.ListN.{length, getD, set, length-set}
@@ -43,9 +43,6 @@ ring-one R t r r′ pos a b a′ b′ e =
 -- the cell of a row, counted from the first
 abbrev pub place : Settings → ℕ → ℕ → ℕ
 place g j row = j * g .rows + sub32 row 1 % g .rows
-
-pub place-lt : (g : Settings) (j row : ℕ) → 1 ≤ g .rows → j < g .width → place g j row < g .width * g .rows
-place-lt g j row pos l = omega (arith, mod-lt (sub32 row 1) pos, mul-le-mul-right (g .rows) l)
 
 -- rows t + 1 to t + R of sub j, and any row of another sub, lie apart
 pub places-apart : (g : Settings) (j k t r n : ℕ) → 1 ≤ g .rows → (k ≡ j → (t < n) × (n ≤ t + g .rows) × (n ≢ r))
