@@ -1,0 +1,201 @@
+-- The queue as a kind: its invariant holds of a new pool, every begin and every step keeps it, and no sum of a queue from make
+-- reaches 2^32. Each phase's step is in the file of its operation; here they are put together.
+use mathlib.Core.Path.{_≡_, refl, sym, subst}
+use mathlib.Core.Logic.{_≢_}
+use Prim.Native.Nat.{ℕ, _+_, _^_, _<_}
+use native.Mathlib.Nat.{le-refl}
+use native.Mathlib.Omega.{arith}
+use lib.Dec.{eqb}
+use Rattle.laws.specs.Choice.{cond, cond-true}
+use Rattle.rules.specs.Worker.{fresh, zeroSlot}
+use Rattle.rules.specs.Effects.{refusedOf}
+use Rattle.rules.specs.Step.{ruleOf, ruleBy}
+use Rattle.rules.specs.Confirm.{counted}
+use Rattle.rules.specs.Sequential.{Contents, noItems}
+use Rattle.rules.specs.declared.Settings.{Settings}
+use Rattle.rules.specs.declared.Side.{Side}
+use Rattle.rules.specs.declared.Side.the-variants.{Putting, Taking}
+use Rattle.rules.specs.declared.Phase.{Phase}
+use Rattle.rules.specs.declared.Phase.the-variants.{Idle, Window, QueuePutRead, QueueTakeRead, StackRead, Check, QueueCommit, StackCommit, QueueShift, StackShift, Confirm}
+use Rattle.rules.proofs.Sums.{upd-other, sum-zero}
+use Rattle.rules.proofs.Order.{refused}
+use Rattle.rules.proofs.Machine.{State, subIn, viewIn, phaseIn, applyIn, applyInBy, madeIn}
+use Rattle.rules.proofs.Phases.{idle-phase}
+use Rattle.rules.proofs.Passes.{summed-more, summed-le}
+use Rattle.rules.proofs.Held.{count-none}
+use Rattle.rules.proofs.Good.{Good}
+use Rattle.rules.proofs.Turns.{Common, Counts, Safe, sumSoFar, begun, Kind}
+use Rattle.rules.proofs.queue.Inv.{Windows, Stamps, Pool, Knows, Inv, Linked, Snap, sum-few, put-few, taken-few, top-few, mark-few}
+use Rattle.rules.proofs.queue.Moves.{Stepped, inv-after, told-knows}
+use Rattle.rules.proofs.queue.Put.{put-window, put-read, put-shift}
+use Rattle.rules.proofs.queue.Landed.{put-commit}
+use Rattle.rules.proofs.queue.Take.{counted-put, take-window, take-read, take-shift, take-confirm}
+use Rattle.rules.proofs.queue.Taken.{take-commit, holds-below}
+
+module _ (g : Settings) (good : Good g) (kind : g .kind ≡ 0) where
+  -- ---- a new pool
+  mark-made : cond (eqb (g .kind) 0) (g .depth) 0 ≡ g .depth
+  mark-made = rw kind (cond-true _ _)
+
+  windows-made : Windows g (g .depth) (g .depth) (λ j. 0) (λ j. 0)
+  windows-made =
+      record {
+        tops = 1;
+        marks = 1;
+        top-is = omega arith;
+        mark-is = omega arith;
+        order = le-refl _;
+        room = omega (arith, good .bounds .rows2);
+        put-le = λ j l. omega arith;
+        put-ge = λ j l. omega arith;
+        taken-le = λ j l. omega arith;
+        taken-ge = λ j l. omega arith;
+        held = λ j l. le-refl _;
+      }
+
+  stamps-made : Stamps g (λ j. 0) (λ j r. record { value = 0; stamp = 0 }) 0
+  stamps-made =
+      record {
+        each = record {
+          least = λ j r l a b. absurd (omega arith);
+          low = λ j r l a b. absurd (omega arith);
+          rise = λ j r r′ l a b c. absurd (omega arith);
+          apart = λ j k r r′ l l′ n a b a′ b′ e. omega arith;
+        };
+        order = λ j k r r′ c l l′ a b c′ a′ b′. absurd (omega arith);
+      }
+
+  at-first : Inv g (madeIn g) noItems
+  unfolding madeIn
+  at-first =
+      record {
+        pool = record {
+          windows = rw mark-made windows-made;
+          stamps = stamps-made;
+          total = sum-zero (g .width);
+          puts-few = le-refl _;
+          steps-few = omega arith;
+          holds = record { same = λ p. omega (arith, count-none p) };
+          count = refl;
+        };
+        knows = λ i. rw (idle-phase (g .kind) (madeIn g .slot i) refl) tt;
+      }
+
+  -- ---- a begin
+  begins : (s : State) (q : Contents) → Inv g s q → (i : ℕ) (side : Side) (v : ℕ) → Inv g (begun s i side v) q
+  begins s q inv i side v =
+      inv-after g s i (begun s i side v) _ refl
+      (record { top = le-refl _; mark = le-refl _; put = λ j. le-refl _; taken = λ j. le-refl _ }) q q inv
+      (record {
+        windows = o .windows;
+        stamps = o .stamps;
+        total = o .total;
+        puts-few = o .puts-few;
+        steps-few = o .steps-few;
+        holds = o .holds;
+        count = o .count;
+      })
+      (told-knows g kind v (subIn s i) (Window side) tt zeroSlot (begun s i side v) tt)
+    where
+      o : Pool g s q
+      o = inv .pool
+
+  begins-kept : (s : State) (i : ℕ) (side : Side) (v : ℕ) (j : ℕ) → j ≢ i
+      → (s₀ : State) (q₀ : Contents) → Snap g s₀ q₀ j s → Snap g s₀ q₀ j (begun s i side v)
+  begins-kept s i side v j n s₀ q₀ z =
+      subst (Linked g s₀ q₀ (s .first)) (sym (upd-other (s .slot) i (fresh v (subIn s i) (Window side)) j n)) z
+
+  -- ---- a step
+  module _ (s : State) (q : Contents) (common : Common g s) (inv : Inv g s q) (i : ℕ) where
+    rests : Stepped g s q i (applyIn g s i (refusedOf (viewIn s i) 26))
+    unfolding applyIn applyInBy
+    rests = record { turn = λ few. refused (omega arith) refl; able = omega arith }
+
+    knows-now : (p : Phase) → phaseIn g s i ≡ p → Knows g s (subIn s i) p
+    knows-now p now = subst (Knows g s (subIn s i)) now (inv .knows i)
+
+    by-phase : (p : Phase) → phaseIn g s i ≡ p → Stepped g s q i (applyIn g s i (ruleBy g (viewIn s i) p))
+    unfolding ruleBy
+    by-phase Idle now = rests
+    by-phase (Window Putting) now = put-window g good kind s q common inv i now
+    by-phase (Window Taking) now = take-window g good kind s q common inv i now
+    by-phase (QueuePutRead window scan) now = put-read g good kind s q common inv i window scan now
+    by-phase (QueueTakeRead window bare scan sum) now = take-read g good kind s q common inv i window bare scan sum now
+    by-phase (StackRead side window version scan sum) now = absurd (knows-now _ now)
+    by-phase (Check side version seen) now = absurd (knows-now _ now)
+    by-phase (QueueCommit Putting seen) now = put-commit g good kind s q common inv i seen now
+    by-phase (QueueCommit Taking seen) now = take-commit g good kind s q common inv i seen now
+    by-phase (StackCommit side seen) now = absurd (knows-now _ now)
+    by-phase (QueueShift Putting window) now = put-shift g good kind s q common inv i window now
+    by-phase (QueueShift Taking window) now = take-shift g good kind s q common inv i window now
+    by-phase (StackShift side version scan sum) now = absurd (knows-now _ now)
+    by-phase (Confirm Putting scan sum) now = absurd (knows-now _ now)
+    by-phase (Confirm Taking scan sum) now = take-confirm g good kind s q common inv i scan sum now
+
+    stepped : Stepped g s q i (applyIn g s i (ruleOf g (viewIn s i)))
+    unfolding ruleOf
+    stepped = by-phase (phaseIn g s i) refl
+
+    -- ---- no sum of a pass reaches 2^32
+    index : subIn s i < g .width
+    index = common .slots i .index
+
+    alone : s .first (subIn s i) < 2 ^ 32
+    alone = omega (arith, put-few good (inv .pool) (subIn s i) index)
+
+    pass-few : (p : Phase) → Knows g s (subIn s i) p → sumSoFar p + s .first (subIn s i) < 2 ^ 32
+    pass-few Idle k = omega (arith, alone)
+    pass-few (Window side) k = omega (arith, alone)
+    pass-few (QueuePutRead window scan) k = omega (arith, alone)
+    pass-few (QueueTakeRead window bare scan sum) k =
+        omega (arith, sum-few good (inv .pool), summed-le (summed-more g (s .first) (subIn s i) scan sum index (k .scan-lt) (k .read .sums)))
+    pass-few (StackRead side window version scan sum) k = absurd k
+    pass-few (Check side version seen) k = absurd k
+    pass-few (QueueCommit side seen) k = omega (arith, alone)
+    pass-few (StackCommit side seen) k = absurd k
+    pass-few (QueueShift side window) k = omega (arith, alone)
+    pass-few (StackShift side version scan sum) k = absurd k
+    pass-few (Confirm side scan sum) k = omega (arith, alone)
+
+    pass-safe : sumSoFar (phaseIn g s i) + counted g (viewIn s i) < 2 ^ 32
+    pass-safe = rw (counted-put g kind (viewIn s i)) (pass-few (phaseIn g s i) (inv .knows i))
+
+  -- ---- what follows
+  counts : (s : State) (q : Contents) → Inv g s q → Counts g s
+  counts s q inv =
+      let o = inv .pool .windows in
+      record {
+        sub = λ j l. record {
+          queue-order = λ e. o .held j l;
+          queue-rows = λ e. omega (arith, o .put-le j l, o .taken-ge j l, o .room);
+          stack-rows = λ e. absurd (omega arith);
+        };
+        first-few = put-few good (inv .pool);
+        second-few = taken-few good (inv .pool);
+      }
+
+  safe : (s : State) (q : Contents) → Common g s → Inv g s q → Safe g s
+  safe s q common inv =
+      record {
+        puts = omega (arith, inv .pool .puts-few, inv .pool .steps-few);
+        top = omega (arith, top-few good (inv .pool), good .bounds .depth64);
+        mark = omega (arith, mark-few good (inv .pool), good .bounds .depth64);
+        first = λ j l. omega (arith, put-few good (inv .pool) j l);
+        second = λ j l. omega (arith, taken-few good (inv .pool) j l);
+        pass = pass-safe s q common inv;
+        able = λ i. stepped s q common inv i .able;
+      }
+
+pub queueKind : (g : Settings) → Good g → g .kind ≡ 0 → Kind g
+queueKind g good kind =
+    record {
+      Inv = Inv g;
+      Snap = Snap g;
+      at-first = at-first g good kind;
+      begins = λ s q common inv i e side v. begins g good kind s q inv i side v;
+      begins-kept = begins-kept g good kind;
+      steps = λ s q common inv i l few. stepped g good kind s q common inv i .turn few;
+      counts = counts g good kind;
+      holding = λ s q inv. record { held = holds-below g kind s q (inv .pool); count = inv .pool .count };
+      safe = safe g good kind;
+    }

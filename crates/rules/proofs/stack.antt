@@ -1,0 +1,1 @@
+-- The stack's invariant, and why each of its steps keeps it.
