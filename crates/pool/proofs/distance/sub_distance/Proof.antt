@@ -1,53 +1,39 @@
-use Rattle.rules.proofs.Cells.{rows-pos, sub-cells-le, count-append, held-fits, held-one-run, held-two-runs}
-use Rattle.rules.specs.Held.{rowsBelow, heldSub, countItems, cellItems, passedOver}
-use Rattle.rules.specs.Layout.{cellsAt, firstOf, secondOf}
+-- `pool::distance::sub_distance` meets its contract: the held rows of a sub are one straight run of cells, or two, and each run's count is what its call ensures.
 use native.Mathlib.Nat.{mod-lt}
-use mathlib.Core.Path.{_≡_, sym, ap, _∙_}
-use Prim.Native.Nat.{_+_, _*_, _-_, _%_, _^_, _≤_, _<_}
-use Rattle.laws.specs.Choice.{cond}
+use mathlib.Core.Path.{ap, sym, _∙_, _≡_}
+use Prim.Native.Nat.{_%_, _*_, _+_, _-_, _<_, _^_, _≤_}
 use native.Mathlib.Omega.{arith}
 use borrow.Author.Needs.{needs}
+use Rattle.rules.proofs.Cells.{count-append, held-fits, held-one-run, held-two-runs, rows-pos, sub-cells-le}
+use Rattle.rules.specs.Held.{cellItems, countItems, heldSub, passedOver, rowsBelow}
+use Rattle.rules.specs.Layout.{cellsAt, firstOf, secondOf}
 use Rattle.pool.proofs.distance.sub_distance.Statement.{statement}
 use Rattle.pool.proofs.distance.sub_distance.Tie as tie
-use Rattle.pool.proofs.distance.sub_distance.Reads as reads
-use Rattle.pool.proofs.distance.sub_distance.Lts as lts
-use Rattle.pool.proofs.cells.sub_cells.Reads as sub-cells-reads
-use Rattle.pool.proofs.distance.rows_below.Reads as rows-below-reads
-use Rattle.pool.proofs.distance.run_distance.Reads as run-distance-reads
 
--- src/distance.rt:50:20
 mul-sub : tie.Need-mul-sub
 mul-sub c = search needs
 
--- src/distance.rt:50:15
 add-sub : tie.Need-add-sub
 add-sub c = search needs
 
--- src/distance.rt:51:37
 add-rows-below : tie.Need-add-rows-below
 add-rows-below c = search needs
 
--- src/distance.rt:51:31
 mul-rows-below : tie.Need-mul-rows-below
 mul-rows-below c = search needs
 
--- src/distance.rt:51:31
 shared-slice-read-rows-below : tie.Need-shared-slice-read-rows-below
 shared-slice-read-rows-below c = search needs
 
--- src/distance.rt:51:9
 rows-below-requires : tie.Need-rows-below-requires
 rows-below-requires c κs = search needs
 
--- src/distance.rt:52:17
 mul-held : tie.Need-mul-held
 mul-held c = search needs
 
--- src/distance.rt:52:17
 shared-slice-read-held : tie.Need-shared-slice-read-held
 shared-slice-read-held c = search needs
 
--- src/distance.rt:52:17
 sub-held : tie.Need-sub-held
 sub-held c =
     let s = c .before .before .before .before in
@@ -57,7 +43,6 @@ sub-held c =
     let low : t ≤ firstOf (s .args .words .now) (s .args .j) = omega (arith, f .0) in
     omega arith
 
--- src/distance.rt:52:16
 cast-held : tie.Need-cast-held
 cast-held c =
     let s = c .before .before .before .before in
@@ -68,23 +53,18 @@ cast-held c =
     let most : firstOf (s .args .words .now) (s .args .j) - t ≤ s .args .g .rows = omega (arith, f .1) in
     omega arith
 
--- src/distance.rt:53:16
 cast-rows : tie.Need-cast-rows
 cast-rows c = search needs
 
--- src/distance.rt:54:9
 sub-cells-requires : tie.Need-sub-cells-requires
 sub-cells-requires c κs = search needs
 
--- src/distance.rt:55:18
 cast-start : tie.Need-cast-start
 cast-start c = search needs
 
--- src/distance.rt:55:17
 rem-start : tie.Need-rem-start
 rem-start c = search needs
 
--- src/distance.rt:56:16
 sub-room : tie.Need-sub-room
 sub-room c =
     let s = c .before .before .before .before .before .before in
@@ -97,7 +77,6 @@ sub-room c =
     let cells = sub-cells-le (s .args .g) (s .args .j) (s .pre .1 .0 .1) in
     omega arith
 
--- src/distance.rt:58:43
 mul-run-distance : tie.Need-mul-run-distance
 mul-run-distance c =
     let s = c .before .before .before .before .before .before .before in
@@ -110,7 +89,6 @@ mul-run-distance c =
     let cells = sub-cells-le (s .args .g) (s .args .j) (s .pre .1 .0 .1) in
     omega arith
 
--- src/distance.rt:58:36
 add-run-distance : tie.Need-add-run-distance
 add-run-distance c =
     let s = c .before .before .before .before .before .before .before in
@@ -123,7 +101,6 @@ add-run-distance c =
     let cells = sub-cells-le (s .args .g) (s .args .j) (s .pre .1 .0 .1) in
     omega (arith, c .before .sub-cells .ensures)
 
--- src/distance.rt:58:9
 run-distance-requires : tie.Need-run-distance-requires
 run-distance-requires c κs =
     let s = c .before .before .before .before .before .before .before in
@@ -136,7 +113,6 @@ run-distance-requires c κs =
     let cells = sub-cells-le (s .args .g) (s .args .j) (s .pre .1 .0 .1) in
     (omega (arith, c .before .sub-cells .ensures), omega arith)
 
--- src/distance.rt:58:9
 returns : tie.Need-returns
 unfolding heldSub
 returns c =
@@ -152,7 +128,6 @@ returns c =
     let run = simp (c .before .before .sub-cells .ensures) at (c .run-distance .ensures .0) in
     (run ∙ ap (countItems _) (sym (held-one-run (s .args .words .now) (s .args .g) (s .args .j) t e few low start (c .before .if1 .taken))), omega arith)
 
--- src/distance.rt:60:32
 mul-run-distance-2 : tie.Need-mul-run-distance-2
 mul-run-distance-2 c =
     let s = c .before .before .before .before .before .before .before in
@@ -165,7 +140,6 @@ mul-run-distance-2 c =
     let cells = sub-cells-le (s .args .g) (s .args .j) (s .pre .1 .0 .1) in
     omega arith
 
--- src/distance.rt:60:25
 add-run-distance-2 : tie.Need-add-run-distance-2
 add-run-distance-2 c =
     let s = c .before .before .before .before .before .before .before in
@@ -178,7 +152,6 @@ add-run-distance-2 c =
     let cells = sub-cells-le (s .args .g) (s .args .j) (s .pre .1 .0 .1) in
     omega (arith, c .before .sub-cells .ensures)
 
--- src/distance.rt:60:5
 run-distance-requires-2 : tie.Need-run-distance-requires-2
 run-distance-requires-2 c κs =
     let s = c .before .before .before .before .before .before .before in
@@ -191,11 +164,9 @@ run-distance-requires-2 c κs =
     let cells = sub-cells-le (s .args .g) (s .args .j) (s .pre .1 .0 .1) in
     (omega (arith, c .before .sub-cells .ensures), omega arith)
 
--- src/distance.rt:60:88
 sub-run-distance : tie.Need-sub-run-distance
 sub-run-distance c = search needs
 
--- src/distance.rt:60:62
 run-distance-requires-3 : tie.Need-run-distance-requires-3
 run-distance-requires-3 c κs =
     let s = c .before .before .before .before .before .before .before .before in
@@ -208,7 +179,6 @@ run-distance-requires-3 c κs =
     let cells = sub-cells-le (s .args .g) (s .args .j) (s .pre .1 .0 .1) in
     (omega (arith, c .before .before .sub-cells .ensures), omega arith)
 
--- src/distance.rt:60:5
 add-result : tie.Need-add-result
 add-result c =
     let s = c .before .before .before .before .before .before .before .before .before in
@@ -221,7 +191,6 @@ add-result c =
     let cells = sub-cells-le (s .args .g) (s .args .j) (s .pre .1 .0 .1) in
     omega arith
 
--- src/distance.rt:44:1
 returns-2 : tie.Need-returns-2
 unfolding heldSub
 returns-2 c =
