@@ -1,1 +1,4 @@
 -- The stack's invariant, and why each of its steps keeps it.
+pub mod Inv
+pub mod After
+pub mod Moves
