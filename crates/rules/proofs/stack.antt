@@ -2,3 +2,6 @@
 pub mod Inv
 pub mod After
 pub mod Moves
+pub mod Corridor
+pub mod Shift
+pub mod Confirm

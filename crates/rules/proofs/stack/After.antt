@@ -15,7 +15,7 @@ use Rattle.rules.specs.declared.Phase.{Phase}
 use Rattle.rules.specs.declared.Phase.the-variants.{Idle, Window, QueuePutRead, QueueTakeRead, StackRead, Check, QueueCommit, StackCommit, QueueShift, StackShift, Confirm}
 use Rattle.rules.specs.declared.Worker.{Worker}
 use Rattle.rules.specs.declared.Slot.{Slot}
-use Rattle.rules.proofs.Sums.{upd, upd-other, upd-all}
+use Rattle.rules.proofs.Sums.{upd, upd-same, upd-other, upd-all}
 use Rattle.rules.proofs.Order.{Next, pending, Others, walks}
 use Rattle.rules.proofs.Machine.{State, subIn, viewIn, phaseIn, applyIn, nextIn, turnedIn, apply-moved}
 use Rattle.rules.proofs.Phases.{OfStack, operationOf, statusOf, worker, stack-phase, encode-value, encode-index}
@@ -71,6 +71,12 @@ module _ (g : Settings) (kind : g .kind ≡ 1) (s t : State) (i : ℕ) (k : Work
             (λ u. rw (stack-phase g kind k of o, encode-index k o) own)
             (λ n. same j (phaseIn g s j) (inv .knows j)));
       }
+
+  -- and if that phase is a confirm, it has its link
+  pub snap-after : (s₀ : State) (q₀ : Contents) → SnapAt g (s₀ .second) q₀ (t .second) (k .index) (k .phase) → Snap g s₀ q₀ i t
+  snap-after s₀ q₀ z =
+      subst (λ (x : Slot). SnapAt g (s₀ .second) q₀ (t .second) (x .index) (phaseOf (g .kind) x))
+      (sym (ap (λ (f : ℕ → Slot). f i) e ∙ upd-same (s .slot) i (encode k o))) (rw (stack-phase g kind k of o, encode-index k o) z)
 
 -- ---- a step that changes nothing that is shared
 pub pool-still : (g : Settings) {s : State} {q : Contents} {ghost : Ghost} (i : ℕ) (x : Slot) → Pool g s q ghost → Pool g (turnedIn s i (s .top) (s .mark) x) q ghost
