@@ -5,3 +5,7 @@ pub mod Moves
 pub mod Corridor
 pub mod Shift
 pub mod Confirm
+pub mod Commit
+pub mod Put
+pub mod Distance
+pub mod Take

@@ -2,9 +2,11 @@
 -- and that the others know as much as before. Most steps change nothing that is shared, and these only walk.
 use mathlib.Core.Path.{_≡_, refl, sym, ap, ap₂, _∙_, subst}
 use mathlib.Core.Logic.{_≢_}
+use mathlib.Core.List.{List}
 use Prim.Native.Nat.{ℕ, suc, _+_, _≤_, _<_}
 use native.Mathlib.Nat.{le-refl}
 use native.Mathlib.Omega.{arith}
+use Rattle.rules.specs.Held.{Item}
 use Rattle.rules.specs.Worker.{phaseOf, encode}
 use Rattle.rules.specs.Effects.{movedOf, restartOf}
 use Rattle.rules.specs.Sequential.{Operation, Contents}
@@ -15,13 +17,43 @@ use Rattle.rules.specs.declared.Phase.{Phase}
 use Rattle.rules.specs.declared.Phase.the-variants.{Idle, Window, QueuePutRead, QueueTakeRead, StackRead, Check, QueueCommit, StackCommit, QueueShift, StackShift, Confirm}
 use Rattle.rules.specs.declared.Worker.{Worker}
 use Rattle.rules.specs.declared.Slot.{Slot}
-use Rattle.rules.proofs.Sums.{upd, upd-same, upd-other, upd-all}
+use Rattle.rules.specs.declared.Effect.{Effect}
+use Rattle.rules.proofs.Sums.{upd, upd-same, upd-other, upd-all, sumN, sum-gap-at, sum-zero}
 use Rattle.rules.proofs.Order.{Next, pending, Others, walks}
-use Rattle.rules.proofs.Machine.{State, subIn, viewIn, phaseIn, applyIn, nextIn, turnedIn, apply-moved}
+use Rattle.rules.proofs.Machine.{State, belowIn, subIn, viewIn, phaseIn, applyIn, nextIn, turnedIn, apply-moved}
 use Rattle.rules.proofs.Phases.{OfStack, operationOf, statusOf, worker, stack-phase, encode-value, encode-index}
 use Rattle.rules.proofs.Passes.{pass-grow}
-use Rattle.rules.proofs.Turns.{statusIn, status-here, status-other, Turned}
-use Rattle.rules.proofs.stack.Inv.{Ghost, Sight, sight, Few, Pool, Knows, Inv, SnapAt, Snap}
+use Rattle.rules.proofs.Held.{Holds, holds-ext}
+use Rattle.rules.proofs.Good.{Good, stack-below}
+use Rattle.rules.proofs.Turns.{Common, statusIn, status-here, status-other, Turned}
+use Rattle.rules.proofs.stack.Inv.{Ghost, Sight, sight, Pool, Knows, Inv, SnapAt, Snap}
+
+-- ---- what a pool from make has: no count is near 2^32, and the list is what the rows from 1 to the held ones have
+module _ {g : Settings} {s : State} {q : Contents} {ghost : Ghost} (o : Pool g s q ghost) where
+  pub versions-few : s .mark + sumN (s .second) (g .width) ≤ 4000000000
+  versions-few = omega (arith, o .few .changes, o .few .steps)
+
+  pub version-few : (j : ℕ) → j < g .width → s .second j ≤ 4000000000
+  version-few j l =
+      omega (arith, versions-few, sum-zero (g .width), sum-gap-at (λ m. 0) (s .second) (g .width) j (s .second j) l (λ m u. omega arith) (omega arith))
+
+  pub held-le : (j : ℕ) → j < g .width → s .first j ≤ g .rows
+  held-le j l = omega (arith, o .corridor .high j l, o .window .lo-rows)
+
+  pub held-rows : g .kind ≡ 1 → Holds (g .width) (λ j. 0) (s .first) (s .item) (q .items)
+  held-rows kind = holds-ext (λ j l. stack-below g kind (s .second j)) (λ j l. refl) (o .holding .held)
+
+pub rows-held : (g : Settings) → g .kind ≡ 1 → (s : State) (xs : List Item) → Holds (g .width) (λ j. 0) (s .first) (s .item) xs
+    → Holds (g .width) (belowIn g s) (s .first) (s .item) xs
+rows-held g kind s xs h = holds-ext (λ j l. sym (stack-below g kind (s .second j))) (λ j l. refl) h
+
+-- ---- the step at hand: worker i's in state s, not refused before its rule, with q on the list
+pub record Stepping (g : Settings) (s : State) (q : Contents) (i : ℕ) : Type 0 where
+  pub good : Good g
+  pub kind : g .kind ≡ 1
+  pub common : Common g s
+  pub inv : Inv g s q
+  pub time : s .steps < 4000000000
 
 -- versions only grow, so a confirming worker's link is kept
 snap-grow : (g : Settings) (h₀ : ℕ → ℕ) (q₀ : Contents) (h h′ : ℕ → ℕ) (index : ℕ) (p : Phase) → ((j : ℕ) → h j ≤ h′ j)
@@ -51,82 +83,83 @@ others g s t i x e up =
     }
 
 -- ---- worker i is written with a phase of the stack
-module _ (g : Settings) (kind : g .kind ≡ 1) (s t : State) (i : ℕ) (k : Worker) (o : Slot) (e : t .slot ≡ upd (s .slot) i (encode k o))
-    (of : OfStack (k .phase)) where
+module _ {g : Settings} {s : State} {q : Contents} {i : ℕ} (a : Stepping g s q i) (t : State) (k : Worker) (o : Slot)
+    (e : t .slot ≡ upd (s .slot) i (encode k o)) (of : OfStack (k .phase)) where
   pub status-after : statusIn g t i ≡ statusOf (k .value) (k .phase)
   status-after =
       ap (λ (f : ℕ → Slot). statusOf (f i .value) (phaseOf (g .kind) (f i))) e ∙ status-here g (s .slot) i (encode k o)
-      ∙ ap₂ statusOf (encode-value k o) (stack-phase g kind k of o)
+      ∙ ap₂ statusOf (encode-value k o) (stack-phase g (a .kind) k of o)
 
-  pub inv-after : {q q′ : Contents} (inv : Inv g s q) (ghost : Ghost) → Pool g t q′ ghost
-      → ((j : ℕ) (p : Phase) → Knows g (sight s) (inv .ghost) (subIn s j) p → Knows g (sight t) ghost (subIn s j) p)
+  pub inv-after : (q′ : Contents) (ghost : Ghost) → Pool g t q′ ghost
+      → ((j : ℕ) (p : Phase) → Knows g (sight s) (a .inv .ghost) (subIn s j) p → Knows g (sight t) ghost (subIn s j) p)
       → Knows g (sight t) ghost (k .index) (k .phase) → Inv g t q′
-  inv-after inv ghost pool same own =
+  inv-after q′ ghost pool same own =
       record {
         ghost = ghost;
         pool = pool;
         knows = λ j.
             subst (λ (f : ℕ → Slot). Knows g (sight t) ghost (f j .index) (phaseOf (g .kind) (f j))) (sym e)
             (upd-all (λ n (x : Slot). Knows g (sight t) ghost (x .index) (phaseOf (g .kind) x)) (s .slot) i (encode k o) j
-            (λ u. rw (stack-phase g kind k of o, encode-index k o) own)
-            (λ n. same j (phaseIn g s j) (inv .knows j)));
+            (λ u. rw (stack-phase g (a .kind) k of o, encode-index k o) own)
+            (λ n. same j (phaseIn g s j) (a .inv .knows j)));
       }
 
   -- and if that phase is a confirm, it has its link
   pub snap-after : (s₀ : State) (q₀ : Contents) → SnapAt g (s₀ .second) q₀ (t .second) (k .index) (k .phase) → Snap g s₀ q₀ i t
   snap-after s₀ q₀ z =
       subst (λ (x : Slot). SnapAt g (s₀ .second) q₀ (t .second) (x .index) (phaseOf (g .kind) x))
-      (sym (ap (λ (f : ℕ → Slot). f i) e ∙ upd-same (s .slot) i (encode k o))) (rw (stack-phase g kind k of o, encode-index k o) z)
+      (sym (ap (λ (f : ℕ → Slot). f i) e ∙ upd-same (s .slot) i (encode k o))) (rw (stack-phase g (a .kind) k of o, encode-index k o) z)
 
--- ---- a step that changes nothing that is shared
-pub pool-still : (g : Settings) {s : State} {q : Contents} {ghost : Ghost} (i : ℕ) (x : Slot) → Pool g s q ghost → Pool g (turnedIn s i (s .top) (s .mark) x) q ghost
-pool-still g i x o =
-    record {
-      window = o .window;
-      corridor = o .corridor;
-      eras = o .eras;
-      few = record { puts = o .few .puts; steps = omega (arith, o .few .steps) };
-      stamps = o .stamps;
-      pairs = o .pairs;
-      holding = record { held = o .holding .held; count = o .holding .count };
-    }
+-- ---- steps that change nothing that is shared
+-- the worker at an index in a phase, and the state in which it is there and all else is as it was
+abbrev pub moves : State → ℕ → ℕ → Phase → Worker
+moves s i index p = worker (s .slot i .value) index p
 
-module _ (g : Settings) (kind : g .kind ≡ 1) (s : State) (q : Contents) (inv : Inv g s q) (i : ℕ) where
+abbrev pub still : State → ℕ → Worker → Slot → State
+still s i k kept = turnedIn s i (s .top) (s .mark) (encode k kept)
+
+module _ {g : Settings} {s : State} {q : Contents} {i : ℕ} (a : Stepping g s q i) where
   abbrev pub Steps : Next State → Type 0
   Steps o = Turned g (Inv g) (Snap g) s q (step i) o
 
+  abbrev pub On : Effect → Type 0
+  On x = Steps (applyIn g s i x)
+
   -- what the worker knows in its phase, and how far it is
-  pub known : {p : Phase} → phaseIn g s i ≡ p → Knows g (sight s) (inv .ghost) (subIn s i) p
-  known e = rw e at (inv .knows i)
+  pub known : {p : Phase} → phaseIn g s i ≡ p → Knows g (sight s) (a .inv .ghost) (subIn s i) p
+  known e = rw e at (a .inv .knows i)
 
   pub status-at : {p : Phase} → phaseIn g s i ≡ p → statusIn g s i ≡ statusOf (s .slot i .value) p
   status-at e = ap (statusOf (s .slot i .value)) e
 
-  -- the worker at an index in a phase, and the state in which it is there and all else is as it was
-  abbrev pub moves : ℕ → Phase → Worker
-  moves index p = worker (s .slot i .value) index p
+  pub others-still : (k : Worker) (kept : Slot) → Others g (nextIn g) (statusIn g) (Inv g) (Snap g) s i (still s i k kept)
+  others-still k kept = others g s (still s i k kept) i (encode k kept) refl (λ j. le-refl _)
 
-  abbrev pub still : Worker → Slot → State
-  still k kept = turnedIn s i (s .top) (s .mark) (encode k kept)
-
-  pub inv-still : (k : Worker) (kept : Slot) → OfStack (k .phase) → Knows g (sight s) (inv .ghost) (k .index) (k .phase) → Inv g (still k kept) q
+  pub inv-still : (k : Worker) (kept : Slot) → OfStack (k .phase) → Knows g (sight s) (a .inv .ghost) (k .index) (k .phase) → Inv g (still s i k kept) q
   inv-still k kept of own =
-      inv-after g kind s (still k kept) i k kept refl of inv (inv .ghost) (pool-still g i (encode k kept) (inv .pool)) (λ j p h. h) own
-
-  pub others-still : (k : Worker) (kept : Slot) → Others g (nextIn g) (statusIn g) (Inv g) (Snap g) s i (still k kept)
-  others-still k kept = others g s (still k kept) i (encode k kept) refl (λ j. le-refl _)
+      let o = a .inv .pool in
+      inv-after a (still s i k kept) k kept refl of q (a .inv .ghost)
+      (record {
+        window = o .window;
+        corridor = o .corridor;
+        eras = o .eras;
+        few = record { puts = o .few .puts; changes = omega (arith, o .few .changes); steps = a .time };
+        stamps = o .stamps;
+        pairs = o .pairs;
+        holding = record { held = o .holding .held; count = o .holding .count };
+      }) (λ j p h. h) own
 
   -- a step within an operation that is not tried yet
   pub walk : {p₀ : Phase} → phaseIn g s i ≡ p₀ → (side : Side) → statusOf (s .slot i .value) p₀ ≡ pending (operationOf side (s .slot i .value))
       → (index : ℕ) (p : Phase) (kept : Slot) → statusOf (s .slot i .value) p ≡ pending (operationOf side (s .slot i .value)) → OfStack p
-      → Knows g (sight s) (inv .ghost) index p → Steps (applyIn g s i (movedOf (viewIn s i) index p kept))
-  walk e side a index p kept b of own =
+      → Knows g (sight s) (a .inv .ghost) index p → On (movedOf (viewIn s i) index p kept)
+  walk e side u index p kept v of own =
       rw (apply-moved g s i index p kept)
-      (walks i (operationOf side (s .slot i .value)) refl refl (status-at e ∙ a)
-      (status-after g kind s (still (moves index p) kept) i (moves index p) kept refl of ∙ b)
-      (others-still (moves index p) kept) (inv-still (moves index p) kept of own))
+      (walks i (operationOf side (s .slot i .value)) refl refl (status-at e ∙ u)
+      (status-after a (still s i (moves s i index p) kept) (moves s i index p) kept refl of ∙ v)
+      (others-still (moves s i index p) kept) (inv-still (moves s i index p) kept of own))
 
   -- a restart, from whatever index
   pub restart : {p₀ : Phase} → phaseIn g s i ≡ p₀ → (side : Side) → statusOf (s .slot i .value) p₀ ≡ pending (operationOf side (s .slot i .value))
-      → (index : ℕ) → Steps (applyIn g s i (restartOf (viewIn s i) index side))
-  restart e side a index = walk e side a index (Window side) (s .slot i) refl tt tt
+      → (index : ℕ) → On (restartOf (viewIn s i) index side)
+  restart e side u index = walk e side u index (Window side) (s .slot i) refl tt tt

@@ -15,6 +15,7 @@ use Rattle.rules.specs.declared.Side.{Side}
 use Rattle.rules.specs.declared.Side.the-variants.{Putting, Taking}
 use Rattle.rules.specs.declared.Phase.{Phase}
 use Rattle.rules.specs.declared.Phase.the-variants.{Idle, Window, QueuePutRead, QueueTakeRead, StackRead, Check, QueueCommit, StackCommit, QueueShift, StackShift, Confirm}
+use Rattle.rules.proofs.Sums.{upd, upd-all}
 use Rattle.rules.proofs.Passes.{summed-grow}
 use Rattle.rules.proofs.stack.Inv.{Ghost, Sight, Hit, Missed, Near, Fits, Windowed, Corridor, Left, Passed, Reading, Checking, Committing, Shifting, Knows}
 
@@ -92,6 +93,41 @@ module _ {g : Settings} {v : Sight} {ghost : Ghost} {j : ℕ} {held′ version�
     knows-touched index (QueueShift side window) k = k
     knows-touched index (StackShift side version scan sum) k = record { scan-is = k .scan-is; passed = passed-touched (k .passed) }
     knows-touched index (Confirm side scan sum) k = k
+
+-- ---- the corridor after a commit
+abbrev pub countAfter : Side → ℕ → ℕ
+countAfter Putting c = suc c
+countAfter Taking c = c - 1
+
+pub corridor-after-commit : (g : Settings) (side : Side) (held : ℕ → ℕ) (lo j : ℕ) → Fits g side lo (held j) → Corridor g held lo
+    → Corridor g (upd held j (countAfter side (held j))) lo
+corridor-after-commit g side held lo j fits c =
+    record {
+      high = λ m l. upd-all (λ n (x : ℕ). x ≤ lo + g .shift) held j _ m (λ e. high side fits (rw e at (c .high m l))) (λ n. c .high m l);
+      low = λ m l. upd-all (λ n (x : ℕ). lo ≤ x + g .depth) held j _ m (λ e. low side fits (rw e at (c .low m l))) (λ n. c .low m l);
+    }
+  where
+    high : (a : Side) → Fits g a lo (held j) → held j ≤ lo + g .shift → countAfter a (held j) ≤ lo + g .shift
+    high Putting f l = f
+    high Taking f l = omega arith
+
+    low : (a : Side) → Fits g a lo (held j) → lo ≤ held j + g .depth → lo ≤ countAfter a (held j) + g .depth
+    low Putting f l = omega arith
+    low Taking f l = omega arith
+
+-- what a pass left behind at sub j is near still after a commit there, which checked the present window if the sub has
+-- changed since the last shift
+pub left-after-commit : (g : Settings) → Bounds g → (v : Sight) (ghost : Ghost) (side : Side) (j : ℕ)
+    → (ghost .era j < v .version j → Hit g side (v .window) (v .held j))
+    → (a : Side) (read : ℕ) → Left g v ghost a read j → Near g a (v .window) (countAfter side (v .held j))
+left-after-commit g b v ghost Putting j hit Putting read (inl m) = omega arith
+left-after-commit g b v ghost Putting j hit Taking read (inl m) = omega (arith, b .depth1)
+left-after-commit g b v ghost Taking j hit Putting read (inl m) = omega (arith, b .depth1)
+left-after-commit g b v ghost Taking j hit Taking read (inl m) = omega arith
+left-after-commit g b v ghost Putting j hit Putting read (inr m) = omega (arith, m .2)
+left-after-commit g b v ghost Putting j hit Taking read (inr m) = hit (m .1)
+left-after-commit g b v ghost Taking j hit Putting read (inr m) = omega (arith, hit (m .1))
+left-after-commit g b v ghost Taking j hit Taking read (inr m) = omega (arith, m .2)
 
 -- ---- a shift
 -- where the window goes, with the corridor; where it can go, and where not

@@ -82,7 +82,8 @@ pub record Pairs (g : Settings) (held : ℕ → ℕ) (item : ℕ → ℕ → Ite
 -- each put changes a version, and each change of a version costs a step
 pub record Few (g : Settings) (s : State) : Type 0 where
   pub puts : s .puts ≤ sumN (s .second) (g .width)
-  pub steps : s .mark + sumN (s .second) (g .width) ≤ s .steps
+  pub changes : s .mark + sumN (s .second) (g .width) ≤ s .steps
+  pub steps : s .steps ≤ 4000000000
 
 pub record Pool (g : Settings) (s : State) (q : Contents) (ghost : Ghost) : Type 0 where
   pub window : Windowed g (s .top) (ghost .lo)
