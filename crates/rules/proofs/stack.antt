@@ -9,3 +9,5 @@ pub mod Commit
 pub mod Put
 pub mod Distance
 pub mod Take
+pub mod Safe
+pub mod Turn
