@@ -24,3 +24,5 @@ pub mod Tried
 pub mod Transfer
 pub mod Runs
 pub mod Orders
+pub mod Theorem
+pub mod Corollaries
