@@ -1,15 +1,14 @@
 -- What is left to show of a step once the new state is known: the pool's part of the invariant, what the stepping worker knows,
 -- and that the others know as much as before. Most steps change nothing that is shared, and these only walk.
 use mathlib.Core.Path.{_≡_, refl, sym, ap, ap₂, _∙_, subst}
-use mathlib.Core.Logic.{_≢_}
 use mathlib.Core.List.{List}
-use Prim.Native.Nat.{ℕ, suc, _+_, _≤_, _<_}
+use Prim.Native.Nat.{ℕ, _+_, _≤_, _<_}
 use native.Mathlib.Nat.{le-refl}
 use native.Mathlib.Omega.{arith}
 use Rattle.rules.specs.Held.{Item}
 use Rattle.rules.specs.Worker.{phaseOf, encode}
 use Rattle.rules.specs.Effects.{movedOf, restartOf}
-use Rattle.rules.specs.Sequential.{Operation, Contents}
+use Rattle.rules.specs.Sequential.{Contents}
 use Rattle.rules.specs.Run.{step}
 use Rattle.rules.specs.declared.Settings.{Settings}
 use Rattle.rules.specs.declared.Side.{Side}
@@ -26,7 +25,7 @@ use Rattle.rules.proofs.Passes.{pass-grow}
 use Rattle.rules.proofs.Held.{Holds, holds-ext}
 use Rattle.rules.proofs.Good.{Good, stack-below}
 use Rattle.rules.proofs.Turns.{Common, statusIn, status-here, status-other, Turned}
-use Rattle.rules.proofs.stack.Inv.{Ghost, Sight, sight, Pool, Knows, Inv, SnapAt, Snap}
+use Rattle.rules.proofs.stack.Inv.{Ghost, sight, Pool, Knows, Inv, SnapAt, Snap}
 
 -- ---- what a pool from make has: no count is near 2^32, and the list is what the rows from 1 to the held ones have
 module _ {g : Settings} {s : State} {q : Contents} {ghost : Ghost} (o : Pool g s q ghost) where
@@ -36,6 +35,12 @@ module _ {g : Settings} {s : State} {q : Contents} {ghost : Ghost} (o : Pool g s
   pub version-few : (j : ℕ) → j < g .width → s .second j ≤ 4000000000
   version-few j l =
       omega (arith, versions-few, sum-zero (g .width), sum-gap-at (λ m. 0) (s .second) (g .width) j (s .second j) l (λ m u. omega arith) (omega arith))
+
+  pub window-ge : g .depth ≤ s .top
+  window-ge = omega (arith, o .window .depth-lo, o .window .lo-window)
+
+  pub window-le : s .top ≤ g .rows
+  window-le = omega (arith, o .window .window-lo, o .window .lo-rows)
 
   pub held-le : (j : ℕ) → j < g .width → s .first j ≤ g .rows
   held-le j l = omega (arith, o .corridor .high j l, o .window .lo-rows)

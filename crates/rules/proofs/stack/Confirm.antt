@@ -1,12 +1,11 @@
 -- The confirm step: one sub's version is subtracted, and after the last one nothing is left only if no version had changed at
 -- the worker's linearization point since it was read; then the list there was empty, or full, as the answer says.
-use mathlib.Core.Path.{_≡_, refl, _∙_}
-use mathlib.Core.Bool.{true, false}
-use Prim.Native.Nat.{ℕ, suc, _+_, _^_, _≤_, _<_}
+use mathlib.Core.Path.{_≡_, refl}
+use Prim.Native.Nat.{ℕ, suc, _^_, _<_}
 use native.Mathlib.Omega.{arith}
 use borrow.Author.Tests.{ltb-true, ltb-false, eqb-true}
 use lib.Dec.{ltb, eqb}
-use Rattle.laws.specs.Choice.{cond, cond-false, cases}
+use Rattle.laws.specs.Choice.{cond-false, cases}
 use Rattle.laws.specs.Wrap.{add32, sub32}
 use Rattle.rules.specs.Worker.{zeroSlot}
 use Rattle.rules.specs.Effects.{movedOf, finishedOf, nothingFor, nextOf}
@@ -17,7 +16,6 @@ use Rattle.rules.specs.Run.{Final}
 use Rattle.rules.specs.declared.Settings.{Settings}
 use Rattle.rules.specs.declared.Side.{Side}
 use Rattle.rules.specs.declared.Side.the-variants.{Putting, Taking}
-use Rattle.rules.specs.declared.Phase.{Phase}
 use Rattle.rules.specs.declared.Phase.the-variants.{Idle, Window, Confirm}
 use Rattle.rules.specs.declared.Worker.{Worker}
 use Rattle.rules.specs.declared.Slot.{Slot}

@@ -3,7 +3,7 @@
 -- still left behind. A shift comes after a pass that left every sub behind, so the corridor moves with it; a worker
 -- live at that moment checked the window that now moves, or its sub has not changed since the shift before, and
 -- then the pass found it so far off that its commit stays in the new corridor.
-use mathlib.Core.Path.{_≡_, refl, _∙_}
+use mathlib.Core.Path.{_≡_, _∙_}
 use mathlib.Core.Logic.{_≢_, _⊎_, inl, inr}
 use Prim.Native.Nat.{ℕ, zero, suc, _+_, _-_, _*_, _≤_, _<_}
 use native.Mathlib.Nat.{le-refl, le-trans}
@@ -17,7 +17,7 @@ use Rattle.rules.specs.declared.Phase.{Phase}
 use Rattle.rules.specs.declared.Phase.the-variants.{Idle, Window, QueuePutRead, QueueTakeRead, StackRead, Check, QueueCommit, StackCommit, QueueShift, StackShift, Confirm}
 use Rattle.rules.proofs.Sums.{upd, upd-all}
 use Rattle.rules.proofs.Passes.{summed-grow}
-use Rattle.rules.proofs.stack.Inv.{Ghost, Sight, Hit, Missed, Near, Fits, Windowed, Corridor, Left, Passed, Reading, Checking, Committing, Shifting, Knows}
+use Rattle.rules.proofs.stack.Inv.{Ghost, Sight, Hit, Near, Fits, Windowed, Corridor, Left, Passed, Committing, Knows}
 
 -- ---- a commit at sub j
 -- the sub's version grows, the other subs stay, and what a pass left behind it still leaves behind

@@ -1,9 +1,9 @@
 -- The stack's invariant. All that the distance needs is one fact about every state, the corridor: each sub holds from lo - d to
 -- lo + s items, where lo is the lower of the window G and the G before its last shift. So a put lands at most d + s - 1 rows
 -- below any item there is, which bounds how far a newer item can lie below an older one (the pairs), and a take finds every
--- other sub at most d + s - 1 rows above its own row. The corridor is kept because a late commit, by a worker that checked an
--- earlier window, is live only in a sub to which nobody has committed since the last shift: there the pass that led to
--- that shift found the sub so high, or so low, that one commit more does not leave the corridor.
+-- other sub at most d + s - 1 rows above its own row. Late commits keep the corridor too: a worker that checked an earlier window
+-- is live only in a sub that has not changed since the last shift, and the pass that led to that shift found such a sub so
+-- high, or so low, that one commit more does not leave the corridor.
 use mathlib.Core.Path.{_≡_}
 use mathlib.Core.Logic.{_⊎_}
 use mathlib.Core.List.{[]}
@@ -61,7 +61,7 @@ Fits g Putting lo c = c < lo + g .shift
 Fits g Taking lo c = lo < c + g .depth
 
 -- ---- the pool
--- G is d and some shifts, and it is in the corridor's upper part, below which lies R
+-- G is d and some shifts; lo is G or a shift below it, and not below d; the corridor ends at R at the latest
 pub record Windowed (g : Settings) (window lo : ℕ) : Type 0 where
   pub shifts : ℕ
   pub window-is : window ≡ g .depth + shifts * g .shift

@@ -22,14 +22,13 @@ use Rattle.rules.specs.declared.Side.{Side}
 use Rattle.rules.specs.declared.Side.the-variants.{Putting, Taking}
 use Rattle.rules.specs.declared.Phase.the-variants.{Window, StackRead, Check, StackCommit, StackShift}
 use Rattle.rules.specs.declared.Version.{Version}
-use Rattle.rules.specs.declared.Slot.{Slot}
 use Rattle.rules.proofs.Sums.{sumN}
 use Rattle.rules.proofs.Machine.{State, subIn, viewIn, phaseIn}
 use Rattle.rules.proofs.Wraps.{add32-is, add32-suc, sub32-is}
 use Rattle.rules.proofs.Visits.{Visited, visited-none, visited-next}
 use Rattle.rules.proofs.Passes.{Summed, summed-start, summed-le, summed-more, summed-off}
 use Rattle.rules.proofs.stack.Inv.{Ghost, Sight, sight, Hit, Missed, Fits, Windowed, Left, Passed, Reading, Checking}
-use Rattle.rules.proofs.stack.After.{versions-few, Stepping, On, known, walk, restart}
+use Rattle.rules.proofs.stack.After.{versions-few, window-ge, window-le, Stepping, On, known, walk, restart}
 
 -- what a read adds to a pass's sum does not go above the sum of all versions
 pub sum-le-versions : {g : Settings} {v : Sight} {ghost : Ghost} {side : Side} {window version index scan sum : ℕ} → index < g .width
@@ -70,11 +69,10 @@ module _ {g : Settings} {s : State} {q : Contents} {i : ℕ} (a : Stepping g s q
   turn-window side e =
       let seen : cond (eqb (g .kind) 0) (queueSeen (viewIn s i) side) (stackSeen (viewIn s i) side) ≡ stackSeen (viewIn s i) side =
       rw (a .kind) (cond-false _ _) in
-      let o = a .inv .pool .window in
       rw seen (walk a e side refl j (stackSeen (viewIn s i) side) zeroSlot refl tt (record {
         scan-lt = a .good .bounds .width1;
-        depth-le = omega arith;
-        le-rows = omega arith;
+        depth-le = window-ge (a .inv .pool);
+        le-rows = window-le (a .inv .pool);
         same = λ u. refl;
         passed = record { began = le-refl _; summed = summed-start (g .width) (s .second) j; left = λ u m l x. absurd (visited-none l x) };
       }))

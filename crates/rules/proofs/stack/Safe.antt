@@ -2,17 +2,18 @@
 -- passes over few newer items, and no count reaches 2^32. A live put has held < lo + s ≤ R, and a live take held > lo - d ≥ 0.
 use mathlib.Core.Path.{_≡_, refl, sym}
 use mathlib.Core.Logic.{_≢_}
-use Prim.Native.Nat.{ℕ, suc, _+_, _*_, _^_, _≤_, _<_}
+use Prim.Native.Nat.{ℕ, _+_, _≤_}
 use native.Mathlib.Omega.{arith}
 use borrow.Author.Tests.{ltb-false, eqb-true}
 use lib.Dec.{ltb, eqb}
 use Rattle.laws.specs.Choice.{cond-false, cases}
 use Rattle.laws.specs.Wrap.{add32, sub32}
 use Rattle.rules.specs.Answers.{numberOf}
+use Rattle.rules.specs.Effects.{restartOf, hopOf, itemsHeld, subVersion}
 use Rattle.rules.specs.Window.{windowRule}
-use Rattle.rules.specs.Read.{stackRead, stackHit, missOf}
+use Rattle.rules.specs.Read.{stackRead, missOf}
 use Rattle.rules.specs.Check.{checkRule}
-use Rattle.rules.specs.Commit.{stackCommit, commitBy}
+use Rattle.rules.specs.Commit.{stackCommit, commitBy, landedOf, removedOf}
 use Rattle.rules.specs.Shift.{stackShift, shiftBy}
 use Rattle.rules.specs.Confirm.{counted, confirmRule, confirmedOf}
 use Rattle.rules.specs.Step.{ruleOf, ruleBy}
@@ -23,6 +24,7 @@ use Rattle.rules.specs.declared.Side.the-variants.{Putting, Taking}
 use Rattle.rules.specs.declared.Phase.{Phase}
 use Rattle.rules.specs.declared.Phase.the-variants.{Idle, Window, QueuePutRead, QueueTakeRead, StackRead, Check, QueueCommit, StackCommit, QueueShift, StackShift, Confirm}
 use Rattle.rules.specs.declared.Version.{Version}
+use Rattle.rules.specs.declared.View.{View}
 use Rattle.rules.specs.declared.Effect.{Effect}
 use Rattle.rules.specs.declared.Answer.{Answer}
 use Rattle.rules.specs.declared.Answer.the-variants.{Moving, Put, Taken, Empty, Full, Refused}
@@ -30,7 +32,7 @@ use Rattle.rules.proofs.Machine.{State, subIn, viewIn, phaseIn, applyIn
 use Rattle.rules.proofs.Good.{Good}
 use Rattle.rules.proofs.Turns.{Common, Safe, Counts, sumSoFar}
 use Rattle.rules.proofs.stack.Inv.{sight, Knows, Inv}
-use Rattle.rules.proofs.stack.After.{versions-few, version-few, held-le}
+use Rattle.rules.proofs.stack.After.{versions-few, version-few, window-le, held-le}
 use Rattle.rules.proofs.stack.Moves.{sum-le-versions}
 use Rattle.rules.proofs.stack.Put.{put-room}
 use Rattle.rules.proofs.stack.Distance.{mostNewer}
@@ -53,25 +55,40 @@ not-23 g Empty f = omega arith
 not-23 g Full f = omega arith
 not-23 g (Refused n) f = f
 
+-- ---- a commit lands or is lost, and is never refused
+abbrev pub landsOf : View → Side → Effect
+landsOf v Putting = landedOf v (add32 (itemsHeld v) 1) (add32 (subVersion v) 1) (add32 (itemsHeld v) 1)
+landsOf v Taking = removedOf v (sub32 (itemsHeld v) 1) (add32 (subVersion v) 1) (itemsHeld v)
+
 module _ {g : Settings} {s : State} {q : Contents} (good : Good g) (kind : g .kind ≡ 1) (common : Common g s) (inv : Inv g s q) where
+  pub commit-cases : (i : ℕ) (P : Effect → Type 0) (side : Side) (seen : Version) → phaseIn g s i ≡ StackCommit side seen
+      → (seen .0 ≡ s .second (subIn s i) → P (landsOf (viewIn s i) side)) → P (restartOf (viewIn s i) (hopOf g (subIn s i)) side)
+      → P (stackCommit g (viewIn s i) side seen)
+  unfolding stackCommit commitBy
+  commit-cases i P Putting seen e lands lost =
+      cases P (eqb (s .second (subIn s i)) (seen .0)) _ _
+      (λ u. cases P (ltb (s .first (subIn s i)) (g .rows)) _ _ (λ x. lands (sym (eqb-true _ _ u)))
+      (λ x. absurd (omega (arith, ltb-false, put-room inv i seen e (sym (eqb-true _ _ u))))))
+      (λ u. lost)
+  commit-cases i P Taking seen e lands lost =
+      cases P (eqb (s .second (subIn s i)) (seen .0)) _ _
+      (λ u. cases P (ltb 0 (s .first (subIn s i))) _ _ (λ x. lands (sym (eqb-true _ _ u)))
+      (λ x. absurd (omega (arith, ltb-false, take-row good kind inv i (common .slots i .index) seen e (sym (eqb-true _ _ u))))))
+      (λ u. lost)
+
   -- ---- answers
   module _ (i : ℕ) where
     abbrev F : Effect → Type 0
     F x = Fine g (applyIn g s i x .answer)
 
-    fine-commit : (side : Side) (seen : Version) → phaseIn g s i ≡ StackCommit side seen → F (stackCommit g (viewIn s i) side seen)
-    unfolding stackCommit commitBy applyIn applyInBy
-    fine-commit Putting seen e =
-        cases F (eqb (s .second (subIn s i)) (seen .0)) _ _
-        (λ u. cases F (ltb (s .first (subIn s i)) (g .rows)) _ _ (λ x. tt)
-        (λ x. absurd (omega (arith, ltb-false, put-room inv i seen e (sym (eqb-true _ _ u))))))
-        (λ u. tt)
-    fine-commit Taking seen e =
-        cases F (eqb (s .second (subIn s i)) (seen .0)) _ _
-        (λ u. cases F (ltb 0 (s .first (subIn s i))) _ _
-        (λ x. take-newer good kind inv i (common .slots i .index) seen e (sym (eqb-true _ _ u)))
-        (λ x. absurd (omega (arith, ltb-false, take-row good kind inv i (common .slots i .index) seen e (sym (eqb-true _ _ u))))))
-        (λ u. tt)
+    fine-lands : (side : Side) (seen : Version) → phaseIn g s i ≡ StackCommit side seen → seen .0 ≡ s .second (subIn s i) → F (landsOf (viewIn s i) side)
+    unfolding applyIn applyInBy
+    fine-lands Putting seen e live = tt
+    fine-lands Taking seen e live = take-newer good kind inv i (common .slots i .index) seen e live
+
+    fine-lost : (side : Side) → F (restartOf (viewIn s i) (hopOf g (subIn s i)) side)
+    unfolding applyIn applyInBy
+    fine-lost side = tt
 
     fine-shift : (side : Side) (version : Version) (scan sum : ℕ) → F (stackShift g (viewIn s i) side version scan sum)
     unfolding stackShift shiftBy applyIn applyInBy
@@ -92,7 +109,7 @@ module _ {g : Settings} {s : State} {q : Contents} (good : Good g) (kind : g .ki
     fine-by (StackRead side window version scan sum) e k = cases F _ _ _ (λ u. tt) (λ u. cases F _ _ _ (λ x. tt) (λ x. tt))
     fine-by (Check side version seen) e k = cases F _ _ _ (λ u. tt) (λ u. tt)
     fine-by (QueueCommit side seen) e k = absurd k
-    fine-by (StackCommit side seen) e k = fine-commit side seen e
+    fine-by (StackCommit side seen) e k = commit-cases i F side seen e (fine-lands side seen e) (fine-lost side)
     fine-by (QueueShift side window) e k = absurd k
     fine-by (StackShift side version scan sum) e k = fine-shift side version scan sum
     fine-by (Confirm side scan sum) e k = fine-confirm side scan sum
@@ -127,7 +144,7 @@ module _ {g : Settings} {s : State} {q : Contents} (good : Good g) (kind : g .ki
       let o = inv .pool in
       record {
         puts = omega (arith, o .few .puts, versions-few o);
-        top = omega (arith, o .window, good .bounds);
+        top = omega (arith, window-le o, good .bounds);
         mark = omega (arith, versions-few o, good .bounds .depth64);
         first = λ j l. omega (arith, held-le o j l, good .bounds .rows1024);
         second = λ j l. omega (arith, version-few o j l);

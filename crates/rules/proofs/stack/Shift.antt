@@ -1,40 +1,36 @@
 -- The shift step. Where the window moves, every sub was left behind by the pass that led here, so the corridor moves with it.
 -- Where it cannot move, the worker goes to confirm, and this step is its linearization point if it wins: if every sub's version
 -- is still the one read, then every sub is as the pass found it, at the present window, so all are empty, or all are full.
-use mathlib.Core.Path.{_≡_, refl, sym, _∙_}
-use mathlib.Core.Logic.{_⊎_, inl, inr}
+use mathlib.Core.Path.{_≡_, refl, sym}
+use mathlib.Core.Logic.{inl, inr}
 use mathlib.Core.Bool.{Bool, true, false}
-use mathlib.Core.List.{[]}
-use Prim.Native.Nat.{ℕ, suc, _+_, _-_, _*_, _^_, _≤_, _<_}
+use Prim.Native.Nat.{ℕ, suc, _+_, _-_, _<_}
 use native.Mathlib.Nat.{le-refl}
 use native.Mathlib.Omega.{arith}
 use borrow.Author.Tests.{ltb-true, ltb-false, leb-true, leb-false, eqb-true}
 use lib.Dec.{ltb, leb, eqb}
-use lib.ListN.{length}
 use Rattle.laws.specs.Choice.{cases}
 use Rattle.laws.specs.Wrap.{add32, sub32}
 use Rattle.rules.specs.Worker.{encode}
 use Rattle.rules.specs.Effects.{movedOf}
 use Rattle.rules.specs.Shift.{stackShift, shiftBy, shiftedOf}
-use Rattle.rules.specs.Sequential.{Contents, leastFull}
+use Rattle.rules.specs.Sequential.{Contents}
 use Rattle.rules.specs.declared.Settings.{Settings}
 use Rattle.rules.specs.declared.Side.{Side}
 use Rattle.rules.specs.declared.Side.the-variants.{Putting, Taking}
-use Rattle.rules.specs.declared.Phase.{Phase}
 use Rattle.rules.specs.declared.Phase.the-variants.{Window, StackShift, Confirm}
 use Rattle.rules.specs.declared.Version.{Version}
 use Rattle.rules.specs.declared.Worker.{Worker}
-use Rattle.rules.proofs.Sums.{sumN}
 use Rattle.rules.proofs.Order.{walks, tries}
 use Rattle.rules.proofs.Machine.{State, subIn, viewIn, phaseIn, turnedIn, apply-moved, apply-shifted}
 use Rattle.rules.proofs.Phases.{operationOf}
 use Rattle.rules.proofs.Wraps.{add32-is, add32-suc, sub32-is}
-use Rattle.rules.proofs.Visits.{Visited, visited-all}
+use Rattle.rules.proofs.Visits.{visited-all}
 use Rattle.rules.proofs.Passes.{Pass, pass-start}
 use Rattle.rules.proofs.Held.{none-held, many-held}
 use Rattle.rules.proofs.Good.{stack-full}
 use Rattle.rules.proofs.stack.Inv.{Ghost, Sight, sight, Missed, Left, Shifting, Pool, Stuck}
-use Rattle.rules.proofs.stack.After.{versions-few, held-rows, Stepping, On, moves, still, known, status-at, others, others-still, inv-still, status-after, inv-after, snap-after, restart}
+use Rattle.rules.proofs.stack.After.{versions-few, window-ge, window-le, held-rows, Stepping, On, moves, still, known, status-at, others, others-still, inv-still, status-after, inv-after, snap-after, restart}
 use Rattle.rules.proofs.stack.Corridor.{Able, Unable, windowAfter, loAfter, window-after-shift, corridor-moves, knows-shifted}
 
 module _ {g : Settings} {s : State} {q : Contents} {i : ℕ} (a : Stepping g s q i) where
@@ -136,11 +132,10 @@ module _ {g : Settings} {s : State} {q : Contents} {i : ℕ} (a : Stepping g s q
       → On a (stackShift g (viewIn s i) side version scan sum)
   unfolding stackShift
   turn-shift Putting version scan sum e =
-      let o = a .inv .pool .window in
-      let up : add32 (s .top) (g .shift) ≡ s .top + g .shift = add32-is (s .top) (g .shift) (omega (arith, a .good .bounds)) in
+      let up : add32 (s .top) (g .shift) ≡ s .top + g .shift =
+      add32-is (s .top) (g .shift) (omega (arith, window-le (a .inv .pool), a .good .bounds)) in
       rw (up, mark-is) (shift-by Putting version scan sum e (leb (s .top + g .shift) (g .rows)) (λ u. leb-true _ _ u) (λ u. leb-false _ _ u))
   turn-shift Taking version scan sum e =
-      let o = a .inv .pool .window in
       let down : sub32 (s .top) (g .shift) ≡ s .top - g .shift =
-      sub32-is (s .top) (g .shift) (omega (arith, a .good .bounds)) (omega (arith, a .good .bounds)) in
+      sub32-is (s .top) (g .shift) (omega (arith, window-ge (a .inv .pool), a .good .bounds)) (omega (arith, window-le (a .inv .pool), a .good .bounds)) in
       rw (down, mark-is) (shift-by Taking version scan sum e (ltb (g .depth) (s .top)) (λ u. ltb-true _ _ u) (λ u. ltb-false _ _ u))

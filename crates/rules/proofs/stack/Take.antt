@@ -1,7 +1,7 @@
 -- A take that lands: the top row of its sub leaves, and with it the item of that stamp on the list. The rows that stay keep their
 -- stamps and their pairs, and the newer items passed over are few (Distance).
 use mathlib.Core.Path.{_≡_, refl, sym}
-use Prim.Native.Nat.{ℕ, suc, _+_, _-_, _≤_, _<_}
+use Prim.Native.Nat.{ℕ, suc, _-_, _≤_, _<_}
 use native.Mathlib.Nat.{le-refl, le-trans}
 use native.Mathlib.Omega.{arith}
 use Rattle.laws.specs.Wrap.{add32, sub32}

@@ -6,12 +6,11 @@ use mathlib.Core.List.{[]}
 use Prim.Native.Nat.{ℕ}
 use native.Mathlib.Nat.{le-refl}
 use native.Mathlib.Omega.{arith}
-use borrow.Author.Tests.{ltb-false, eqb-true}
-use lib.Dec.{ltb, eqb}
-use Rattle.laws.specs.Choice.{cond, cond-false, cases}
+use lib.Dec.{eqb}
+use Rattle.laws.specs.Choice.{cond, cond-false}
 use Rattle.rules.specs.Worker.{phaseOf, zeroSlot}
 use Rattle.rules.specs.Effects.{hopOf}
-use Rattle.rules.specs.Commit.{stackCommit, commitBy}
+use Rattle.rules.specs.Commit.{stackCommit}
 use Rattle.rules.specs.Step.{ruleOf, ruleBy}
 use Rattle.rules.specs.Sequential.{Contents, noItems}
 use Rattle.rules.specs.declared.Settings.{Settings}
@@ -27,30 +26,25 @@ use Rattle.rules.proofs.Machine.{State, subIn, viewIn, phaseIn, applyIn
 use Rattle.rules.proofs.Phases.{idle-phase, window-phase}
 use Rattle.rules.proofs.Held.{count-none}
 use Rattle.rules.proofs.Good.{Good}
-use Rattle.rules.proofs.Turns.{Common, Kind, begun}
+use Rattle.rules.proofs.Turns.{Kind, begun}
 use Rattle.rules.proofs.stack.Inv.{sight, Knows, Inv, SnapAt, Snap}
 use Rattle.rules.proofs.stack.After.{rows-held, Stepping, On, known, restart}
 use Rattle.rules.proofs.stack.Moves.{turn-window, turn-read, turn-check}
 use Rattle.rules.proofs.stack.Shift.{turn-shift}
 use Rattle.rules.proofs.stack.Confirm.{turn-confirm}
-use Rattle.rules.proofs.stack.Put.{put-room, put-lands}
-use Rattle.rules.proofs.stack.Take.{take-row, take-lands}
-use Rattle.rules.proofs.stack.Safe.{stack-safe, stack-counts}
+use Rattle.rules.proofs.stack.Put.{put-lands}
+use Rattle.rules.proofs.stack.Take.{take-lands}
+use Rattle.rules.proofs.stack.Safe.{landsOf, commit-cases, stack-safe, stack-counts}
 
 -- ---- a step, by its phase
 module _ {g : Settings} {s : State} {q : Contents} {i : ℕ} (a : Stepping g s q i) where
+  lands : (side : Side) (seen : Version) → phaseIn g s i ≡ StackCommit side seen → seen .0 ≡ s .second (subIn s i) → On a (landsOf (viewIn s i) side)
+  lands Putting seen e live = put-lands a seen e live
+  lands Taking seen e live = take-lands a seen e live
+
   turn-commit : (side : Side) (seen : Version) → phaseIn g s i ≡ StackCommit side seen → On a (stackCommit g (viewIn s i) side seen)
-  unfolding stackCommit commitBy
-  turn-commit Putting seen e =
-      cases (On a) (eqb (s .second (subIn s i)) (seen .0)) _ _
-      (λ u. cases (On a) (ltb (s .first (subIn s i)) (g .rows)) _ _ (λ x. put-lands a seen e (sym (eqb-true _ _ u)))
-      (λ x. absurd (omega (arith, ltb-false, put-room (a .inv) i seen e (sym (eqb-true _ _ u))))))
-      (λ u. restart a e Putting refl (hopOf g (subIn s i)))
-  turn-commit Taking seen e =
-      cases (On a) (eqb (s .second (subIn s i)) (seen .0)) _ _
-      (λ u. cases (On a) (ltb 0 (s .first (subIn s i))) _ _ (λ x. take-lands a seen e (sym (eqb-true _ _ u)))
-      (λ x. absurd (omega (arith, ltb-false, take-row (a .good) (a .kind) (a .inv) i (a .common .slots i .index) seen e (sym (eqb-true _ _ u))))))
-      (λ u. restart a e Taking refl (hopOf g (subIn s i)))
+  turn-commit side seen e =
+      commit-cases (a .good) (a .kind) (a .common) (a .inv) i (On a) side seen e (lands side seen e) (restart a e side refl (hopOf g (subIn s i)))
 
   turn-by : (p : Phase) → phaseIn g s i ≡ p → On a (ruleBy g (viewIn s i) p)
   unfolding ruleBy applyIn applyInBy
