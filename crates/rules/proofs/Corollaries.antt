@@ -7,10 +7,10 @@ use Rattle.rules.specs.Make.{makeOf}
 use Rattle.rules.specs.Run.{Call, run}
 use Rattle.rules.specs.Consequences.{wordsAfter, OfEveryRun, NothingLost, StampsOnce, hasStamp, WithinBound, InRealTime, NoSumWraps, NeverUnfit}
 use Rattle.rules.specs.declared.Settings.{Settings}
-use Rattle.rules.proofs.Held.{count-none}
+use Rattle.rules.proofs.counts.Held.{count-none}
 use Rattle.rules.proofs.Transfer.{made-related}
 use Rattle.rules.proofs.Runs.{accounted, stamped-once, safe-after, fine-at}
-use Rattle.rules.proofs.Orders.{bounded, in-real-time}
+use Rattle.rules.proofs.order.Orders.{bounded, in-real-time}
 use Rattle.rules.proofs.Theorem.{kindOf, demand3}
 use Rattle.rules.proofs.words.Made.{accepted}
 

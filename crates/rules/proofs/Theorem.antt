@@ -9,8 +9,8 @@ use Rattle.rules.specs.Limits.{settingsFit}
 use Rattle.rules.specs.Statement.{Demand3}
 use Rattle.rules.specs.declared.Settings.{Settings}
 use Rattle.rules.proofs.Fitness.{settings-bounds}
-use Rattle.rules.proofs.Good.{good}
-use Rattle.rules.proofs.Turns.{Kind}
+use Rattle.rules.proofs.machine.Good.{good}
+use Rattle.rules.proofs.machine.Turns.{Kind}
 use Rattle.rules.proofs.Transfer.{words-order}
 use Rattle.rules.proofs.words.Made.{accepted}
 use Rattle.rules.proofs.queue.Turn.{queueKind}

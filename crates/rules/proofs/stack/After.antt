@@ -17,14 +17,14 @@ use Rattle.rules.specs.declared.Phase.the-variants.{Idle, Window, QueueP
 use Rattle.rules.specs.declared.Worker.{Worker}
 use Rattle.rules.specs.declared.Slot.{Slot}
 use Rattle.rules.specs.declared.Effect.{Effect}
-use Rattle.rules.proofs.Sums.{upd, upd-same, upd-other, upd-all, sumN, sum-gap-at, sum-zero}
-use Rattle.rules.proofs.Order.{Next, pending, Others, walks}
-use Rattle.rules.proofs.Machine.{State, belowIn, subIn, viewIn, phaseIn, applyIn, nextIn, turnedIn, apply-moved}
-use Rattle.rules.proofs.Phases.{OfStack, operationOf, statusOf, worker, stack-phase, encode-value, encode-index}
-use Rattle.rules.proofs.Passes.{pass-grow}
-use Rattle.rules.proofs.Held.{Holds, holds-ext}
-use Rattle.rules.proofs.Good.{Good, stack-below}
-use Rattle.rules.proofs.Turns.{Common, statusIn, status-here, status-other, Turned}
+use Rattle.rules.proofs.counts.Sums.{upd, upd-same, upd-other, upd-all, sumN, sum-gap-at, sum-zero}
+use Rattle.rules.proofs.order.Law.{Next, pending, Others, walks}
+use Rattle.rules.proofs.machine.Machine.{State, belowIn, subIn, viewIn, phaseIn, applyIn, nextIn, turnedIn, apply-moved}
+use Rattle.rules.proofs.machine.Phases.{OfStack, operationOf, statusOf, worker, stack-phase, encode-value, encode-index}
+use Rattle.rules.proofs.counts.Passes.{pass-grow}
+use Rattle.rules.proofs.counts.Held.{Holds, holds-ext}
+use Rattle.rules.proofs.machine.Good.{Good, stack-below}
+use Rattle.rules.proofs.machine.Turns.{Common, statusIn, status-here, status-other, Turned}
 use Rattle.rules.proofs.stack.Inv.{Ghost, sight, Pool, Knows, Inv, SnapAt, Snap}
 
 -- ---- what a pool from make has: no count is near 2^32, and the list is what the rows from 1 to the held ones have

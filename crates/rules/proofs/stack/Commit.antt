@@ -15,12 +15,12 @@ use Rattle.rules.specs.declared.Side.{Side}
 use Rattle.rules.specs.declared.Phase.the-variants.{Idle, StackCommit}
 use Rattle.rules.specs.declared.Version.{Version}
 use Rattle.rules.specs.declared.Answer.{Answer}
-use Rattle.rules.proofs.Sums.{upd, upd-same, upd-other, sumN, sum-bump}
-use Rattle.rules.proofs.Order.{ends}
-use Rattle.rules.proofs.Machine.{State, next, subIn, phaseIn}
-use Rattle.rules.proofs.Phases.{operationOf, worker}
-use Rattle.rules.proofs.Stamps.{Stamped}
-use Rattle.rules.proofs.Turns.{Holding}
+use Rattle.rules.proofs.counts.Sums.{upd, upd-same, upd-other, sumN, sum-bump}
+use Rattle.rules.proofs.order.Law.{ends}
+use Rattle.rules.proofs.machine.Machine.{State, next, subIn, phaseIn}
+use Rattle.rules.proofs.machine.Phases.{operationOf, worker}
+use Rattle.rules.proofs.counts.Stamps.{Stamped}
+use Rattle.rules.proofs.machine.Turns.{Holding}
 use Rattle.rules.proofs.stack.Inv.{sight, Hit, Fits, Pairs, Committing, Pool, Inv}
 use Rattle.rules.proofs.stack.After.{Stepping, Steps, status-at, others, status-after, inv-after}
 use Rattle.rules.proofs.stack.Corridor.{Touched, versions-grow, knows-touched, countAfter, corridor-after-commit, left-after-commit}

@@ -21,13 +21,13 @@ use Rattle.rules.specs.declared.Worker.{Worker}
 use Rattle.rules.specs.declared.Slot.{Slot}
 use Rattle.rules.specs.declared.Answer.{Answer}
 use Rattle.rules.specs.declared.Answer.the-variants.{Empty, Full}
-use Rattle.rules.proofs.Sums.{sumN}
-use Rattle.rules.proofs.Order.{stays, loses, wins}
-use Rattle.rules.proofs.Machine.{State, next, subIn, viewIn, phaseIn, applyIn, apply-moved, apply-empty, apply-full}
-use Rattle.rules.proofs.Phases.{operationOf, worker}
-use Rattle.rules.proofs.Wraps.{add32-suc, next-lt}
-use Rattle.rules.proofs.Passes.{Pass, pass-more, pass-end}
-use Rattle.rules.proofs.Gives.{gives-empty, gives-full, final-empty, final-full}
+use Rattle.rules.proofs.counts.Sums.{sumN}
+use Rattle.rules.proofs.order.Law.{stays, loses, wins}
+use Rattle.rules.proofs.machine.Machine.{State, next, subIn, viewIn, phaseIn, applyIn, apply-moved, apply-empty, apply-full}
+use Rattle.rules.proofs.machine.Phases.{operationOf, worker}
+use Rattle.rules.proofs.counts.Wraps.{add32-suc, next-lt}
+use Rattle.rules.proofs.counts.Passes.{Pass, pass-more, pass-end}
+use Rattle.rules.proofs.order.Gives.{gives-empty, gives-full, final-empty, final-full}
 use Rattle.rules.proofs.stack.Inv.{SnapAt, Snap, Stuck}
 use Rattle.rules.proofs.stack.After.{versions-few, Stepping, On, moves, still, known, status-at, others-still, inv-still, status-after, snap-after}
 

@@ -15,8 +15,8 @@ use Rattle.rules.specs.declared.Side.{Side}
 use Rattle.rules.specs.declared.Side.the-variants.{Putting, Taking}
 use Rattle.rules.specs.declared.Phase.{Phase}
 use Rattle.rules.specs.declared.Phase.the-variants.{Idle, Window, QueuePutRead, QueueTakeRead, StackRead, Check, QueueCommit, StackCommit, QueueShift, StackShift, Confirm}
-use Rattle.rules.proofs.Sums.{upd, upd-all}
-use Rattle.rules.proofs.Passes.{summed-grow}
+use Rattle.rules.proofs.counts.Sums.{upd, upd-all}
+use Rattle.rules.proofs.counts.Passes.{summed-grow}
 use Rattle.rules.proofs.stack.Inv.{Ghost, Sight, Hit, Near, Fits, Windowed, Corridor, Left, Passed, Committing, Knows}
 
 -- ---- a commit at sub j

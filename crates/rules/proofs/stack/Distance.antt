@@ -13,9 +13,9 @@ use Rattle.laws.specs.Choice.{cond-false}
 use Rattle.rules.specs.Held.{Item, passedOver}
 use Rattle.rules.specs.Sequential.{Contents, mostPassed}
 use Rattle.rules.specs.declared.Settings.{Settings}
-use Rattle.rules.proofs.Sums.{upTo, upTo-none, rows-more, rows-flat, sum-zero, sum-within-but, times-pred}
-use Rattle.rules.proofs.Machine.{State, countIn, distanceIn}
-use Rattle.rules.proofs.Good.{Good, stack-most}
+use Rattle.rules.proofs.counts.Sums.{upTo, upTo-none, rows-more, rows-flat, sum-zero, sum-within-but, times-pred}
+use Rattle.rules.proofs.machine.Machine.{State, countIn, distanceIn}
+use Rattle.rules.proofs.machine.Good.{Good, stack-most}
 use Rattle.rules.proofs.stack.Inv.{Ghost, Pool}
 
 -- the most newer items that a take passes over

@@ -16,12 +16,12 @@ use Rattle.rules.specs.declared.Side.{Side}
 use Rattle.rules.specs.declared.Side.the-variants.{Putting, Taking}
 use Rattle.rules.specs.declared.Phase.{Phase}
 use Rattle.rules.specs.declared.Phase.the-variants.{Idle, Window, QueuePutRead, QueueTakeRead, StackRead, Check, QueueCommit, StackCommit, QueueShift, StackShift, Confirm}
-use Rattle.rules.proofs.Sums.{sumN}
-use Rattle.rules.proofs.Machine.{State, subIn, phaseIn}
-use Rattle.rules.proofs.Visits.{Visited}
-use Rattle.rules.proofs.Passes.{Summed, Pass}
-use Rattle.rules.proofs.Stamps.{Stamped}
-use Rattle.rules.proofs.Turns.{Holding}
+use Rattle.rules.proofs.counts.Sums.{sumN}
+use Rattle.rules.proofs.machine.Machine.{State, subIn, phaseIn}
+use Rattle.rules.proofs.counts.Visits.{Visited}
+use Rattle.rules.proofs.counts.Passes.{Summed, Pass}
+use Rattle.rules.proofs.counts.Stamps.{Stamped}
+use Rattle.rules.proofs.machine.Turns.{Holding}
 
 -- ---- ghosts, and what is seen
 -- the corridor's height, and each sub's version when the window last moved

@@ -22,11 +22,11 @@ use Rattle.rules.specs.declared.Side.{Side}
 use Rattle.rules.specs.declared.Side.the-variants.{Putting, Taking}
 use Rattle.rules.specs.declared.Phase.the-variants.{Window, StackRead, Check, StackCommit, StackShift}
 use Rattle.rules.specs.declared.Version.{Version}
-use Rattle.rules.proofs.Sums.{sumN}
-use Rattle.rules.proofs.Machine.{State, subIn, viewIn, phaseIn}
-use Rattle.rules.proofs.Wraps.{add32-is, add32-suc, sub32-is}
-use Rattle.rules.proofs.Visits.{Visited, visited-none, visited-next}
-use Rattle.rules.proofs.Passes.{Summed, summed-start, summed-le, summed-more, summed-off}
+use Rattle.rules.proofs.counts.Sums.{sumN}
+use Rattle.rules.proofs.machine.Machine.{State, subIn, viewIn, phaseIn}
+use Rattle.rules.proofs.counts.Wraps.{add32-is, add32-suc, sub32-is}
+use Rattle.rules.proofs.counts.Visits.{Visited, visited-none, visited-next}
+use Rattle.rules.proofs.counts.Passes.{Summed, summed-start, summed-le, summed-more, summed-off}
 use Rattle.rules.proofs.stack.Inv.{Ghost, Sight, sight, Hit, Missed, Fits, Windowed, Left, Passed, Reading, Checking}
 use Rattle.rules.proofs.stack.After.{versions-few, window-ge, window-le, Stepping, On, known, walk, restart}
 

@@ -15,13 +15,13 @@ use Rattle.rules.specs.declared.Side.the-variants.{Putting}
 use Rattle.rules.specs.declared.Phase.the-variants.{StackCommit}
 use Rattle.rules.specs.declared.Version.{Version}
 use Rattle.rules.specs.declared.Answer.the-variants.{Put}
-use Rattle.rules.proofs.Sums.{upd, upd-same, upd-other}
-use Rattle.rules.proofs.Machine.{State, next, subIn, viewIn, phaseIn, applyIn, applyInBy}
-use Rattle.rules.proofs.Wraps.{add32-suc}
-use Rattle.rules.proofs.Held.{holds-put}
-use Rattle.rules.proofs.Stamps.{Stamped, item-new, item-old, row-cases, stamped-put}
-use Rattle.rules.proofs.Gives.{putOn, gives-put, final-put}
-use Rattle.rules.proofs.Turns.{Holding}
+use Rattle.rules.proofs.counts.Sums.{upd, upd-same, upd-other}
+use Rattle.rules.proofs.machine.Machine.{State, next, subIn, viewIn, phaseIn, applyIn, applyInBy}
+use Rattle.rules.proofs.counts.Wraps.{add32-suc}
+use Rattle.rules.proofs.counts.Held.{holds-put}
+use Rattle.rules.proofs.counts.Stamps.{Stamped, item-new, item-old, row-cases, stamped-put}
+use Rattle.rules.proofs.order.Gives.{putOn, gives-put, final-put}
+use Rattle.rules.proofs.machine.Turns.{Holding}
 use Rattle.rules.proofs.stack.Inv.{Pairs, Inv}
 use Rattle.rules.proofs.stack.After.{versions-few, version-few, held-le, held-rows, rows-held, Stepping, On}
 use Rattle.rules.proofs.stack.Commit.{live-fits, committed, commits}

@@ -28,9 +28,9 @@ use Rattle.rules.specs.declared.View.{View}
 use Rattle.rules.specs.declared.Effect.{Effect}
 use Rattle.rules.specs.declared.Answer.{Answer}
 use Rattle.rules.specs.declared.Answer.the-variants.{Moving, Put, Taken, Empty, Full, Refused}
-use Rattle.rules.proofs.Machine.{State, subIn, viewIn, phaseIn, applyIn, applyInBy}
-use Rattle.rules.proofs.Good.{Good}
-use Rattle.rules.proofs.Turns.{Common, Safe, Counts, sumSoFar}
+use Rattle.rules.proofs.machine.Machine.{State, subIn, viewIn, phaseIn, applyIn, applyInBy}
+use Rattle.rules.proofs.machine.Good.{Good}
+use Rattle.rules.proofs.machine.Turns.{Common, Safe, Counts, sumSoFar}
 use Rattle.rules.proofs.stack.Inv.{sight, Knows, Inv}
 use Rattle.rules.proofs.stack.After.{versions-few, version-few, window-le, held-le}
 use Rattle.rules.proofs.stack.Moves.{sum-le-versions}

@@ -21,14 +21,14 @@ use Rattle.rules.specs.declared.Side.the-variants.{Putting, Taking}
 use Rattle.rules.specs.declared.Phase.the-variants.{Window, StackShift, Confirm}
 use Rattle.rules.specs.declared.Version.{Version}
 use Rattle.rules.specs.declared.Worker.{Worker}
-use Rattle.rules.proofs.Order.{walks, tries}
-use Rattle.rules.proofs.Machine.{State, subIn, viewIn, phaseIn, turnedIn, apply-moved, apply-shifted}
-use Rattle.rules.proofs.Phases.{operationOf}
-use Rattle.rules.proofs.Wraps.{add32-is, add32-suc, sub32-is}
-use Rattle.rules.proofs.Visits.{visited-all}
-use Rattle.rules.proofs.Passes.{Pass, pass-start}
-use Rattle.rules.proofs.Held.{none-held, many-held}
-use Rattle.rules.proofs.Good.{stack-full}
+use Rattle.rules.proofs.order.Law.{walks, tries}
+use Rattle.rules.proofs.machine.Machine.{State, subIn, viewIn, phaseIn, turnedIn, apply-moved, apply-shifted}
+use Rattle.rules.proofs.machine.Phases.{operationOf}
+use Rattle.rules.proofs.counts.Wraps.{add32-is, add32-suc, sub32-is}
+use Rattle.rules.proofs.counts.Visits.{visited-all}
+use Rattle.rules.proofs.counts.Passes.{Pass, pass-start}
+use Rattle.rules.proofs.counts.Held.{none-held, many-held}
+use Rattle.rules.proofs.machine.Good.{stack-full}
 use Rattle.rules.proofs.stack.Inv.{Ghost, Sight, sight, Missed, Left, Shifting, Pool, Stuck}
 use Rattle.rules.proofs.stack.After.{versions-few, window-ge, window-le, held-rows, Stepping, On, moves, still, known, status-at, others, others-still, inv-still, status-after, inv-after, snap-after, restart}
 use Rattle.rules.proofs.stack.Corridor.{Able, Unable, windowAfter, loAfter, window-after-shift, corridor-moves, knows-shifted}

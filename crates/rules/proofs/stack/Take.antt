@@ -12,14 +12,14 @@ use Rattle.rules.specs.declared.Settings.{Settings}
 use Rattle.rules.specs.declared.Side.the-variants.{Taking}
 use Rattle.rules.specs.declared.Phase.the-variants.{StackCommit}
 use Rattle.rules.specs.declared.Version.{Version}
-use Rattle.rules.proofs.Sums.{upd, upd-same, upd-other, upd-all}
-use Rattle.rules.proofs.Machine.{State, next, subIn, viewIn, phaseIn, takenIn, distanceIn, applyIn, applyInBy}
-use Rattle.rules.proofs.Wraps.{add32-suc, sub32-is}
-use Rattle.rules.proofs.Held.{RowFound, find-row, holds-top, distance-held}
-use Rattle.rules.proofs.Stamps.{Stamped, single, stamped-less}
-use Rattle.rules.proofs.Gives.{takenOff, gives-taken, final-taken}
-use Rattle.rules.proofs.Good.{Good, stack-below}
-use Rattle.rules.proofs.Turns.{Holding}
+use Rattle.rules.proofs.counts.Sums.{upd, upd-same, upd-other, upd-all}
+use Rattle.rules.proofs.machine.Machine.{State, next, subIn, viewIn, phaseIn, takenIn, distanceIn, applyIn, applyInBy}
+use Rattle.rules.proofs.counts.Wraps.{add32-suc, sub32-is}
+use Rattle.rules.proofs.counts.Held.{RowFound, find-row, holds-top, distance-held}
+use Rattle.rules.proofs.counts.Stamps.{Stamped, single, stamped-less}
+use Rattle.rules.proofs.order.Gives.{takenOff, gives-taken, final-taken}
+use Rattle.rules.proofs.machine.Good.{Good, stack-below}
+use Rattle.rules.proofs.machine.Turns.{Holding}
 use Rattle.rules.proofs.stack.Inv.{Pairs, Inv}
 use Rattle.rules.proofs.stack.After.{version-few, held-le, held-rows, rows-held, Stepping, On}
 use Rattle.rules.proofs.stack.Commit.{live-fits, committed, commits}

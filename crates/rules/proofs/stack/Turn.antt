@@ -20,13 +20,13 @@ use Rattle.rules.specs.declared.Phase.{Phase}
 use Rattle.rules.specs.declared.Phase.the-variants.{Idle, Window, QueuePutRead, QueueTakeRead, StackRead, Check, QueueCommit, StackCommit, QueueShift, StackShift, Confirm}
 use Rattle.rules.specs.declared.Version.{Version}
 use Rattle.rules.specs.declared.Slot.{Slot}
-use Rattle.rules.proofs.Sums.{upd-other, upd-all, sum-zero}
-use Rattle.rules.proofs.Order.{refused}
-use Rattle.rules.proofs.Machine.{State, subIn, viewIn, phaseIn, applyIn, applyInBy, madeIn}
-use Rattle.rules.proofs.Phases.{idle-phase, window-phase}
-use Rattle.rules.proofs.Held.{count-none}
-use Rattle.rules.proofs.Good.{Good}
-use Rattle.rules.proofs.Turns.{Kind, begun}
+use Rattle.rules.proofs.counts.Sums.{upd-other, upd-all, sum-zero}
+use Rattle.rules.proofs.order.Law.{refused}
+use Rattle.rules.proofs.machine.Machine.{State, subIn, viewIn, phaseIn, applyIn, applyInBy, madeIn}
+use Rattle.rules.proofs.machine.Phases.{idle-phase, window-phase}
+use Rattle.rules.proofs.counts.Held.{count-none}
+use Rattle.rules.proofs.machine.Good.{Good}
+use Rattle.rules.proofs.machine.Turns.{Kind, begun}
 use Rattle.rules.proofs.stack.Inv.{sight, Knows, Inv, SnapAt, Snap}
 use Rattle.rules.proofs.stack.After.{rows-held, Stepping, On, known, restart}
 use Rattle.rules.proofs.stack.Moves.{turn-window, turn-read, turn-check}
