@@ -1,0 +1,1 @@
+// Paper 01's starred runs: see specs/Table.antt.
