@@ -23,15 +23,15 @@ use Rattle.rules.specs.declared.Side.the-variants.{Putting, Taking}
 use Rattle.rules.specs.declared.Effect.{Effect}
 use Rattle.rules.specs.declared.Outcome.{Outcome}
 use Rattle.rules.specs.declared.Outcome.the-variants.{Refused, Moving, Landed, Removed, Empty, Full}
-use Rattle.rules.proofs.Sums.{bit, bit-le}
-use Rattle.rules.proofs.Order.{Next}
+use Rattle.rules.proofs.counts.Sums.{bit, bit-le}
+use Rattle.rules.proofs.order.Law.{Next}
 use Rattle.rules.proofs.Fitness.{settings-bounds}
 use Rattle.rules.proofs.Cells.{count-append, held-fits}
-use Rattle.rules.proofs.Machine.{State, subIn, viewIn, belowIn, applyIn, applyInBy, stepIn, beginIn, nextIn}
-use Rattle.rules.proofs.Held.{count-none, held-count}
-use Rattle.rules.proofs.Turns.{Common, Counts, Safe, Kind}
-use Rattle.rules.proofs.Subs.{SubAfter, rule-sub}
-use Rattle.rules.proofs.Given.{item-of, item-not}
+use Rattle.rules.proofs.machine.Machine.{State, subIn, viewIn, belowIn, applyIn, applyInBy, stepIn, beginIn, nextIn}
+use Rattle.rules.proofs.counts.Held.{count-none, held-count}
+use Rattle.rules.proofs.machine.Turns.{Common, Counts, Safe, Kind}
+use Rattle.rules.proofs.machine.Subs.{SubAfter, rule-sub}
+use Rattle.rules.proofs.order.Given.{item-of, item-not}
 use Rattle.rules.proofs.Transfer.{Related, next-related}
 use Rattle.rules.proofs.words.Says.{held-same}
 use Rattle.rules.proofs.words.Follows.{view-same}

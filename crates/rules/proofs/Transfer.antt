@@ -14,14 +14,15 @@ use Rattle.rules.specs.Run.{Call, step, callOf, run}
 use Rattle.rules.specs.Statement.{OneAtATime}
 use Rattle.rules.specs.declared.Settings.{Settings}
 use Rattle.rules.specs.declared.Answer.{Answer}
-use Rattle.rules.proofs.Order.{Next, events, idle, tried, refused, opened, walks, tries, stays, loses, ends, wins, Others, one-at-a-time}
+use Rattle.rules.proofs.order.Law.{Next, events, idle, tried, refused, opened, walks, tries, stays, loses, ends, wins, Others}
+use Rattle.rules.proofs.order.Order.{one-at-a-time}
 use Rattle.rules.proofs.Fitness.{settings-bounds}
-use Rattle.rules.proofs.Machine.{State, nextIn, madeIn}
-use Rattle.rules.proofs.Phases.{statusOf, idle-phase}
-use Rattle.rules.proofs.Turns.{Common, Kind, Turned, statusIn, turn}
-use Rattle.rules.proofs.Slots.{common-next, common-made}
-use Rattle.rules.proofs.Given.{Changed, unchanged-by, gives-changed}
-use Rattle.rules.proofs.Tried.{tried-itemless}
+use Rattle.rules.proofs.machine.Machine.{State, nextIn, madeIn}
+use Rattle.rules.proofs.machine.Phases.{statusOf, idle-phase}
+use Rattle.rules.proofs.machine.Turns.{Common, Kind, Turned, statusIn, turn}
+use Rattle.rules.proofs.machine.Slots.{common-next, common-made}
+use Rattle.rules.proofs.order.Given.{Changed, unchanged-by, gives-changed}
+use Rattle.rules.proofs.machine.Tried.{tried-itemless}
 use Rattle.rules.proofs.words.Says.{Says}
 use Rattle.rules.proofs.words.Follows.{Follows, follows}
 use Rattle.rules.proofs.words.Made.{Accepted, made-says}

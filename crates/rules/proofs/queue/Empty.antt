@@ -12,12 +12,12 @@ use native.Mathlib.Omega.{arith}
 use Rattle.rules.specs.Effects.{nextOf}
 use Rattle.rules.specs.Sequential.{Contents}
 use Rattle.rules.specs.declared.Settings.{Settings}
-use Rattle.rules.proofs.Machine.{State}
-use Rattle.rules.proofs.Wraps.{multiple-le, multiple-lt}
-use Rattle.rules.proofs.Visits.{Visited, visited-all, visited-here, visited-next, visited-still, visited-just}
-use Rattle.rules.proofs.Passes.{Summed, summed-more, summed-here, summed-off, Pass, pass-start}
-use Rattle.rules.proofs.Held.{none-held}
-use Rattle.rules.proofs.Good.{Good}
+use Rattle.rules.proofs.machine.Machine.{State}
+use Rattle.rules.proofs.counts.Wraps.{multiple-le, multiple-lt}
+use Rattle.rules.proofs.counts.Visits.{Visited, visited-all, visited-here, visited-next, visited-still, visited-just}
+use Rattle.rules.proofs.counts.Passes.{Summed, summed-more, summed-here, summed-off, Pass, pass-start}
+use Rattle.rules.proofs.counts.Held.{none-held}
+use Rattle.rules.proofs.machine.Good.{Good}
 use Rattle.rules.proofs.queue.Inv.{Windows, Pool, Read, sum-few}
 
 -- ---- one sub more is read

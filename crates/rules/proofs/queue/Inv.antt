@@ -18,13 +18,13 @@ use Rattle.rules.specs.declared.Side.the-variants.{Putting, Taking}
 use Rattle.rules.specs.declared.Phase.{Phase}
 use Rattle.rules.specs.declared.Phase.the-variants.{Idle, Window, QueuePutRead, QueueTakeRead, StackRead, Check, QueueCommit, StackCommit, QueueShift, StackShift, Confirm}
 use Rattle.rules.specs.declared.Slot.{Slot}
-use Rattle.rules.proofs.Sums.{sumN, sum-zero, sum-gap-at}
-use Rattle.rules.proofs.Machine.{State, subIn, phaseIn}
-use Rattle.rules.proofs.Visits.{Visited}
-use Rattle.rules.proofs.Passes.{Summed, summed-grow, Pass}
-use Rattle.rules.proofs.Held.{Holds}
-use Rattle.rules.proofs.Stamps.{Stamped}
-use Rattle.rules.proofs.Good.{Good}
+use Rattle.rules.proofs.counts.Sums.{sumN, sum-zero, sum-gap-at}
+use Rattle.rules.proofs.machine.Machine.{State, subIn, phaseIn}
+use Rattle.rules.proofs.counts.Visits.{Visited}
+use Rattle.rules.proofs.counts.Passes.{Summed, summed-grow, Pass}
+use Rattle.rules.proofs.counts.Held.{Holds}
+use Rattle.rules.proofs.counts.Stamps.{Stamped}
+use Rattle.rules.proofs.machine.Good.{Good}
 
 -- ---- the pool
 -- the windows, and the counts within them

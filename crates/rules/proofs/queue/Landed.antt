@@ -23,14 +23,14 @@ use Rattle.rules.specs.declared.Side.the-variants.{Putting}
 use Rattle.rules.specs.declared.Phase.the-variants.{Idle, Window, QueueCommit}
 use Rattle.rules.specs.declared.Effect.{Effect}
 use Rattle.rules.specs.declared.Answer.the-variants.{Put}
-use Rattle.rules.proofs.Sums.{upd, upd-same, upd-other, upd-self, sum-bump}
-use Rattle.rules.proofs.Machine.{State, next, subIn, viewIn, phaseIn, applyIn, applyInBy}
-use Rattle.rules.proofs.Wraps.{add32-suc, sub32-is, multiple-lt}
-use Rattle.rules.proofs.Held.{Holds, holds-put}
-use Rattle.rules.proofs.Stamps.{item-new, item-old, Row, row-cases, stamped-put}
-use Rattle.rules.proofs.Gives.{putOn, gives-put, final-put}
-use Rattle.rules.proofs.Good.{Good}
-use Rattle.rules.proofs.Turns.{Common}
+use Rattle.rules.proofs.counts.Sums.{upd, upd-same, upd-other, upd-self, sum-bump}
+use Rattle.rules.proofs.machine.Machine.{State, next, subIn, viewIn, phaseIn, applyIn, applyInBy}
+use Rattle.rules.proofs.counts.Wraps.{add32-suc, sub32-is, multiple-lt}
+use Rattle.rules.proofs.counts.Held.{Holds, holds-put}
+use Rattle.rules.proofs.counts.Stamps.{item-new, item-old, Row, row-cases, stamped-put}
+use Rattle.rules.proofs.order.Gives.{putOn, gives-put, final-put}
+use Rattle.rules.proofs.machine.Good.{Good}
+use Rattle.rules.proofs.machine.Turns.{Common}
 use Rattle.rules.proofs.queue.Inv.{Windows, Stamps, Pool, Knows, Inv, Grown, put-few}
 use Rattle.rules.proofs.queue.Moves.{Stepped, walk, end}
 

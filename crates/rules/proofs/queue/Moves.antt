@@ -22,13 +22,13 @@ use Rattle.rules.specs.declared.Slot.{Slot}
 use Rattle.rules.specs.declared.Outcome.the-variants.{Empty as NoItem, Full as NoRoom}
 use Rattle.rules.specs.declared.Answer.{Answer}
 use Rattle.rules.specs.declared.Answer.the-variants.{Moving, Empty, Full}
-use Rattle.rules.proofs.Sums.{upd, upd-same, upd-other, upd-all}
-use Rattle.rules.proofs.Order.{Next, idle, pending, tried, walks, tries, stays, loses, ends, wins, Others}
-use Rattle.rules.proofs.Machine.{State, next, subIn, viewIn, phaseIn, applyIn, nextIn, turnedIn, apply-moved, apply-shifted, apply-empty, apply-full}
-use Rattle.rules.proofs.Phases.{operationOf, statusOf, worker, OfQueue, queue-phase, encode-value, encode-index}
-use Rattle.rules.proofs.Passes.{Pass, pass-grow}
-use Rattle.rules.proofs.Gives.{gives-empty, gives-full, final-empty, final-full}
-use Rattle.rules.proofs.Turns.{statusIn, Turned}
+use Rattle.rules.proofs.counts.Sums.{upd, upd-same, upd-other, upd-all}
+use Rattle.rules.proofs.order.Law.{Next, idle, pending, tried, walks, tries, stays, loses, ends, wins, Others}
+use Rattle.rules.proofs.machine.Machine.{State, next, subIn, viewIn, phaseIn, applyIn, nextIn, turnedIn, apply-moved, apply-shifted, apply-empty, apply-full}
+use Rattle.rules.proofs.machine.Phases.{operationOf, statusOf, worker, OfQueue, queue-phase, encode-value, encode-index}
+use Rattle.rules.proofs.counts.Passes.{Pass, pass-grow}
+use Rattle.rules.proofs.order.Gives.{gives-empty, gives-full, final-empty, final-full}
+use Rattle.rules.proofs.machine.Turns.{statusIn, Turned}
 use Rattle.rules.proofs.queue.Inv.{Windows, Pool, Knows, Inv, confirmed, left, Linked, Snap, Grown, knows-grown}
 
 -- the law of one step, and that it is no commit that matches and is refused

@@ -21,12 +21,12 @@ use Rattle.rules.specs.declared.Side.the-variants.{Putting}
 use Rattle.rules.specs.declared.Phase.{Phase}
 use Rattle.rules.specs.declared.Phase.the-variants.{Window, QueuePutRead, QueueCommit, QueueShift}
 use Rattle.rules.specs.declared.Effect.{Effect}
-use Rattle.rules.proofs.Machine.{State, subIn, viewIn, phaseIn, applyIn}
-use Rattle.rules.proofs.Wraps.{add32-is, add32-suc, sub32-is, next-lt, multiple-le}
-use Rattle.rules.proofs.Visits.{Visited, visited-none, visited-all, visited-next}
-use Rattle.rules.proofs.Held.{many-held}
-use Rattle.rules.proofs.Good.{Good, queue-full}
-use Rattle.rules.proofs.Turns.{Common}
+use Rattle.rules.proofs.machine.Machine.{State, subIn, viewIn, phaseIn, applyIn}
+use Rattle.rules.proofs.counts.Wraps.{add32-is, add32-suc, sub32-is, next-lt, multiple-le}
+use Rattle.rules.proofs.counts.Visits.{Visited, visited-none, visited-all, visited-next}
+use Rattle.rules.proofs.counts.Held.{many-held}
+use Rattle.rules.proofs.machine.Good.{Good, queue-full}
+use Rattle.rules.proofs.machine.Turns.{Common}
 use Rattle.rules.proofs.queue.Inv.{Windows, PutReads, Knows, Inv, top-few}
 use Rattle.rules.proofs.queue.Moves.{Stepped, Upward, walk, shift, end-full}
 

@@ -26,14 +26,14 @@ use Rattle.rules.specs.declared.Phase.the-variants.{Window, QueueTakeRea
 use Rattle.rules.specs.declared.Slot.{Slot}
 use Rattle.rules.specs.declared.View.{View}
 use Rattle.rules.specs.declared.Effect.{Effect}
-use Rattle.rules.proofs.Sums.{sumN}
-use Rattle.rules.proofs.Machine.{State, subIn, viewIn, phaseIn, applyIn}
-use Rattle.rules.proofs.Wraps.{add32-is, add32-suc, next-lt, multiple-lt}
-use Rattle.rules.proofs.Visits.{visited-none, visited-all}
-use Rattle.rules.proofs.Passes.{Pass, summed-start, summed-le, pass-more, pass-end}
-use Rattle.rules.proofs.Held.{none-held}
-use Rattle.rules.proofs.Good.{Good}
-use Rattle.rules.proofs.Turns.{Common}
+use Rattle.rules.proofs.counts.Sums.{sumN}
+use Rattle.rules.proofs.machine.Machine.{State, subIn, viewIn, phaseIn, applyIn}
+use Rattle.rules.proofs.counts.Wraps.{add32-is, add32-suc, next-lt, multiple-lt}
+use Rattle.rules.proofs.counts.Visits.{visited-none, visited-all}
+use Rattle.rules.proofs.counts.Passes.{Pass, summed-start, summed-le, pass-more, pass-end}
+use Rattle.rules.proofs.counts.Held.{none-held}
+use Rattle.rules.proofs.machine.Good.{Good}
+use Rattle.rules.proofs.machine.Turns.{Common}
 use Rattle.rules.proofs.queue.Inv.{Windows, Read, TakeReads, Knows, Inv, sum-few, mark-few}
 use Rattle.rules.proofs.queue.Moves.{Stepped, Upward, walk, try, stay, lose, shift, end-empty, win}
 use Rattle.rules.proofs.queue.Empty.{read-spent, read-bare, pass-begins}

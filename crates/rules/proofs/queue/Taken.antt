@@ -23,14 +23,14 @@ use Rattle.rules.specs.declared.Settings.{Settings}
 use Rattle.rules.specs.declared.Side.the-variants.{Taking}
 use Rattle.rules.specs.declared.Phase.the-variants.{Idle, Window, QueueCommit}
 use Rattle.rules.specs.declared.Effect.{Effect}
-use Rattle.rules.proofs.Sums.{upd, upd-same, upd-other, upd-self, upTo, sum-within-but, rows-more, rows-flat, times-pred}
-use Rattle.rules.proofs.Machine.{State, next, subIn, viewIn, phaseIn, belowIn, takenIn, distanceIn, applyIn, applyInBy}
-use Rattle.rules.proofs.Wraps.{add32-suc}
-use Rattle.rules.proofs.Held.{Holds, rowsOf, holds-low, holds-ext, RowFound, find-row, distance-held}
-use Rattle.rules.proofs.Stamps.{single}
-use Rattle.rules.proofs.Gives.{takenOff, gives-taken, final-taken}
-use Rattle.rules.proofs.Good.{Good, queue-below, queue-most}
-use Rattle.rules.proofs.Turns.{Common}
+use Rattle.rules.proofs.counts.Sums.{upd, upd-same, upd-other, upd-self, upTo, sum-within-but, rows-more, rows-flat, times-pred}
+use Rattle.rules.proofs.machine.Machine.{State, next, subIn, viewIn, phaseIn, belowIn, takenIn, distanceIn, applyIn, applyInBy}
+use Rattle.rules.proofs.counts.Wraps.{add32-suc}
+use Rattle.rules.proofs.counts.Held.{Holds, rowsOf, holds-low, holds-ext, RowFound, find-row, distance-held}
+use Rattle.rules.proofs.counts.Stamps.{single}
+use Rattle.rules.proofs.order.Gives.{takenOff, gives-taken, final-taken}
+use Rattle.rules.proofs.machine.Good.{Good, queue-below, queue-most}
+use Rattle.rules.proofs.machine.Turns.{Common}
 use Rattle.rules.proofs.queue.Inv.{Windows, Pool, TakeCommits, Knows, Inv, Grown, taken-few}
 use Rattle.rules.proofs.queue.Moves.{Stepped, walk, end}
 

@@ -17,14 +17,14 @@ use Rattle.rules.specs.declared.Side.{Side}
 use Rattle.rules.specs.declared.Side.the-variants.{Putting, Taking}
 use Rattle.rules.specs.declared.Phase.{Phase}
 use Rattle.rules.specs.declared.Phase.the-variants.{Idle, Window, QueuePutRead, QueueTakeRead, StackRead, Check, QueueCommit, StackCommit, QueueShift, StackShift, Confirm}
-use Rattle.rules.proofs.Sums.{upd-other, sum-zero}
-use Rattle.rules.proofs.Order.{refused}
-use Rattle.rules.proofs.Machine.{State, subIn, viewIn, phaseIn, applyIn, applyInBy, madeIn}
-use Rattle.rules.proofs.Phases.{idle-phase}
-use Rattle.rules.proofs.Passes.{summed-more, summed-le}
-use Rattle.rules.proofs.Held.{count-none}
-use Rattle.rules.proofs.Good.{Good}
-use Rattle.rules.proofs.Turns.{Common, Counts, Safe, sumSoFar, begun, Kind}
+use Rattle.rules.proofs.counts.Sums.{upd-other, sum-zero}
+use Rattle.rules.proofs.order.Law.{refused}
+use Rattle.rules.proofs.machine.Machine.{State, subIn, viewIn, phaseIn, applyIn, applyInBy, madeIn}
+use Rattle.rules.proofs.machine.Phases.{idle-phase}
+use Rattle.rules.proofs.counts.Passes.{summed-more, summed-le}
+use Rattle.rules.proofs.counts.Held.{count-none}
+use Rattle.rules.proofs.machine.Good.{Good}
+use Rattle.rules.proofs.machine.Turns.{Common, Counts, Safe, sumSoFar, begun, Kind}
 use Rattle.rules.proofs.queue.Inv.{Windows, Stamps, Pool, Knows, Inv, Linked, Snap, sum-few, put-few, taken-few, top-few, mark-few}
 use Rattle.rules.proofs.queue.Moves.{Stepped, inv-after, told-knows}
 use Rattle.rules.proofs.queue.Put.{put-window, put-read, put-shift}

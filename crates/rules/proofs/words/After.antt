@@ -15,10 +15,10 @@ use Rattle.rules.specs.Held.{itemAt, rowsBelow}
 use Rattle.rules.specs.Apply.{putView}
 use Rattle.rules.specs.declared.Settings.{Settings}
 use Rattle.rules.specs.declared.Effect.{Effect}
-use Rattle.rules.proofs.Sums.{upd, upd-same, upd-other}
-use Rattle.rules.proofs.Wraps.{add32-suc}
-use Rattle.rules.proofs.Machine.{State, subIn, viewIn, belowIn, afterIn}
-use Rattle.rules.proofs.Subs.{Keeps}
+use Rattle.rules.proofs.counts.Sums.{upd, upd-same, upd-other}
+use Rattle.rules.proofs.counts.Wraps.{add32-suc}
+use Rattle.rules.proofs.machine.Machine.{State, subIn, viewIn, belowIn, afterIn}
+use Rattle.rules.proofs.machine.Subs.{Keeps}
 use Rattle.rules.proofs.words.Says.{Says}
 use Rattle.rules.proofs.words.Writes.{slot-kept, view-length, view-off, view-steps, view-puts, view-top, view-mark, view-first, view-second, view-slot}
 

@@ -14,8 +14,8 @@ use Rattle.rules.specs.Worker.{slotAt}
 use Rattle.rules.specs.Fit.{headFit, subFit, subsFit, wordFit, workersFit, bodyChecked, checkedOf, SubFits}
 use Rattle.rules.specs.declared.Settings.{Settings}
 use Rattle.rules.specs.declared.Checked.the-variants.{Fit}
-use Rattle.rules.proofs.Machine.{State}
-use Rattle.rules.proofs.Turns.{SlotFits, Common, Counts}
+use Rattle.rules.proofs.machine.Machine.{State}
+use Rattle.rules.proofs.machine.Turns.{SlotFits, Common, Counts}
 use Rattle.rules.proofs.words.Says.{Says}
 
 -- a test that holds at each number below the bound

@@ -32,13 +32,13 @@ use Rattle.rules.specs.declared.Outcome.{Outcome}
 use Rattle.rules.specs.declared.Outcome.the-variants.{Refused, Moving, Landed, Removed, Empty, Full}
 use Rattle.rules.specs.declared.Checked.the-variants.{Fit}
 use Rattle.rules.specs.declared.Answer.the-variants.{Moving as Moves, Taken, Refused as NotDone}
-use Rattle.rules.proofs.Sums.{upd-same, upd-other}
-use Rattle.rules.proofs.Order.{Next}
+use Rattle.rules.proofs.counts.Sums.{upd-same, upd-other}
+use Rattle.rules.proofs.order.Law.{Next}
 use Rattle.rules.proofs.Fitness.{settings-bounds}
 use Rattle.rules.proofs.Cells.{held-fits}
-use Rattle.rules.proofs.Machine.{State, next, subIn, viewIn, belowIn, takenIn, applyIn, applyInBy, stepIn, withSlot, beginIn, nextIn}
-use Rattle.rules.proofs.Turns.{Common, Counts}
-use Rattle.rules.proofs.Subs.{SubAfter, rule-sub}
+use Rattle.rules.proofs.machine.Machine.{State, next, subIn, viewIn, belowIn, takenIn, applyIn, applyInBy, stepIn, withSlot, beginIn, nextIn}
+use Rattle.rules.proofs.machine.Turns.{Common, Counts}
+use Rattle.rules.proofs.machine.Subs.{SubAfter, rule-sub}
 use Rattle.rules.proofs.words.Says.{Says, distance-same}
 use Rattle.rules.proofs.words.Writes.{slot-length, slot-off, slot-on, slot-kept}
 use Rattle.rules.proofs.words.Fit.{checked-fit}

@@ -19,7 +19,7 @@ use Rattle.rules.specs.Worker.{slotAt}
 use Rattle.rules.specs.Make.{zeroed, newHead, indexed, madeWords, makeOf}
 use Rattle.rules.specs.declared.Settings.{Settings}
 use Rattle.rules.specs.declared.Answer.the-variants.{Moving}
-use Rattle.rules.proofs.Machine.{madeIn}
+use Rattle.rules.proofs.machine.Machine.{madeIn}
 use Rattle.rules.proofs.words.Lists.{sets-out, sets-in}
 use Rattle.rules.proofs.words.Says.{Says}
 

@@ -16,7 +16,7 @@ use Rattle.rules.specs.Apply.{putItem}
 use Rattle.rules.specs.declared.Settings.{Settings}
 use Rattle.rules.specs.declared.Row.{Row}
 use Rattle.rules.specs.declared.Stamp.{Stamp}
-use Rattle.rules.proofs.Wraps.{sub32-is}
+use Rattle.rules.proofs.counts.Wraps.{sub32-is}
 
 -- two places in a grid with rows of R are one only if both coordinates agree
 grid-one : (R j k a b : ℕ) → a < R → b < R → j * R + a ≡ k * R + b → j ≡ k

@@ -12,10 +12,10 @@ use Rattle.rules.specs.Layout.{stepsAt, putsAt, topAt, markAt, needed, s
 use Rattle.rules.specs.Worker.{slotAt}
 use Rattle.rules.specs.Held.{Item, itemAt, itemsAbove, heldSub, heldBelow, heldItems, countItems, passedOver, distanceOf}
 use Rattle.rules.specs.declared.Settings.{Settings}
-use Rattle.rules.proofs.Sums.{sumN, sum-none, sum-more, upTo, upTo-suc, bit}
-use Rattle.rules.proofs.Machine.{State, belowIn, countIn, distanceIn}
+use Rattle.rules.proofs.counts.Sums.{sumN, sum-none, sum-more, upTo, upTo-suc, bit}
+use Rattle.rules.proofs.machine.Machine.{State, belowIn, countIn, distanceIn}
 use Rattle.rules.proofs.Cells.{count-append}
-use Rattle.rules.proofs.Held.{count-none, count-cons}
+use Rattle.rules.proofs.counts.Held.{count-none, count-cons}
 
 pub record Says (g : Settings) (ws : List ℕ) (s : State) : Type 0 where
   pub long : needed g ≤ length ws

@@ -26,8 +26,8 @@ use Rattle.rules.specs.declared.Outcome.{Outcome}
 use Rattle.rules.specs.declared.Outcome.the-variants.{Refused as Stays, Moving as Moves, Landed, Removed, Empty as NoItem, Full as NoRoom}
 use Rattle.rules.specs.declared.Answer.{Answer}
 use Rattle.rules.specs.declared.Answer.the-variants.{Moving, Put, Taken, Empty, Full, Refused}
-use Rattle.rules.proofs.Sums.{upd, upd-self, sumN, upTo}
-use Rattle.rules.proofs.Order.{Next}
+use Rattle.rules.proofs.counts.Sums.{upd, upd-self, sumN, upTo}
+use Rattle.rules.proofs.order.Law.{Next}
 
 -- the words of a pool, the settings apart; `item` by sub and row
 pub record State : Type 0 where

@@ -11,8 +11,8 @@ use native.Mathlib.Omega.{arith}
 use Rattle.laws.specs.Wrap.{sub32}
 use Rattle.rules.specs.Effects.{nextOf}
 use Rattle.rules.specs.declared.Settings.{Settings}
-use Rattle.rules.proofs.Sums.{upd, upd-same, upd-other, upd-all, sumN, sum-le, sum-bump, sum-zero, sum-tight}
-use Rattle.rules.proofs.Visits.{Visited, visited-none, visited-all, visited-here, visited-next, visited-still, visited-just}
+use Rattle.rules.proofs.counts.Sums.{upd, upd-same, upd-other, upd-all, sumN, sum-le, sum-bump, sum-zero, sum-tight}
+use Rattle.rules.proofs.counts.Visits.{Visited, visited-none, visited-all, visited-here, visited-next, visited-still, visited-just}
 
 -- what was read of the visited subs, with 0 for the others
 pub record Summed (w : ℕ) (count : ℕ → ℕ) (index scan sum : ℕ) : Type 0 where

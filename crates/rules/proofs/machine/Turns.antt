@@ -7,7 +7,7 @@
 --                  which it was tried, its linearization point if it wins
 --   at-first       the invariant of a new pool
 --   begins         a begin keeps the invariant, and the other workers' links
---   steps          the law of one step that is not refused before its rule: one of the cases of `Turn` (Order) for
+--   steps          the law of one step that is not refused before its rule: one of the cases of `Turn` (order/Law) for
 --                  `applyIn g s i (ruleOf g (viewIn s i))`
 --   counts, holding, safe    what follows from the invariant for words and corollaries
 --
@@ -45,11 +45,11 @@ use Rattle.rules.specs.declared.Side.the-variants.{Putting, Taking}
 use Rattle.rules.specs.declared.Phase.the-variants.{Idle, Window}
 use Rattle.rules.specs.declared.Slot.{Slot}
 use Rattle.rules.specs.declared.Answer.the-variants.{Moving}
-use Rattle.rules.proofs.Sums.{upd, upd-same, upd-other}
-use Rattle.rules.proofs.Order.{Next, Status, pending, Turn, refused, opened}
-use Rattle.rules.proofs.Machine.{State, next, subIn, viewIn, phaseIn, belowIn, applyIn, stepIn, withSlot, beginIn, nextIn, madeIn}
-use Rattle.rules.proofs.Phases.{operationOf, statusOf, worker, idle-phase, window-phase, encode-value}
-use Rattle.rules.proofs.Held.{Holds}
+use Rattle.rules.proofs.counts.Sums.{upd, upd-same, upd-other}
+use Rattle.rules.proofs.order.Law.{Next, Status, pending, Turn, refused, opened}
+use Rattle.rules.proofs.machine.Machine.{State, next, subIn, viewIn, phaseIn, belowIn, applyIn, stepIn, withSlot, beginIn, nextIn, madeIn}
+use Rattle.rules.proofs.machine.Phases.{operationOf, statusOf, worker, idle-phase, window-phase, encode-value}
+use Rattle.rules.proofs.counts.Held.{Holds}
 
 -- ---- what every pool from make has, of either kind
 pub record SlotFits (g : Settings) (o : Slot) : Type 0 where

@@ -15,10 +15,10 @@ use Rattle.rules.specs.declared.Side.the-variants.{Putting, Taking}
 use Rattle.rules.specs.declared.Phase.{Phase}
 use Rattle.rules.specs.declared.Phase.the-variants.{Idle, Window, QueuePutRead, QueueTakeRead, StackRead, Check, QueueCommit, StackCommit, QueueShift, StackShift, Confirm}
 use Rattle.rules.specs.declared.Effect.{Effect}
-use Rattle.rules.proofs.Order.{Next, pending, tried}
-use Rattle.rules.proofs.Machine.{State, viewIn, phaseIn, applyIn, applyInBy, stepIn}
-use Rattle.rules.proofs.Phases.{statusOf}
-use Rattle.rules.proofs.Turns.{statusIn}
+use Rattle.rules.proofs.order.Law.{Next, pending, tried}
+use Rattle.rules.proofs.machine.Machine.{State, viewIn, phaseIn, applyIn, applyInBy, stepIn}
+use Rattle.rules.proofs.machine.Phases.{statusOf}
+use Rattle.rules.proofs.machine.Turns.{statusIn}
 
 abbrev InConfirm : Phase → Type 0
 InConfirm p = (side : Side) × (scan : ℕ) × (sum : ℕ) × (p ≡ Confirm side scan sum)

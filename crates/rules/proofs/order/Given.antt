@@ -19,8 +19,8 @@ use Rattle.rules.specs.Statement.{Gives}
 use Rattle.rules.specs.Consequences.{itemIn}
 use Rattle.rules.specs.declared.Settings.{Settings}
 use Rattle.rules.specs.declared.Answer.{Answer}
-use Rattle.rules.proofs.Sums.{bit}
-use Rattle.rules.proofs.Held.{count-none, count-cons}
+use Rattle.rules.proofs.counts.Sums.{bit}
+use Rattle.rules.proofs.counts.Held.{count-none, count-cons}
 
 -- what is found is taken out of every count
 find-counts : (p : Item → Bool) (stamp : ℕ) (xs : List Item) (f : Found) → find stamp xs ≡ some f → countItems p xs ≡ bit (p (f .item)) + countItems p (f .others)

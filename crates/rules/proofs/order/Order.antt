@@ -16,18 +16,8 @@ use Rattle.rules.specs.Sequential.{Operation, putting, taking, Contents,
 use Rattle.rules.specs.Run.{Call, step, begin, Event, nothing, at, Final, StepOf, Since, Own}
 use Rattle.rules.specs.Statement.{Placement, Placed, All, Sorted, Gives, done, Accepted, OneAtATime}
 use Rattle.rules.specs.declared.Settings.{Settings}
-use Rattle.rules.specs.declared.Answer.{Answer}
-use Rattle.rules.proofs.Sums.{upd, upd-same, upd-other}
-
--- an answer, and the state that it leaves
-pub record Next (S : Type 0) : Type 0 where
-  pub answer : Answer
-  pub state : S
-
--- the run of a list of calls from a state
-unfoldable pub events : {S : Type 0} → (S → Call → Next S) → S → List Call → List Event
-events next s [] = []
-events next s (c ∷ cs) = record { call = c; answer = next s c .answer } ∷ events next (next s c .state) cs
+use Rattle.rules.proofs.counts.Sums.{upd, upd-same, upd-other}
+use Rattle.rules.proofs.order.Law.{Next, events, Status, idle, pending, tried, Others as OthersOf, Turn as TurnOf, refused, opened, walks, tries, stays, loses, ends, wins}
 
 -- a begin is no step
 pub begin-no-step : (i : ℕ) (o : Operation) (j : ℕ) → begin i o ≡ step j → ⊥
@@ -50,12 +40,6 @@ drop-end (y ∷ ys) zero e f l = absurd (nil≢cons (sym e))
 drop-end (y ∷ ys) (suc p) e zero l = absurd (omega arith)
 drop-end (y ∷ ys) (suc p) e (suc f) l = drop-end ys p e f (omega arith)
 
--- how far an operation is: not begun; not placed yet; placed, if its worker keeps to its confirm pass
-pub data Status : Type 0 where
-  idle : Status
-  pending : Operation → Status
-  tried : Operation → Status
-
 clash-ot : {x : Status} {k k′ : Operation} → x ≡ pending k → x ≡ tried k′ → ⊥
 clash-ot e f = let z : _≡_ {A = ℕ} 0 1 = cc in omega arith
 
@@ -69,28 +53,11 @@ module _ {S : Type 0} (g : Settings) (next : S → Call → Next S)
     (status : S → ℕ → Status)
     (I : S → Contents → Type 0)
     (Snap : S → Contents → ℕ → S → Type 0) where
-  -- the other workers: as they were
-  pub record Others (s : S) (i : ℕ) (t : S) : Type 0 where
-    pub same : (j : ℕ) → j ≢ i → status t j ≡ status s j
-    pub kept : (j : ℕ) → j ≢ i → (s₀ : S) (q₀ : Contents) → Snap s₀ q₀ j s → Snap s₀ q₀ j t
+  abbrev Others : S → ℕ → S → Type 0
+  Others s i t = OthersOf g next status I Snap s i t
 
-  -- what one call does to the placed order
-  pub data Turn (s : S) (q : Contents) (c : Call) (o : Next S) : Type 0 where
-    refused : 4 < numberOf (o .answer) → o .state ≡ s → Turn s q c o
-    opened : (i : ℕ) (k : Operation) → c ≡ begin i k → numberOf (o .answer) ≡ 0 → status s i ≡ idle → status (o .state) i ≡ pending k
-        → Others s i (o .state) → I (o .state) q → Turn s q c o
-    walks : (i : ℕ) (k : Operation) → c ≡ step i → numberOf (o .answer) ≡ 0 → status s i ≡ pending k → status (o .state) i ≡ pending k
-        → Others s i (o .state) → I (o .state) q → Turn s q c o
-    tries : (i : ℕ) (k : Operation) → c ≡ step i → numberOf (o .answer) ≡ 0 → status s i ≡ pending k → status (o .state) i ≡ tried k
-        → Others s i (o .state) → I (o .state) q → Snap s q i (o .state) → Turn s q c o
-    stays : (i : ℕ) (k : Operation) → c ≡ step i → numberOf (o .answer) ≡ 0 → status s i ≡ tried k → status (o .state) i ≡ tried k
-        → Others s i (o .state) → I (o .state) q → ((s₀ : S) (q₀ : Contents) → Snap s₀ q₀ i s → Snap s₀ q₀ i (o .state)) → Turn s q c o
-    loses : (i : ℕ) (k : Operation) → c ≡ step i → numberOf (o .answer) ≡ 0 → status s i ≡ tried k → status (o .state) i ≡ pending k
-        → Others s i (o .state) → I (o .state) q → Turn s q c o
-    ends : (i : ℕ) (k : Operation) → c ≡ step i → Final (o .answer) → status s i ≡ pending k → status (o .state) i ≡ idle
-        → Others s i (o .state) → (q′ : Contents) → Gives g q k (o .answer) q′ → I (o .state) q′ → Turn s q c o
-    wins : (i : ℕ) (k : Operation) → c ≡ step i → Final (o .answer) → status s i ≡ tried k → status (o .state) i ≡ idle
-        → Others s i (o .state) → I (o .state) q → ((s₀ : S) (q₀ : Contents) → Snap s₀ q₀ i s → Gives g q₀ k (o .answer) q₀) → Turn s q c o
+  abbrev Turn : S → Contents → Call → Next S → Type 0
+  Turn s q c o = TurnOf g next status I Snap s q c o
 
   module _ (turn : (s : S) (q : Contents) → I s q → (c : Call) → Turn s q c (next s c)) (es : List Event) where
     -- an operation of worker i that is open just before p

@@ -7,7 +7,7 @@ use native.Mathlib.Nat.{le-trans}
 use native.Mathlib.Decide.{ℕ-discrete, decLt}
 use native.Mathlib.Omega.{arith}
 use Rattle.rules.specs.Held.{Item}
-use Rattle.rules.proofs.Sums.{upd, upd-same, upd-other}
+use Rattle.rules.proofs.counts.Sums.{upd, upd-same, upd-other}
 
 pub record Stamped (w : ℕ) (first : ℕ → ℕ) (item : ℕ → ℕ → Item) (puts : ℕ) : Type 0 where
   pub least : (j r : ℕ) → j < w → 1 ≤ r → r ≤ first j → 1 ≤ item j r .stamp

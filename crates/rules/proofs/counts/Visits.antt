@@ -7,7 +7,7 @@ use native.Mathlib.Decide.{decLt}
 use native.Mathlib.Omega.{arith}
 use Rattle.rules.specs.Effects.{nextOf}
 use Rattle.rules.specs.declared.Settings.{Settings}
-use Rattle.rules.proofs.Wraps.{next-cases}
+use Rattle.rules.proofs.counts.Wraps.{next-cases}
 
 pub data Visited (w index scan j : ℕ) : Type 0 where
   behind : j < index → index ≤ j + scan → Visited w index scan j

@@ -34,9 +34,9 @@ use Rattle.rules.specs.declared.View.{View}
 use Rattle.rules.specs.declared.Effect.{Effect}
 use Rattle.rules.specs.declared.Outcome.{Outcome}
 use Rattle.rules.specs.declared.Outcome.the-variants.{Refused, Moving, Landed, Removed, Empty, Full}
-use Rattle.rules.proofs.Wraps.{add32-suc, sub32-is}
-use Rattle.rules.proofs.Good.{queue-below, stack-below}
-use Rattle.rules.proofs.Slots.{OfKind, phase-from}
+use Rattle.rules.proofs.counts.Wraps.{add32-suc, sub32-is}
+use Rattle.rules.proofs.machine.Good.{queue-below, stack-below}
+use Rattle.rules.proofs.machine.Slots.{OfKind, phase-from}
 
 -- no row is held that was not held
 pub record Keeps (g : Settings) (v : View) (e : Effect) : Type 0 where
@@ -69,15 +69,19 @@ module _ (g : Settings) (b : Bounds g) (v : View) (fits : SubFits g (v .first) (
   abbrev Does : Effect → Type 0
   Does e = SubAfter g v e (e .outcome)
 
+  -- the sub's words as they were
+  still : (e : Effect) → e .first ≡ v .first → e .second ≡ v .second → Keeps g v e
+  still e a b = record { below = rw b (le-refl _); first = rw a (le-refl _) }
+
   miss : (scan : ℕ) (again after : Phase) (kept : Slot) → Does (missOf g v scan again after kept)
   unfolding missOf
   miss scan again after kept =
-      cases Does _ _ _ (λ e. record { below = le-refl _; first = le-refl _ }) (λ e. record { below = le-refl _; first = le-refl _ })
+      cases Does _ _ _ (λ e. still _ refl refl) (λ e. still _ refl refl)
 
   commit-by : (side : Side) (matches able : Bool) (done : Effect) → (able ≡ true → Does done) → Does (commitBy g v side matches able done)
   unfolding commitBy
   commit-by side matches able done d =
-      cases Does matches _ _ (λ e. cases Does able _ _ d (λ e. inl refl)) (λ e. record { below = le-refl _; first = le-refl _ })
+      cases Does matches _ _ (λ e. cases Does able _ _ d (λ e. inl refl)) (λ e. still _ refl refl)
 
   queue-does : g .kind ≡ 0 → (side : Side) (seen : ℕ) → Does (queueCommit g v side seen)
   unfolding queueCommit
@@ -120,25 +124,25 @@ module _ (g : Settings) (b : Bounds g) (v : View) (fits : SubFits g (v .first) (
   shift-by : (side : Side) (same able : Bool) (moved stuck : Effect) → Does moved → Does stuck → Does (shiftBy v side same able moved stuck)
   unfolding shiftBy
   shift-by side same able moved stuck l m =
-      cases Does same _ _ (λ e. cases Does able _ _ (λ e. l) (λ e. m)) (λ e. record { below = le-refl _; first = le-refl _ })
+      cases Does same _ _ (λ e. cases Does able _ _ (λ e. l) (λ e. m)) (λ e. still _ refl refl)
 
   nothing-does : (side : Side) (x : ℕ) → Does (finishedOf v (nothingFor side) x)
-  nothing-does Putting x = record { below = le-refl _; first = le-refl _ }
-  nothing-does Taking x = record { below = le-refl _; first = le-refl _ }
+  nothing-does Putting x = still _ refl refl
+  nothing-does Taking x = still _ refl refl
 
   rule-by-does : (p : Phase) → OfKind (g .kind) p → Does (ruleBy g v p)
   unfolding ruleBy windowRule queuePutRead queueTakeRead stackRead checkRule queueShift stackShift confirmRule confirmedOf
   rule-by-does Idle t = inr refl
-  rule-by-does (Window side) t = record { below = le-refl _; first = le-refl _ }
+  rule-by-does (Window side) t = still _ refl refl
   rule-by-does (QueuePutRead window scan) t =
-      cases Does _ _ _ (λ e. record { below = le-refl _; first = le-refl _ }) (λ e. miss scan _ _ _)
+      cases Does _ _ _ (λ e. still _ refl refl) (λ e. miss scan _ _ _)
   rule-by-does (QueueTakeRead window bare scan sum) t =
       cases Does _ _ _ (λ e. miss scan _ _ _)
-      (λ e. cases Does _ _ _ (λ e. miss scan _ _ _) (λ e. record { below = le-refl _; first = le-refl _ }))
+      (λ e. cases Does _ _ _ (λ e. miss scan _ _ _) (λ e. still _ refl refl))
   rule-by-does (StackRead side window version scan sum) t =
-      cases Does _ _ _ (λ e. record { below = le-refl _; first = le-refl _ }) (λ e. miss scan _ _ _)
+      cases Does _ _ _ (λ e. still _ refl refl) (λ e. miss scan _ _ _)
   rule-by-does (Check side version seen) t =
-      cases Does _ _ _ (λ e. record { below = le-refl _; first = le-refl _ }) (λ e. record { below = le-refl _; first = le-refl _ })
+      cases Does _ _ _ (λ e. still _ refl refl) (λ e. still _ refl refl)
   rule-by-does (QueueCommit side seen) t = queue-does (queue-kind (t .1)) side seen
     where
       queue-kind : (g .kind ≢ 0 → ⊥) → g .kind ≡ 0
@@ -147,15 +151,15 @@ module _ (g : Settings) (b : Bounds g) (v : View) (fits : SubFits g (v .first) (
     where
       stack-kind : (g .kind ≡ 0 → ⊥) → g .kind ≡ 1
       stack-kind q = elim (ℕ-discrete (g .kind) 0) [ yes e ↦ absurd (q e) | no n ↦ omega (arith, b .kind1) ]
-  rule-by-does (QueueShift Putting window) t = shift-by Putting _ _ _ _ (record { below = le-refl _; first = le-refl _ }) (nothing-does Putting _)
-  rule-by-does (QueueShift Taking window) t = shift-by Taking _ _ _ _ (record { below = le-refl _; first = le-refl _ }) (nothing-does Taking _)
+  rule-by-does (QueueShift Putting window) t = shift-by Putting _ _ _ _ (still _ refl refl) (nothing-does Putting _)
+  rule-by-does (QueueShift Taking window) t = shift-by Taking _ _ _ _ (still _ refl refl) (nothing-does Taking _)
   rule-by-does (StackShift Putting version scan sum) t =
-      shift-by Putting _ _ _ _ (record { below = le-refl _; first = le-refl _ }) (record { below = le-refl _; first = le-refl _ })
+      shift-by Putting _ _ _ _ (still _ refl refl) (still _ refl refl)
   rule-by-does (StackShift Taking version scan sum) t =
-      shift-by Taking _ _ _ _ (record { below = le-refl _; first = le-refl _ }) (record { below = le-refl _; first = le-refl _ })
+      shift-by Taking _ _ _ _ (still _ refl refl) (still _ refl refl)
   rule-by-does (Confirm side scan sum) t =
-      cases Does _ _ _ (λ e. record { below = le-refl _; first = le-refl _ })
-      (λ e. cases Does _ _ _ (λ e. nothing-does side _) (λ e. record { below = le-refl _; first = le-refl _ }))
+      cases Does _ _ _ (λ e. still _ refl refl)
+      (λ e. cases Does _ _ _ (λ e. nothing-does side _) (λ e. still _ refl refl))
 
   pub rule-sub : SubAfter g v (ruleOf g v) (ruleOf g v .outcome)
   unfolding ruleOf

@@ -32,12 +32,12 @@ use Rattle.rules.specs.declared.View.{View}
 use Rattle.rules.specs.declared.Effect.{Effect}
 use Rattle.rules.specs.declared.Outcome.{Outcome}
 use Rattle.rules.specs.declared.Outcome.the-variants.{Refused, Moving, Landed, Removed, Empty, Full}
-use Rattle.rules.proofs.Sums.{upd, upd-all}
-use Rattle.rules.proofs.Wraps.{next-lt}
-use Rattle.rules.proofs.Order.{Next}
-use Rattle.rules.proofs.Machine.{State, viewIn, applyIn, applyInBy, stepIn, beginIn, nextIn, madeIn}
-use Rattle.rules.proofs.Phases.{OfQueue, OfStack, worker, encode-index}
-use Rattle.rules.proofs.Turns.{SlotFits, Common}
+use Rattle.rules.proofs.counts.Sums.{upd, upd-all}
+use Rattle.rules.proofs.counts.Wraps.{next-lt}
+use Rattle.rules.proofs.order.Law.{Next}
+use Rattle.rules.proofs.machine.Machine.{State, viewIn, applyIn, applyInBy, stepIn, beginIn, nextIn, madeIn}
+use Rattle.rules.proofs.machine.Phases.{OfQueue, OfStack, worker, encode-index}
+use Rattle.rules.proofs.machine.Turns.{SlotFits, Common}
 
 -- a phase of the kind
 abbrev pub OfKind : ℕ → Phase → Type 0

@@ -14,7 +14,7 @@ use Rattle.rules.specs.declared.Phase.{Phase}
 use Rattle.rules.specs.declared.Phase.the-variants.{Idle, Window, QueuePutRead, QueueTakeRead, StackRead, Check, QueueCommit, StackCommit, QueueShift, StackShift, Confirm}
 use Rattle.rules.specs.declared.Worker.{Worker}
 use Rattle.rules.specs.declared.Slot.{Slot}
-use Rattle.rules.proofs.Order.{Status, idle, pending, tried}
+use Rattle.rules.proofs.order.Law.{Status, idle, pending, tried}
 
 abbrev pub worker : ℕ → ℕ → Phase → Worker
 worker value index p = record { value = value; index = index; phase = p }

@@ -13,7 +13,7 @@ use Rattle.rules.specs.Statement.{Gives}
 use Rattle.rules.specs.declared.Settings.{Settings}
 use Rattle.rules.specs.declared.Row.{Row}
 use Rattle.rules.specs.declared.Answer.the-variants.{Put, Taken, Empty, Full}
-use Rattle.rules.proofs.Held.{RowFound}
+use Rattle.rules.proofs.counts.Held.{RowFound}
 
 module _ (g : Settings) (q : Contents) where
   -- the specification's list after a put of v with the next stamp, and after a take
