@@ -2,6 +2,7 @@
 pub mod Cells
 pub mod Fitness
 pub mod Making
+pub mod Untouched
 pub mod counts
 pub mod order
 pub mod machine

@@ -16,6 +16,7 @@ pub mod Confirm
 pub mod Held
 pub mod Apply
 pub mod Step
+pub mod Untouched
 pub mod Sequential
 pub mod Run
 pub mod Statement
