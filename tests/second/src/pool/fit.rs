@@ -13,7 +13,7 @@ pub(crate) fn fit(words: &mut [u32]) -> Result<Pool<'_>, u32> {
     if words.len() < layout::HEADER_WORDS {
         return Err(TOO_SHORT);
     }
-    let settings = settings_of(words);
+    let settings = Settings::of_words(words);
     let zeros = words[layout::FIRST_ZERO] == 0 && words[layout::SECOND_ZERO] == 0;
     if !settings.within_limits() || !zeros {
         return Err(UNFIT);
@@ -28,17 +28,6 @@ pub(crate) fn fit(words: &mut [u32]) -> Result<Pool<'_>, u32> {
         return Err(UNFIT);
     }
     Ok(pool)
-}
-
-fn settings_of(words: &[u32]) -> Settings {
-    Settings {
-        kind: words[layout::KIND],
-        width: words[layout::WIDTH],
-        depth: words[layout::DEPTH],
-        shift: words[layout::SHIFT],
-        rows: words[layout::ROWS],
-        workers: words[layout::WORKERS],
-    }
 }
 
 /// Taken at most put, and put minus taken, or held, at most R.

@@ -18,6 +18,18 @@ pub struct Settings {
 }
 
 impl Settings {
+    /// What stands in the first words, within limits or not.
+    pub fn of_words(words: &[u32]) -> Settings {
+        Settings {
+            kind: words[layout::KIND],
+            width: words[layout::WIDTH],
+            depth: words[layout::DEPTH],
+            shift: words[layout::SHIFT],
+            rows: words[layout::ROWS],
+            workers: words[layout::WORKERS],
+        }
+    }
+
     pub fn within_limits(&self) -> bool {
         let known = self.kind == QUEUE || self.kind == STACK;
         known
