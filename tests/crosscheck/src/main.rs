@@ -10,6 +10,7 @@ mod rng;
 mod side_by_side;
 
 use cases::files::Lister;
+use cases::runs::Runs;
 use coverage::Coverage;
 use failure::Failure;
 use options::{Options, USAGE};
@@ -28,7 +29,7 @@ struct Tally {
     coverage: Coverage,
     lister: Option<Lister>,
     images: u64,
-    runs: u64,
+    runs: Runs,
 }
 
 fn main() -> ExitCode {
@@ -43,7 +44,7 @@ fn main() -> ExitCode {
         coverage: Coverage::default(),
         lister: options.lister.clone().map(Lister::new),
         images: 0,
-        runs: 0,
+        runs: Runs::default(),
     };
     if tally.lister.is_none() {
         println!("no --lister: run files are not compared");
@@ -97,10 +98,7 @@ fn run_case(seed: u64, case: u64, tally: &mut Tally) -> Result<(), Failure> {
                 lister.run(rng)?;
             }
         }
-        _ => {
-            cases::runs::run(rng, &mut tally.coverage)?;
-            tally.runs += 1;
-        }
+        _ => tally.runs.run(rng, &mut tally.coverage)?,
     }
     Ok(())
 }
@@ -115,10 +113,14 @@ fn finish(tally: &Tally) -> ExitCode {
         return ExitCode::FAILURE;
     }
     println!(
-        "crosscheck: {} calls, {} images, {} runs, {} run files: all equal",
+        "one at a time: {} operations placed; in {} runs not all puts and takes at their last steps",
+        tally.runs.operations, tally.runs.not_at_last_steps,
+    );
+    println!(
+        "crosscheck: {} calls, {} images, {} runs one at a time, {} run files: all equal",
         tally.coverage.calls,
         tally.images,
-        tally.runs,
+        tally.runs.runs,
         tally.lister.as_ref().map_or(0, |lister| lister.files),
     );
     ExitCode::SUCCESS

@@ -8,6 +8,7 @@ mod answer;
 mod bounds;
 mod calls;
 mod listing;
+mod one_at_a_time;
 mod pool;
 mod stages;
 
@@ -17,5 +18,6 @@ pub use answer::{EMPTY, FULL, MOVING, PUT, TAKEN};
 pub use bounds::{distance_bound, full_bound};
 pub use calls::{begin_put, begin_take, make, step};
 pub use listing::{list, ABOVE_BOUND, CUT, OUT_OF_PLACE};
+pub use one_at_a_time::{one_at_a_time, Event, Placed};
 pub use pool::settings::{Settings, QUEUE, STACK};
 pub use pool::{layout, phase};

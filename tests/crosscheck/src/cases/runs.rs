@@ -1,4 +1,4 @@
-//! A run from make under a random schedule.
+//! A run from make under a random schedule, then the same run one at a time.
 
 use crate::call::Call;
 use crate::coverage::Coverage;
@@ -8,18 +8,37 @@ use crate::make_up::schedule::{Numbers, Schedule};
 use crate::make_up::settings::{within, Size};
 use crate::rng::Rng;
 use crate::side_by_side::SideBySide;
-use second::Settings;
+use second::phase::Side;
+use second::{one_at_a_time, Answer, Event, Settings};
 
-pub fn run(rng: &mut Rng, coverage: &mut Coverage) -> Result<(), Failure> {
-    let (size, calls) = size(rng);
-    let settings = within(rng, size);
-    let mut pools = made(rng, settings, coverage)?;
-    let mut schedule = Schedule::new(rng, settings, Numbers::Any);
-    for _ in 0..calls {
-        let call = schedule.next(rng, pools.words());
-        pools.call(call, coverage)?;
+/// What the runs of a cross-check add up to.
+#[derive(Default)]
+pub struct Runs {
+    pub runs: u64,
+    pub operations: u64,
+    /// Runs in which some put or take could not stand at its last step.
+    pub not_at_last_steps: u64,
+}
+
+impl Runs {
+    pub fn run(&mut self, rng: &mut Rng, coverage: &mut Coverage) -> Result<(), Failure> {
+        let (size, calls) = size(rng);
+        let settings = within(rng, size);
+        let mut pools = made(rng, settings, coverage)?;
+        let mut schedule = Schedule::new(rng, settings, Numbers::Any);
+        let mut events = Vec::new();
+        for _ in 0..calls {
+            let call = schedule.next(rng, pools.words());
+            let answer = pools.call(call, coverage)?;
+            events.push(event(call, answer));
+        }
+        let placed = one_at_a_time(&settings, &events)
+            .map_err(|why| Failure::Said(format!("{settings:?}, one at a time: {why}")))?;
+        self.runs += 1;
+        self.operations += placed.events.len() as u64;
+        self.not_at_last_steps += u64::from(placed.returns > 0);
+        Ok(())
     }
-    Ok(())
 }
 
 /// Small pools often, the largest now and then and for longer.
@@ -37,4 +56,19 @@ fn made(rng: &mut Rng, settings: Settings, coverage: &mut Coverage) -> Result<Si
     let mut pools = SideBySide::new(&junk::words(rng, len));
     pools.call(Call::Make(settings), coverage)?;
     Ok(pools)
+}
+
+fn event(call: Call, answer: Answer) -> Event {
+    let begin = |worker, side, value| Event::Begin {
+        worker,
+        side,
+        value,
+        answer,
+    };
+    match call {
+        Call::BeginPut { worker, value } => begin(worker, Side::Put, value),
+        Call::BeginTake { worker } => begin(worker, Side::Take, 0),
+        Call::Step { worker } => Event::Step { worker, answer },
+        Call::Make(_) => unreachable!("a run has one make, its first call"),
+    }
 }

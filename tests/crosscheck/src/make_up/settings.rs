@@ -20,12 +20,10 @@ pub fn within(rng: &mut Rng, size: Size) -> Settings {
         Size::Large => (16, 64, 1024, 32),
     };
     let kind = rng.pick(&[QUEUE, STACK]);
+    let width = up_to(rng, widths, size);
     let depth = up_to(rng, depths, size);
-    let most_rows = (depth * depths_in_rows).min(1024);
-    let mut rows = rng.between(2 * depth, most_rows.max(2 * depth));
-    if size == Size::Large && rng.chance(50) {
-        rows = 1024;
-    }
+    let most_rows = (depth * depths_in_rows).min(1024).min(4096 / width);
+    let mut rows = 2 * depth - 1 + up_to(rng, most_rows - 2 * depth + 1, size);
     let mut shift = rng.between(1, depth);
     if kind == QUEUE {
         shift = depth;
@@ -33,7 +31,7 @@ pub fn within(rng: &mut Rng, size: Size) -> Settings {
     }
     Settings {
         kind,
-        width: up_to(rng, widths.min(4096 / rows), size),
+        width,
         depth,
         shift,
         rows,
