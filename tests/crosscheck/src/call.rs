@@ -46,4 +46,13 @@ const COMPILED: Implementation = Implementation {
     step: compiled::step,
 };
 
-pub const OTHERS: [Implementation; 1] = [COMPILED];
+/// The one that the benchmark measures the compiled library against.
+const FAST: Implementation = Implementation {
+    name: "fast",
+    make: fast::make,
+    begin_put: fast::begin_put,
+    begin_take: fast::begin_take,
+    step: fast::step,
+};
+
+pub const OTHERS: [Implementation; 2] = [COMPILED, FAST];

@@ -22,7 +22,8 @@ use std::time::{Duration, Instant};
 /// reach.
 const LEAST_CASES: u64 = 200;
 /// Images and makes are short: a case has this many of them.
-const BATCH: u64 = 40;
+const IMAGES: u64 = 160;
+const MAKES: u64 = 40;
 
 /// Everything that the cases add to.
 struct Tally {
@@ -83,12 +84,12 @@ fn run_case(seed: u64, case: u64, tally: &mut Tally) -> Result<(), Failure> {
     let rng = &mut Rng::new(seed, case);
     match case % 8 {
         0 => {
-            for _ in 0..BATCH {
+            for _ in 0..MAKES {
                 cases::makes::run(rng, &mut tally.coverage)?;
             }
         }
         1..=3 => {
-            for _ in 0..BATCH {
+            for _ in 0..IMAGES {
                 cases::images::run(rng, &mut tally.coverage)?;
                 tally.images += 1;
             }

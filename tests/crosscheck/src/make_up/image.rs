@@ -85,16 +85,29 @@ fn header(rng: &mut Rng, settings: &Settings, words: &mut [u32]) {
     words[layout::STEPS_COUNTED] = junk::step_count(rng);
     words[layout::FIRST_ZERO] = 0;
     words[layout::SECOND_ZERO] = 0;
-    // P near T, or G within the rows; else both are junk.
-    if rng.chance(60) {
-        let near = rng.below(2 * settings.rows);
-        words[layout::PUT_WINDOW] = if settings.kind == QUEUE {
-            words[layout::TAKE_WINDOW]
-                .wrapping_add(near)
-                .wrapping_sub(settings.depth)
-        } else {
-            near
-        };
+    windows(rng, settings, words);
+}
+
+/// P near T, or G within the rows; now and then near 2^32, or left as junk.
+fn windows(rng: &mut Rng, settings: &Settings, words: &mut [u32]) {
+    let near_the_top = u32::MAX - rng.below(settings.depth + 2);
+    let near = rng.below(2 * settings.rows);
+    if settings.kind == QUEUE {
+        match rng.below(10) {
+            0 => words[layout::PUT_WINDOW] = near_the_top,
+            1..=3 => words[layout::TAKE_WINDOW] = near_the_top,
+            _ => {}
+        }
+        if rng.chance(60) {
+            let take_window = words[layout::TAKE_WINDOW];
+            words[layout::PUT_WINDOW] = take_window.wrapping_add(near).wrapping_sub(settings.depth);
+        }
+    } else {
+        match rng.below(10) {
+            0..=1 => words[layout::WINDOW] = near_the_top,
+            2..=6 => words[layout::WINDOW] = near,
+            _ => {}
+        }
     }
 }
 
@@ -114,7 +127,8 @@ fn sub(rng: &mut Rng, settings: &Settings, words: &mut [u32], at: usize) {
 /// A count below, at or above the take window, or junk.
 fn near_windows(rng: &mut Rng, settings: &Settings, words: &[u32]) -> u32 {
     if rng.chance(30) {
-        return junk::word(rng);
+        let any = junk::word(rng);
+        return rng.pick(&[u32::MAX, 0, any]);
     }
     let off = rng.below(2 * settings.depth + 2);
     words[layout::TAKE_WINDOW]
@@ -143,8 +157,12 @@ fn worker(rng: &mut Rng, settings: &Settings, words: &mut [u32], at: usize) {
         let window = rng.pick(&[layout::PUT_WINDOW, layout::TAKE_WINDOW]);
         words[at + layout::SEEN_WINDOW] = words[window];
     }
-    if rng.chance(60) && settings.kind != QUEUE {
-        words[at + layout::EXTRA] = words[layout::WINDOW_VERSION];
+    if rng.chance(60) {
+        words[at + layout::EXTRA] = if settings.kind == QUEUE {
+            rng.pick(&[0, u32::MAX])
+        } else {
+            words[layout::WINDOW_VERSION]
+        };
     }
     if rng.chance(40) {
         words[at + layout::SUM] = sum_to_come(settings, words, at);
