@@ -1,7 +1,7 @@
 //! What a failing case prints.
 
-use crate::call::Call;
 use second::{layout, Answer, Settings};
+use sides::Call;
 use std::fmt;
 
 pub struct Difference {

@@ -1,6 +1,5 @@
 //! The compiled library beside the second implementation, call by call.
 
-mod call;
 mod cases;
 mod coverage;
 mod failure;

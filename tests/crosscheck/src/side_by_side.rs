@@ -1,10 +1,13 @@
 //! One pool in as many copies as there are implementations: a call is made on
 //! each copy, and all words and all six numbers must be equal afterwards.
 
-use crate::call::{Call, OTHERS, SECOND};
 use crate::coverage::Coverage;
 use crate::failure::{Difference, Failure};
 use second::Answer;
+use sides::{Call, Implementation, COMPILED, FAST, SECOND};
+
+/// What is compared with the second implementation.
+const OTHERS: [Implementation; 2] = [COMPILED, FAST];
 
 /// Words on both sides of the lent ones, to see a write outside of them.
 const GUARD: usize = 8;

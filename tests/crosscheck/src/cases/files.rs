@@ -1,12 +1,12 @@
 //! Run files: the program `lister` beside the second implementation's lister,
 //! byte for byte.
 
-use crate::call::{Call, SECOND};
 use crate::failure::Failure;
 use crate::make_up::run_file;
 use crate::make_up::schedule::{Numbers, Schedule};
 use crate::make_up::settings::{any, within, Size};
 use crate::rng::Rng;
+use sides::{Call, SECOND};
 use std::fs::{self, File};
 use std::path::{Path, PathBuf};
 use std::process::{self, Command};

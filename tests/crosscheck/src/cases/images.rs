@@ -1,12 +1,12 @@
 //! A few calls on an image that need not come from make.
 
-use crate::call::Call;
 use crate::coverage::Coverage;
 use crate::failure::Failure;
 use crate::make_up::{image, junk};
 use crate::rng::Rng;
 use crate::side_by_side::SideBySide;
 use second::layout;
+use sides::Call;
 
 pub fn run(rng: &mut Rng, coverage: &mut Coverage) -> Result<(), Failure> {
     let words = match rng.below(10) {

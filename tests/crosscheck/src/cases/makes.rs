@@ -1,13 +1,13 @@
 //! Make on settings within, at and off limits, in words that hold junk, fewer
 //! than needed or more.
 
-use crate::call::Call;
 use crate::coverage::Coverage;
 use crate::failure::Failure;
 use crate::make_up::{junk, settings};
 use crate::rng::Rng;
 use crate::side_by_side::SideBySide;
 use second::Settings;
+use sides::Call;
 
 pub fn run(rng: &mut Rng, coverage: &mut Coverage) -> Result<(), Failure> {
     let settings = settings::any(rng);

@@ -1,6 +1,5 @@
 //! A run from make under a random schedule, then the same run one at a time.
 
-use crate::call::Call;
 use crate::coverage::Coverage;
 use crate::failure::Failure;
 use crate::make_up::junk;
@@ -10,6 +9,7 @@ use crate::rng::Rng;
 use crate::side_by_side::SideBySide;
 use second::phase::Side;
 use second::{one_at_a_time, Answer, Event, Settings};
+use sides::Call;
 
 /// What the runs of a cross-check add up to.
 #[derive(Default)]

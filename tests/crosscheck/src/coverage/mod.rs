@@ -6,11 +6,11 @@ mod corners;
 mod numbers;
 mod phases;
 
-use crate::call::{Call, SECOND};
 use corners::Corners;
 use numbers::Numbers;
 use phases::Phases;
 use second::{layout, Answer, Settings, NO_WORKER, UNFIT};
+use sides::{Call, SECOND};
 
 /// A call on a fit pool that was not refused, or only by its commit.
 struct Seen<'a> {

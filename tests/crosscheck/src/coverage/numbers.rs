@@ -1,6 +1,6 @@
 //! The numbers that each call can answer (paper 01, Returned by the calls).
 
-use crate::call::Call;
+use sides::Call;
 use std::collections::BTreeMap;
 
 const NUMBERS: [(&str, &[u32]); 4] = [

@@ -1,8 +1,8 @@
 //! Run files, whole and damaged (paper 01, The run file and its listing).
 
-use crate::call::Call;
 use crate::rng::Rng;
 use second::Settings;
+use sides::Call;
 
 /// The bytes of a run of calls after a make with these settings.
 pub fn encode(settings: &Settings, calls: &[Call]) -> Vec<u8> {

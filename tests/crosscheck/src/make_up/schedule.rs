@@ -2,10 +2,10 @@
 //! scheduler: it may hold a worker back at any phase while others go on.
 
 use super::junk;
-use crate::call::Call;
 use crate::rng::Rng;
 use second::phase::{self, Side, Stage};
 use second::{layout, Settings};
+use sides::Call;
 
 /// Values and worker numbers that a run may have.
 #[derive(Clone, Copy)]

@@ -1,4 +1,5 @@
-//! A call of the pool, and the implementations that can be asked to make it.
+//! A call of the pool, and the implementations that can be asked to make it:
+//! one table for the cross-check and the benchmark.
 
 use second::{Answer, Settings};
 
@@ -29,7 +30,7 @@ impl Implementation {
     }
 }
 
-/// The others are compared with this one.
+/// The one that says what is right.
 pub const SECOND: Implementation = Implementation {
     name: "second",
     make: second::make,
@@ -38,7 +39,8 @@ pub const SECOND: Implementation = Implementation {
     step: second::step,
 };
 
-const COMPILED: Implementation = Implementation {
+/// The library under test.
+pub const COMPILED: Implementation = Implementation {
     name: "compiled",
     make: compiled::make,
     begin_put: compiled::begin_put,
@@ -47,12 +49,10 @@ const COMPILED: Implementation = Implementation {
 };
 
 /// The one that the benchmark measures the compiled library against.
-const FAST: Implementation = Implementation {
+pub const FAST: Implementation = Implementation {
     name: "fast",
     make: fast::make,
     begin_put: fast::begin_put,
     begin_take: fast::begin_take,
     step: fast::step,
 };
-
-pub const OTHERS: [Implementation; 2] = [COMPILED, FAST];
