@@ -2,18 +2,22 @@
 
 use std::path::PathBuf;
 
-pub const USAGE: &str = "crosscheck [--seed N] [--seconds N] [--lister PROGRAM] [--case N]
+pub const USAGE: &str =
+    "crosscheck [--seed N] [--seconds N] [--lister PROGRAM] [--case N] [--alone]
 
   --seed N          where the random cases start (1)
   --seconds N       how long to go on; a least number of cases is always run (10)
   --lister PROGRAM  compare this run lister too
-  --case N          run one case again, as a failure named it";
+  --case N          run one case again, as a failure named it
+  --alone           compare with no other implementation, to see what the runs
+                    one at a time find by themselves";
 
 pub struct Options {
     pub seed: u64,
     pub seconds: u64,
     pub lister: Option<PathBuf>,
     pub case: Option<u64>,
+    pub alone: bool,
 }
 
 impl Options {
@@ -23,8 +27,13 @@ impl Options {
             seconds: 10,
             lister: None,
             case: None,
+            alone: false,
         };
         while let Some(option) = words.next() {
+            if option == "--alone" {
+                options.alone = true;
+                continue;
+            }
             let value = words.next().ok_or(format!("{option} has no value"))?;
             match option.as_str() {
                 "--seed" => options.seed = number(&value)?,
@@ -35,6 +44,18 @@ impl Options {
             }
         }
         Ok(options)
+    }
+
+    /// The options that run this case again.
+    pub fn again(&self, case: u64) -> String {
+        let mut again = format!("--seed {} --case {case}", self.seed);
+        if let Some(lister) = &self.lister {
+            again += &format!(" --lister {}", lister.display());
+        }
+        if self.alone {
+            again += " --alone";
+        }
+        again
     }
 }
 

@@ -7,7 +7,14 @@ use second::Answer;
 use sides::{Call, Implementation, COMPILED, FAST, SECOND};
 
 /// What is compared with the second implementation.
-const OTHERS: [Implementation; 2] = [COMPILED, FAST];
+pub static OTHERS: [Implementation; 2] = [COMPILED, FAST];
+
+/// What a case makes its calls with.
+pub struct Checks {
+    /// All of OTHERS, or none, to see what runs one at a time find alone.
+    pub others: &'static [Implementation],
+    pub coverage: Coverage,
+}
 
 /// Words on both sides of the lent ones, to see a write outside of them.
 const GUARD: usize = 8;
@@ -44,15 +51,16 @@ impl Copy {
 
 pub struct SideBySide {
     second: Copy,
-    others: Vec<Copy>,
+    others: Vec<(&'static Implementation, Copy)>,
     before: Vec<u32>,
 }
 
 impl SideBySide {
-    pub fn new(words: &[u32]) -> SideBySide {
+    pub fn new(words: &[u32], checks: &Checks) -> SideBySide {
+        let others = checks.others.iter();
         SideBySide {
             second: Copy::of(words),
-            others: OTHERS.iter().map(|_| Copy::of(words)).collect(),
+            others: others.map(|other| (other, Copy::of(words))).collect(),
             before: words.to_vec(),
         }
     }
@@ -61,14 +69,14 @@ impl SideBySide {
         self.second.lent()
     }
 
-    pub fn call(&mut self, call: Call, coverage: &mut Coverage) -> Result<Answer, Failure> {
+    pub fn call(&mut self, call: Call, checks: &mut Checks) -> Result<Answer, Failure> {
         self.before.copy_from_slice(self.second.lent());
         let answer = SECOND.call(self.second.lend(), call);
         let unchanged = self.before == self.second.lent();
         if answer.is_refusal() && !unchanged || !self.second.guards_stand() {
             return Err(Failure::Broken(SECOND.name, call, answer));
         }
-        for (other, copy) in OTHERS.iter().zip(&mut self.others) {
+        for (other, copy) in &mut self.others {
             let theirs = other.call(copy.lend(), call);
             if !copy.guards_stand() {
                 return Err(Failure::Broken(other.name, call, theirs));
@@ -83,6 +91,7 @@ impl SideBySide {
                 })));
             }
         }
+        let coverage = &mut checks.coverage;
         coverage.record(call, answer, &self.before, self.second.lent());
         Ok(answer)
     }

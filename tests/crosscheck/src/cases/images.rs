@@ -1,14 +1,13 @@
 //! A few calls on an image that need not come from make.
 
-use crate::coverage::Coverage;
 use crate::failure::Failure;
 use crate::make_up::{image, junk};
 use crate::rng::Rng;
-use crate::side_by_side::SideBySide;
+use crate::side_by_side::{Checks, SideBySide};
 use second::layout;
 use sides::Call;
 
-pub fn run(rng: &mut Rng, coverage: &mut Coverage) -> Result<(), Failure> {
+pub fn run(rng: &mut Rng, checks: &mut Checks) -> Result<(), Failure> {
     let words = match rng.below(10) {
         0 => image::random(rng),
         1 => image::short(rng),
@@ -16,7 +15,7 @@ pub fn run(rng: &mut Rng, coverage: &mut Coverage) -> Result<(), Failure> {
         _ => image::fit(rng),
     };
     let workers = words.get(layout::WORKERS).copied().unwrap_or(1);
-    let mut pools = SideBySide::new(&words);
+    let mut pools = SideBySide::new(&words, checks);
     let mut worker = junk::worker(rng, workers);
     for _ in 0..rng.between(1, 16) {
         if rng.chance(40) {
@@ -30,7 +29,7 @@ pub fn run(rng: &mut Rng, coverage: &mut Coverage) -> Result<(), Failure> {
             1 => Call::BeginTake { worker },
             _ => Call::Step { worker },
         };
-        pools.call(call, coverage)?;
+        pools.call(call, checks)?;
     }
     Ok(())
 }

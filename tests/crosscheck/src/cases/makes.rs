@@ -1,25 +1,24 @@
 //! Make on settings within, at and off limits, in words that hold junk, fewer
 //! than needed or more.
 
-use crate::coverage::Coverage;
 use crate::failure::Failure;
 use crate::make_up::{junk, settings};
 use crate::rng::Rng;
-use crate::side_by_side::SideBySide;
+use crate::side_by_side::{Checks, SideBySide};
 use second::Settings;
 use sides::Call;
 
-pub fn run(rng: &mut Rng, coverage: &mut Coverage) -> Result<(), Failure> {
+pub fn run(rng: &mut Rng, checks: &mut Checks) -> Result<(), Failure> {
     let settings = settings::any(rng);
     let len = length(rng, &settings);
     let words = junk::words(rng, len);
-    let mut pools = SideBySide::new(&words);
-    pools.call(Call::Make(settings), coverage)?;
+    let mut pools = SideBySide::new(&words, checks);
+    pools.call(Call::Make(settings), checks)?;
     for _ in 0..rng.below(4) {
         let worker = junk::worker(rng, settings.workers);
         let value = junk::word(rng);
-        pools.call(Call::BeginPut { worker, value }, coverage)?;
-        pools.call(Call::Step { worker }, coverage)?;
+        pools.call(Call::BeginPut { worker, value }, checks)?;
+        pools.call(Call::Step { worker }, checks)?;
     }
     Ok(())
 }

@@ -1,12 +1,11 @@
 //! A run from make under a random schedule, then the same run one at a time.
 
-use crate::coverage::Coverage;
 use crate::failure::Failure;
 use crate::make_up::junk;
 use crate::make_up::schedule::{Numbers, Schedule};
 use crate::make_up::settings::{within, Size};
 use crate::rng::Rng;
-use crate::side_by_side::SideBySide;
+use crate::side_by_side::{Checks, SideBySide};
 use second::phase::Side;
 use second::{one_at_a_time, Answer, Event, Settings};
 use sides::Call;
@@ -21,15 +20,15 @@ pub struct Runs {
 }
 
 impl Runs {
-    pub fn run(&mut self, rng: &mut Rng, coverage: &mut Coverage) -> Result<(), Failure> {
+    pub fn run(&mut self, rng: &mut Rng, checks: &mut Checks) -> Result<(), Failure> {
         let (size, calls) = size(rng);
         let settings = within(rng, size);
-        let mut pools = made(rng, settings, coverage)?;
+        let mut pools = made(rng, settings, checks)?;
         let mut schedule = Schedule::new(rng, settings, Numbers::Any);
         let mut events = Vec::new();
         for _ in 0..calls {
             let call = schedule.next(rng, pools.words());
-            let answer = pools.call(call, coverage)?;
+            let answer = pools.call(call, checks)?;
             events.push(event(call, answer));
         }
         let placed = one_at_a_time(&settings, &events)
@@ -43,18 +42,19 @@ impl Runs {
 
 /// Small pools often, the largest now and then and for longer.
 fn size(rng: &mut Rng) -> (Size, u32) {
-    match rng.below(20) {
-        0 => (Size::Large, rng.between(1_000, 40_000)),
-        1..=4 => (Size::Medium, rng.between(100, 4_000)),
+    match rng.below(40) {
+        0..=1 => (Size::Large, rng.between(1_000, 40_000)),
+        2..=9 => (Size::Medium, rng.between(100, 4_000)),
+        10..=25 => (Size::Deep, rng.between(500, 5_000)),
         _ => (Size::Small, rng.between(20, 800)),
     }
 }
 
 /// Words that held junk, made into a pool; some are lent beyond the needed.
-fn made(rng: &mut Rng, settings: Settings, coverage: &mut Coverage) -> Result<SideBySide, Failure> {
+fn made(rng: &mut Rng, settings: Settings, checks: &mut Checks) -> Result<SideBySide, Failure> {
     let len = settings.needed_words() + rng.pick(&[0, 0, 1, 7]);
-    let mut pools = SideBySide::new(&junk::words(rng, len));
-    pools.call(Call::Make(settings), coverage)?;
+    let mut pools = SideBySide::new(&junk::words(rng, len), checks);
+    pools.call(Call::Make(settings), checks)?;
     Ok(pools)
 }
 

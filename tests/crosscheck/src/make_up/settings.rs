@@ -8,6 +8,9 @@ use second::{Settings, QUEUE, STACK};
 pub enum Size {
     Small,
     Medium,
+    /// Few narrow windows, many rows and workers: what goes wrong at windows
+    /// can go far.
+    Deep,
     /// At the limits of the paper.
     Large,
 }
@@ -17,6 +20,7 @@ pub fn within(rng: &mut Rng, size: Size) -> Settings {
     let (widths, depths, depths_in_rows, workers) = match size {
         Size::Small => (4, 3, 4, 4),
         Size::Medium => (16, 8, 8, 32),
+        Size::Deep => (2, 2, 24, 32),
         Size::Large => (16, 64, 1024, 32),
     };
     let kind = rng.pick(&[QUEUE, STACK]);
@@ -24,7 +28,8 @@ pub fn within(rng: &mut Rng, size: Size) -> Settings {
     let depth = up_to(rng, depths, size);
     let most_rows = (depth * depths_in_rows).min(1024).min(4096 / width);
     let mut rows = 2 * depth - 1 + up_to(rng, most_rows - 2 * depth + 1, size);
-    let mut shift = rng.between(1, depth);
+    let some = rng.between(1, depth);
+    let mut shift = rng.pick(&[1, some, depth]);
     if kind == QUEUE {
         shift = depth;
         rows -= rows % depth;
@@ -39,9 +44,10 @@ pub fn within(rng: &mut Rng, size: Size) -> Settings {
     }
 }
 
-/// 1 to most; large settings take the most often.
+/// 1 to most; deep and large settings take the most often.
 fn up_to(rng: &mut Rng, most: u32, size: Size) -> u32 {
-    if size == Size::Large && rng.chance(50) {
+    let at_its_limits = matches!(size, Size::Deep | Size::Large);
+    if at_its_limits && rng.chance(50) {
         most
     } else {
         rng.between(1, most)
