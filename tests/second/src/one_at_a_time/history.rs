@@ -1,6 +1,6 @@
 //! The finished operations of a run, and the steps that are their own.
 
-use crate::answer::Answer;
+use crate::answer::{Answer, MOVING};
 use crate::pool::phase::Side;
 use crate::pool::settings::Settings;
 use std::collections::BTreeMap;
@@ -62,8 +62,6 @@ struct Open {
 }
 
 impl History {
-    /// "A begin not refused opens an operation. Its own steps are that
-    /// worker's next steps not refused, through the one that answers 1 to 4."
     /// Refused calls are nobody's, and unfinished operations have no place.
     pub fn of(settings: &Settings, events: &[Event]) -> Result<History, String> {
         let mut history = History {
@@ -76,35 +74,43 @@ impl History {
             if answer.is_refusal() {
                 continue;
             }
-            if worker >= settings.workers {
-                return Err(format!(
-                    "call {at} is not refused, there is no worker {worker}"
-                ));
-            }
-            match *event {
-                Event::Begin { side, value, .. } => {
-                    let steps = Vec::new();
-                    if open.insert(worker, Open { side, value, steps }).is_some() {
-                        return Err(format!(
-                            "call {at}, a begin, is not refused by busy {worker}"
-                        ));
-                    }
-                }
-                Event::Step { .. } => {
-                    let Some(own) = open.get_mut(&worker) else {
-                        return Err(format!(
-                            "call {at}, a step, is not refused by idle {worker}"
-                        ));
-                    };
-                    own.steps.push(at);
-                    if answer.is_final() {
-                        history.add(worker, open.remove(&worker).expect("it is open"), answer);
-                    }
-                }
+            if worker >= settings.workers || !history.follow(&mut open, at, event) {
+                return Err(format!("call {at} may not be answered so: {event:?}"));
             }
         }
         history.moments.sort_by_key(|moment| moment.event);
         Ok(history)
+    }
+
+    /// "A begin not refused opens an operation. Its own steps are that
+    /// worker's next steps not refused, through the one that answers 1 to 4."
+    /// False for a begin of a busy worker or with an answer of a step, and for
+    /// a step of an idle one.
+    fn follow(&mut self, open: &mut BTreeMap<u32, Open>, at: usize, event: &Event) -> bool {
+        match *event {
+            Event::Begin {
+                worker,
+                side,
+                value,
+                answer,
+            } => {
+                let steps = Vec::new();
+                let was_busy = open.insert(worker, Open { side, value, steps }).is_some();
+                !was_busy && answer.number == MOVING
+            }
+            Event::Step { worker, answer } => {
+                let Some(mut own) = open.remove(&worker) else {
+                    return false;
+                };
+                own.steps.push(at);
+                if answer.is_final() {
+                    self.add(worker, own, answer);
+                } else {
+                    open.insert(worker, own);
+                }
+                true
+            }
+        }
     }
 
     fn add(&mut self, worker: u32, finished: Open, answer: Answer) {

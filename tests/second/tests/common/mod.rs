@@ -1,4 +1,4 @@
-//! Small helpers over the four calls.
+//! Shortcuts over the four calls.
 #![allow(dead_code)]
 
 use second::{begin_put, begin_take, make, step, Answer, Settings, MOVING, QUEUE, STACK};
