@@ -8,6 +8,7 @@ use crate::failure::Failure;
 use crate::options::Options;
 use crate::rng::Rng;
 use crate::side_by_side::{Checks, OTHERS};
+use std::panic::{self, AssertUnwindSafe};
 use std::process::ExitCode;
 use std::time::{Duration, Instant};
 
@@ -58,15 +59,23 @@ impl Tally {
             if case >= LEAST_CASES && options.case.is_none() && Instant::now() >= end {
                 break;
             }
-            let rng = &mut Rng::new(options.seed, case);
-            let outcome = if options.alone {
+            self.run_one(options, case)
+                .map_err(|failure| (case, failure))?;
+        }
+        Ok(())
+    }
+
+    /// A panic is a failure of its case like any other.
+    fn run_one(&mut self, options: &Options, case: u64) -> Result<(), Failure> {
+        let rng = &mut Rng::new(options.seed, case);
+        let outcome = panic::catch_unwind(AssertUnwindSafe(|| {
+            if options.alone {
                 self.runs.run(rng, &mut self.checks)
             } else {
                 self.run_case(rng, case)
-            };
-            outcome.map_err(|failure| (case, failure))?;
-        }
-        Ok(())
+            }
+        }));
+        outcome.unwrap_or_else(|_| Err(Failure::Said("it panicked, see above".to_string())))
     }
 
     fn run_case(&mut self, rng: &mut Rng, case: u64) -> Result<(), Failure> {

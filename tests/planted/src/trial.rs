@@ -22,8 +22,6 @@ pub fn trial(crosscheck: &Path, options: &[String]) -> Result<Outcome, String> {
     match output.status.code() {
         Some(0) => Ok(Outcome::NotFound),
         Some(1) => Ok(Outcome::Found(seconds, printed)),
-        // A fault may also make the second implementation panic.
-        Some(101) => Ok(Outcome::Found(seconds, "panicked".to_string())),
         other => Err(format!("crosscheck ended with {other:?}: {printed}")),
     }
 }
