@@ -126,5 +126,7 @@ impl Tally {
             "one at a time: {} operations of {} runs have places; {} runs need places before last steps",
             self.runs.operations, self.runs.runs, self.runs.not_at_last_steps,
         );
+        let [queue, stack] = self.runs.percent_of_bound;
+        println!("distances came up to {queue} % of the bound in queues, {stack} % in stacks");
     }
 }

@@ -7,7 +7,7 @@ use crate::make_up::settings::{within, Size};
 use crate::rng::Rng;
 use crate::side_by_side::{Checks, SideBySide};
 use second::phase::Side;
-use second::{one_at_a_time, Answer, Event, Settings};
+use second::{distance_bound, one_at_a_time, Answer, Event, Settings};
 use sides::Call;
 
 /// What the runs of a cross-check add up to.
@@ -17,6 +17,8 @@ pub struct Runs {
     pub operations: u64,
     /// Runs in which some put or take could not stand at its last step.
     pub not_at_last_steps: u64,
+    /// How many percent of its bound a distance has reached, by kind.
+    pub percent_of_bound: [u32; 2],
 }
 
 impl Runs {
@@ -30,6 +32,7 @@ impl Runs {
             let call = schedule.next(rng, pools.words());
             let answer = pools.call(call, checks)?;
             events.push(event(call, answer));
+            self.note_distance(&settings, answer.distance);
         }
         let placed = one_at_a_time(&settings, &events)
             .map_err(|why| Failure::Said(format!("{settings:?}, one at a time: {why}")))?;
@@ -37,6 +40,17 @@ impl Runs {
         self.operations += placed.events.len() as u64;
         self.not_at_last_steps += u64::from(placed.returns > 0);
         Ok(())
+    }
+
+    /// A pool of one sub has bound 0 and tells nothing.
+    fn note_distance(&mut self, settings: &Settings, distance: u32) {
+        let most = &mut self.percent_of_bound[settings.kind as usize];
+        if let Some(percent) = distance
+            .saturating_mul(100)
+            .checked_div(distance_bound(settings))
+        {
+            *most = percent.max(*most);
+        }
     }
 }
 
