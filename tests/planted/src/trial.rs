@@ -13,8 +13,12 @@ pub enum Outcome {
 /// Runs the cross-check for at most about so many seconds.
 pub fn trial(crosscheck: &Path, options: &[String]) -> Result<Outcome, String> {
     let start = Instant::now();
+    // A run file that fails stays in the temporary folder: in this one, it
+    // goes with the copy.
+    let beside = crosscheck.parent().ok_or("a program stands in a folder")?;
     let output = Command::new(crosscheck)
         .args(options)
+        .env("TMPDIR", beside)
         .output()
         .map_err(|error| error.to_string())?;
     let seconds = start.elapsed().as_secs_f64();

@@ -13,6 +13,13 @@ pub enum Turns {
         worker: u32,
         left: u32,
     },
+    /// One worker goes on for long, with puts alone or takes alone: it stays
+    /// at its sub while the window lets it.
+    Solo {
+        worker: u32,
+        put_percent: u32,
+        left: u32,
+    },
     /// Workers stay at a stage, some of them for long, while others go on.
     Parked {
         stage: Stage,
@@ -36,11 +43,16 @@ const STAGES: [Stage; 7] = [
 impl Turns {
     pub fn new(rng: &mut Rng, workers: &Workers) -> Turns {
         let stage = rng.pick(&STAGES);
-        match rng.below(8) {
+        match rng.below(10) {
             0 => Turns::Fair,
             1 => Turns::RoundRobin(0),
             2 => Turns::Bursty { worker: 0, left: 0 },
-            3..=4 => Turns::Parked {
+            3..=4 => Turns::Solo {
+                worker: 0,
+                put_percent: 0,
+                left: 0,
+            },
+            5..=6 => Turns::Parked {
                 stage,
                 side: rng.pick(&[None, Some(Side::Put), Some(Side::Take)]),
                 parked: vec![false; workers.number() as usize],
@@ -49,7 +61,7 @@ impl Turns {
         }
     }
 
-    /// The next worker; an ambush also says how many percent of begins are
+    /// The next worker; some turns also say how many percent of begins are
     /// puts.
     pub fn next(&mut self, rng: &mut Rng, workers: &Workers) -> (u32, Option<u32>) {
         let any = rng.below(workers.number());
@@ -66,6 +78,19 @@ impl Turns {
                 }
                 *left -= 1;
                 *worker
+            }
+            Turns::Solo {
+                worker,
+                put_percent,
+                left,
+            } => {
+                if *left == 0 {
+                    *worker = any;
+                    *put_percent = rng.pick(&[0, 100]);
+                    *left = rng.between(1, 8 * workers.settings.width * workers.settings.depth);
+                }
+                *left -= 1;
+                return (*worker, Some(*put_percent));
             }
             Turns::Parked {
                 stage,
