@@ -14,12 +14,13 @@ use std::time::{Duration, Instant};
 
 /// Cases that are run however short the time is; they reach all there is to
 /// reach.
-const LEAST_CASES: u64 = 200;
+const LEAST_CASES: u64 = 400;
 /// Images and makes are short: a case has this many of them.
 const IMAGES: u64 = 160;
 const MAKES: u64 = 40;
-/// Which cases are of which sort goes by their number modulo this.
-const SORTS: u64 = 8;
+/// Which cases are of which sort goes by their number modulo this: most are
+/// runs, which say the most, and a case of run files takes as long as ten.
+const SORTS: u64 = 16;
 const RUN_FILES: u64 = 4;
 
 pub struct Tally {

@@ -2,7 +2,8 @@
 //! prints how long the cross-check takes to find each. Exits non-zero if one
 //! is not found.
 //!
-//! planted [--seconds N] [--seed N] [--lister PROGRAM]
+//! planted [--seconds N] [--seed N] [--lister PROGRAM], with at most N seconds
+//! for each trial (120)
 
 mod copy;
 mod faults;
@@ -33,7 +34,7 @@ fn main() -> ExitCode {
 
 fn options() -> Result<Options, String> {
     let mut options = Options {
-        seconds: "60".to_string(),
+        seconds: "120".to_string(),
         seed: "1".to_string(),
         lister: None,
     };
