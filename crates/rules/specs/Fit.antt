@@ -48,6 +48,11 @@ bodyChecked ws g =
 unfoldable pub checkedOf : List ℕ → Checked
 checkedOf ws = cond (ltb (length ws) headWords) (Unfit 21) (cond (headFit ws) (bodyChecked ws (settingsOf ws)) (Unfit 23))
 
+-- the number of a refusal; 0 for a fit pool
+abbrev pub refusalOf : Checked → ℕ
+refusalOf (Unfit n) = n
+refusalOf (Fit g) = 0
+
 -- what a sub that fits has
 pub record SubFits (g : Settings) (first second : ℕ) : Type 0 where
   pub queue-order : g .kind ≡ 0 → second ≤ first

@@ -1,12 +1,12 @@
--- `fitness::settings::settings_fit` meets its contract: each return stands where the first limit in the list's order fails, or none.
+-- `fitness::limits::settings_fit` meets its contract: at each return the tests that led there pick the same branch of `settingsFit`, and each call stands for what it ensures.
 use native.Mathlib.Nat.{mul-le-mul-right}
 use native.Mathlib.Omega.{arith}
 use borrow.Author.Needs.{needs}
 use Rattle.rules.specs.Limits.{settingsFit}
 use Rattle.laws.specs.Tests.{tests}
 use Rattle.laws.specs.Choice.{cond}
-use Rattle.fitness.proofs.settings.settings_fit.Statement.{statement}
-use Rattle.fitness.proofs.settings.settings_fit.Tie as tie
+use Rattle.fitness.proofs.limits.settings_fit.Statement.{statement}
+use Rattle.fitness.proofs.limits.settings_fit.Tie as tie
 
 returns : tie.Need-returns
 unfolding settingsFit cond

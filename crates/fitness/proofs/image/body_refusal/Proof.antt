@@ -1,11 +1,11 @@
--- `fitness::image::body_checked` meets its contract: at each return the tests that led there pick the same branch of `bodyChecked`, and each call stands for what it ensures.
+-- `fitness::image::body_refusal` meets its contract: at each return the tests that led there pick the same branch of `bodyChecked`, and each call stands for what it ensures.
 use borrow.Author.Tests.{le-ltb, lt-ltb}
 use mathlib.Core.Path.{sym, _∙_}
 use borrow.Author.Needs.{needs}
 use Rattle.rules.specs.Fit.{bodyChecked}
 use Rattle.laws.specs.Choice.{cond}
-use Rattle.fitness.proofs.image.body_checked.Statement.{statement}
-use Rattle.fitness.proofs.image.body_checked.Tie as tie
+use Rattle.fitness.proofs.image.body_refusal.Statement.{statement}
+use Rattle.fitness.proofs.image.body_refusal.Tie as tie
 
 words-needed-requires : tie.Need-words-needed-requires
 words-needed-requires c κs = search needs
@@ -46,8 +46,8 @@ returns-4 c =
     simp
     (← c .before .before .before .words-needed .ensures, le-ltb _ _ (c .before .before .if1 .left), sym (c .before .subs-fit .ensures) ∙ c .if2 .left)
 
-pub body-checked-spec : {M : Type 1} → statement M
-body-checked-spec =
+pub body-refusal-spec : {M : Type 1} → statement M
+body-refusal-spec =
     tie.close
     (tie.spec
     words-needed-requires
