@@ -36,7 +36,7 @@ within-bound ws g cs made = bounded g (run (makeOf ws g .words) cs) (demand3 ws 
 pub real-time : (ws : List ℕ) (g : Settings) (cs : List Call) (made : _) → InRealTime g (run (makeOf ws g .words) cs) (demand3 ws g cs made)
 real-time ws g cs made = in-real-time g (run (makeOf ws g .words) cs) (demand3 ws g cs made)
 
--- no count and no pass sum reaches 2^32
+-- no count and no sum of a step reaches 2^32, and no difference but confirm's passes below 0
 pub no-sum-wraps : OfEveryRun (λ g ws cs. NoSumWraps g (wordsAfter ws cs))
 no-sum-wraps ws g cs made =
     let a = accepted ws g made in

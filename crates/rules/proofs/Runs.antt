@@ -113,7 +113,7 @@ module _ (g : Settings) (limits : settingsFit g ≡ true) (k : Kind g) where
         mark = rw (says .mark) (safe .mark);
         first = λ j l. rw (says .first j l) (safe .first j l);
         second = λ j l. rw (says .second j l) (safe .second j l);
-        pass = λ i l. rw (says .slot i l, view-same g limits ws s says (r .whole .common) counts i l) (safe .pass i);
+        rule = λ i l. rw (says .slot i l, view-same g limits ws s says (r .whole .common) counts i l) (safe .rule i);
       }
 
   pub safe-after : {ws : List ℕ} {s : State} → Rel ws s → (cs : List Call) → NoSumWraps g (wordsAfter ws cs)

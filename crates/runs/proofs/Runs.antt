@@ -1,4 +1,4 @@
--- Every row of the table holds: the rules are run, and each line compared with the row's. That a row's `made` is make's number
+-- Every row of both tables holds: the rules are run, and each line compared with the row's. That a row's `made` is make's number
 -- whatever the lent words hold is `make-number`: it depends on the settings and on how many words are lent alone, so the large
 -- settings are judged by their size.
 use Prim.Native.Nat.{ℕ}
@@ -25,11 +25,14 @@ use Rattle.rules.specs.Confirm.{confirmedOf, confirmRule}
 use Rattle.rules.specs.Held.{itemsAbove, heldSub, heldBelow, countItems, distanceOf}
 use Rattle.rules.specs.Apply.{putItem, putView, takenOf, applyBy, applyOf}
 use Rattle.rules.specs.Step.{ruleBy, ruleOf, slotStep, fitStep, checkedStep, stepOf}
+use Rattle.rules.specs.Sequential.{mostPassed, leastFull}
 use Rattle.rules.specs.Run.{callOf, run}
 use Rattle.rules.specs.declared.Settings.{Settings}
 use Rattle.rules.specs.declared.Answer.the-variants.{Moving}
 use Rattle.runs.specs.Rows.{makeNumber, linesOf, runOf, AllHold, end, _also_}
+use Rattle.runs.specs.Notation.{queue, stack}
 use Rattle.runs.specs.Table.{table}
+use Rattle.runs.specs.Extremes.{extremes}
 
 pub make-number : (ws : List ℕ) (g : Settings) → numberOf (makeOf ws g .answer) ≡ makeNumber g (length ws)
 unfolding makeOf makeNumber cond
@@ -40,19 +43,31 @@ make-number ws g = go (settingsFit g) (ltb (length ws) (needed g))
     go true false = refl
     go false b = refl
 
-pub runs-hold : AllHold table
-unfolding table runOf linesOf makeNumber settingsFit run callOf cond allBelow slotAt putSlot queuePhase stackPhase phaseOf decode encode encodePhase headFit subFit subsFit phaseFit wordFit workersFit bodyChecked checkedOf zeroed indexed madeWords makeOf slotBegin fitBegin checkedBegin beginOf viewOf nextOf windowRule missOf queuePutRead queueTakeRead stackRead checkRule commitBy queueCommit stackCommit shiftBy queueShift stackShift confirmedOf confirmRule itemsAbove heldSub heldBelow countItems distanceOf putItem putView takenOf applyBy applyOf ruleBy ruleOf slotStep fitStep checkedStep stepOf
-runs-hold =
-    record { made = refl; lines = refl }
-    also record { made = refl; lines = refl }
-    also record { made = refl; lines = refl }
-    also record { made = refl; lines = refl }
-    also record { made = refl; lines = refl }
-    also record { made = refl; lines = refl }
-    also record { made = refl; lines = refl }
-    also record { made = refl; lines = refl }
-    also record { made = refl; lines = refl }
-    also record { made = refl; lines = refl }
-    also record { made = refl; lines = refl }
-    also record { made = refl; lines = refl }
-    also end
+pub runs-hold : AllHold table × AllHold extremes
+unfolding table extremes runOf linesOf makeNumber settingsFit run callOf cond allBelow slotAt putSlot queuePhase stackPhase phaseOf decode encode encodePhase headFit subFit subsFit phaseFit wordFit workersFit bodyChecked checkedOf zeroed indexed madeWords makeOf slotBegin fitBegin checkedBegin beginOf viewOf nextOf windowRule missOf queuePutRead queueTakeRead stackRead checkRule commitBy queueCommit stackCommit shiftBy queueShift stackShift confirmedOf confirmRule itemsAbove heldSub heldBelow countItems distanceOf putItem putView takenOf applyBy applyOf ruleBy ruleOf slotStep fitStep checkedStep stepOf
+runs-hold = (
+  record { made = refl; lines = refl }
+      also record { made = refl; lines = refl }
+      also record { made = refl; lines = refl }
+      also record { made = refl; lines = refl }
+      also record { made = refl; lines = refl }
+      also record { made = refl; lines = refl }
+      also record { made = refl; lines = refl }
+      also record { made = refl; lines = refl }
+      also record { made = refl; lines = refl }
+      also record { made = refl; lines = refl }
+      also record { made = refl; lines = refl }
+      also record { made = refl; lines = refl }
+      also end,
+  record { made = refl; lines = refl }
+      also record { made = refl; lines = refl }
+      also record { made = refl; lines = refl }
+      also record { made = refl; lines = refl }
+      also record { made = refl; lines = refl }
+      also end,
+)
+
+-- which are demand 3's numbers for the queue's take and for both fulls
+pub numbers-reached : (mostPassed (queue 3 2 4 3) ≡ 4) × (leastFull (queue 2 1 2 1) ≡ 2) × (leastFull (stack 2 2 2 5 1) ≡ 8)
+unfolding mostPassed leastFull cond
+numbers-reached = (refl, refl, refl)

@@ -1,44 +1,9 @@
 -- "Runs by hand", the starred ones, in the paper's order.
-use Prim.Native.Nat.{ℕ}
 use mathlib.Core.List.{List, [], _∷_, _++_}
-use lib.ListN.{replicate}
-use Rattle.rules.specs.Run.{Call, beginPut, beginTake, step}
-use Rattle.rules.specs.declared.Settings.{Settings}
+use Rattle.rules.specs.Run.{Call, step}
 use Rattle.runs.specs.Rows.{Line, Row}
+use Rattle.runs.specs.Notation.{queue, stack, makes, runs, steps, put, take, landed, taken, plain}
 
-abbrev queue : ℕ → ℕ → ℕ → ℕ → Settings
-queue width depth rows workers = record { kind = 0; width = width; depth = depth; shift = depth; rows = rows; workers = workers }
-
-abbrev stack : ℕ → ℕ → ℕ → ℕ → Settings
-stack width depth rows workers = record { kind = 1; width = width; depth = depth; shift = depth; rows = rows; workers = workers }
-
--- ---- rows
-abbrev makes : Settings → ℕ → ℕ → Row
-makes g lent number = record { settings = g; lent = lent; made = number; counted = 0; calls = []; lines = [] }
-
-abbrev runs : Settings → ℕ → List Call → List Line → Row
-runs g lent calls lines = record { settings = g; lent = lent; made = 0; counted = 0; calls = calls; lines = lines }
-
-abbrev steps : ℕ → ℕ → List Call
-steps i k = replicate k (step i)
-
-abbrev put : ℕ → ℕ → ℕ → List Call
-put i value k = beginPut i value ∷ steps i k
-
-abbrev take : ℕ → ℕ → List Call
-take i k = beginTake i ∷ steps i k
-
--- ---- lines: the worker, the steps taken, then the answer
-abbrev landed : ℕ → ℕ → ℕ → ℕ → ℕ → ℕ → Line
-landed i k value sub row stamp = record { worker = i; steps = k; number = 1; fields = value ∷ sub ∷ row ∷ stamp ∷ 0 ∷ [] }
-
-abbrev taken : ℕ → ℕ → ℕ → ℕ → ℕ → ℕ → ℕ → Line
-taken i k value sub row stamp distance = record { worker = i; steps = k; number = 2; fields = value ∷ sub ∷ row ∷ stamp ∷ distance ∷ [] }
-
-abbrev plain : ℕ → ℕ → ℕ → Line
-plain i k number = record { worker = i; steps = k; number = number; fields = 0 ∷ 0 ∷ 0 ∷ 0 ∷ 0 ∷ [] }
-
--- ---- the table
 -- four puts, and a fifth that finds no room
 abbrev fivePuts : List Call
 fivePuts = put 0 11 3 ++ (put 0 12 4 ++ (put 0 13 7 ++ (put 0 14 4 ++ put 0 15 4)))
@@ -67,7 +32,7 @@ table =
     -- line w 1, d 1, R 2: two puts both at commit with seen 0; the second fails, then lands in row 2 after 6 more steps
     runs (queue 1 1 2 2) 34 (put 0 5 2 ++ (put 1 6 2 ++ (step 0 ∷ steps 1 7))) (landed 0 3 5 0 1 1 ∷ landed 1 9 6 0 2 2 ∷ []) ∷
     -- new pile, w 1, d 1: a take is empty in 4 steps; a put lands in 4
-    runs (stack 1 1 2 1) 26 (take 0 4 ++ put 0 9 4) (plain 0 4 3 ∷ landed 0 4 9 0 1 1 ∷ []) ∷
+    runs (stack 1 1 1 2 1) 26 (take 0 4 ++ put 0 9 4) (plain 0 4 3 ∷ landed 0 4 9 0 1 1 ∷ []) ∷
     -- step count 3,999,999,999 still moves; 4,000,000,000 gives 27
     record {
       settings = queue 2 1 2 1;

@@ -1,10 +1,10 @@
 -- What settings within limits give to a proof.
 use mathlib.Core.Path.{_≡_}
 use mathlib.Core.Bool.{true}
-use Prim.Native.Nat.{ℕ, _+_, _-_, _*_, _/_}
+use Prim.Native.Nat.{ℕ, _+_, _-_, _*_, _/_, _≤_}
 use native.Mathlib.Nat.{div-add-mod'}
 use native.Mathlib.Omega.{arith}
-use Rattle.laws.specs.Choice.{cond-true, cond-false}
+use Rattle.laws.specs.Choice.{cond, cond-true, cond-false}
 use Rattle.rules.specs.Limits.{settingsFit, Bounds}
 use Rattle.rules.specs.Held.{rowsBelow}
 use Rattle.rules.specs.Sequential.{mostPassed, leastFull}
@@ -35,18 +35,15 @@ module _ (g : Settings) where
   pub stack-below : g .kind ≡ 1 → (x : ℕ) → rowsBelow g x ≡ 0
   stack-below k x = rw k (cond-false x 0)
 
-  pub queue-most : g .kind ≡ 0 → mostPassed g ≡ (g .width - 1) * g .depth
-  unfolding mostPassed
-  queue-most k = rw k (cond-true _ _)
+  -- demand 3's numbers against what a kind shows
+  pub queue-most : g .kind ≡ 0 → (g .width - 1) * g .depth ≤ mostPassed g
+  unfolding mostPassed cond
+  queue-most k = rw k (omega arith)
 
-  pub stack-most : g .kind ≡ 1 → mostPassed g ≡ (g .width - 1) * (2 * g .depth + 2 * g .shift)
-  unfolding mostPassed
-  stack-most k = rw k (cond-false _ _)
+  pub queue-full : g .kind ≡ 0 → leastFull g ≤ g .width * (g .rows - g .depth)
+  unfolding leastFull cond
+  queue-full k = rw k (omega arith)
 
-  pub queue-full : g .kind ≡ 0 → leastFull g ≡ g .width * (g .rows - g .depth)
-  unfolding leastFull
-  queue-full k = rw k (cond-true _ _)
-
-  pub stack-full : g .kind ≡ 1 → leastFull g ≡ g .width * (g .rows - g .shift + 1)
-  unfolding leastFull
-  stack-full k = rw k (cond-false _ _)
+  pub stack-full : g .kind ≡ 1 → leastFull g ≤ g .width * (g .rows - g .shift + 1)
+  unfolding leastFull cond
+  stack-full k = rw k (omega arith)

@@ -176,7 +176,7 @@ module _ (g : Settings) where
     fits-take-miss : (window bare scan sum : ℕ) → (g .kind ≢ 0 → ⊥) → Left (queueTakeMiss g v window bare scan sum)
     fits-take-miss window bare scan sum q =
         fits-miss scan _ _ _ ((λ k. tt), (λ n. absurd (q n)))
-        (cases (OfKind (g .kind)) (eqb bare 0) _ _ (λ e. ((λ k. tt), (λ n. absurd (q n)))) (λ e. ((λ k. tt), (λ n. tt))))
+        (cases (OfKind (g .kind)) (eqb bare 0) _ _ (λ e. ((λ k. tt), (λ n. absurd (q n)))) (λ e. ((λ k. tt), (λ n. absurd (q n)))))
         (λ l. l)
         (cases (λ (p : Phase). scanIn p 0 < g .width) (eqb bare 0) _ _ (λ e. width1) (λ e. width1))
 

@@ -35,10 +35,9 @@ use Rattle.rules.specs.Answers.{numberOf}
 use Rattle.rules.specs.Worker.{fresh, zeroSlot, phaseOf}
 use Rattle.rules.specs.Fit.{phaseFit, SubFits}
 use Rattle.rules.specs.Step.{ruleOf}
-use Rattle.rules.specs.Confirm.{counted}
 use Rattle.rules.specs.Sequential.{Contents, noItems}
 use Rattle.rules.specs.Run.{Call, beginPut, beginTake, step, begin}
-pub use Rattle.rules.specs.Consequences.{sumSoFar}
+use Rattle.rules.specs.Consequences.{NoWrap}
 use Rattle.rules.specs.declared.Settings.{Settings}
 use Rattle.rules.specs.declared.Side.{Side}
 use Rattle.rules.specs.declared.Side.the-variants.{Putting, Taking}
@@ -73,14 +72,14 @@ pub record Holding (g : Settings) (s : State) (q : Contents) : Type 0 where
   pub held : Holds (g .width) (belowIn g s) (s .first) (s .item) (q .items)
   pub count : q .count ≡ s .puts
 
--- no sum that a step adds up reaches 2^32, and no commit that matches is refused
+-- no sum that a step adds up reaches 2^32, no difference but confirm's passes below 0, and no commit that matches is refused
 pub record Safe (g : Settings) (s : State) : Type 0 where
   pub puts : s .puts + 1 < 2 ^ 32
   pub top : s .top + 2 * g .depth < 2 ^ 32
   pub mark : s .mark + g .depth < 2 ^ 32
   pub first : (j : ℕ) → j < g .width → s .first j + 1 < 2 ^ 32
   pub second : (j : ℕ) → j < g .width → s .second j + 1 < 2 ^ 32
-  pub pass : (i : ℕ) → sumSoFar (phaseIn g s i) + counted g (viewIn s i) < 2 ^ 32
+  pub rule : (i : ℕ) → NoWrap g (viewIn s i) (phaseIn g s i)
   pub able : (i : ℕ) → numberOf (applyIn g s i (ruleOf g (viewIn s i)) .answer) ≢ 23
 
 -- ---- how far worker i's operation is

@@ -126,5 +126,5 @@ module _ (g : Settings) (good : Good g) (kind : g .kind ≡ 0) (s : State) (q : 
         (cases Steps (leb (s .top + 2 * g .depth - s .mark) (g .rows)) _ _
         (λ b. shift g kind s q inv i (QueueShift Putting window) now Putting (s .top + g .depth) (s .mark) refl (up (eqb-true _ _ a) (leb-true _ _ b)))
         (λ b. end-full g kind s q inv i (QueueShift Putting window) now (subIn s i) refl
-        (rw (queue-full g kind) (many-held (inv .pool .holds) (g .rows - g .depth) (gap (eqb-true _ _ a) (leb-false _ _ b))))))))
+        (le-trans (queue-full g kind) (many-held (inv .pool .holds) (g .rows - g .depth) (gap (eqb-true _ _ a) (leb-false _ _ b))))))))
         (λ a. walk g kind s q inv i (QueueShift Putting window) now (subIn s i) (Window Putting) tt _ tt operation refl refl)

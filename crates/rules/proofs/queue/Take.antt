@@ -178,7 +178,7 @@ module _ (g : Settings) (good : Good g) (kind : g .kind ≡ 0) (s : State) (q : 
     pub take-shift : Steps (queueShift g (viewIn s i) Taking window)
     unfolding queueShift shiftBy
     take-shift =
-        cases Steps (eqb (s .mark) window) _ _
+        cases Steps _ _ _
         (λ a. rw (add32-is (s .mark) (g .depth) (omega (arith, mark-few good (inv .pool), good .bounds .depth64)))
         (cases Steps (ltb (s .mark) (s .top)) _ _
         (λ b. shift g kind s q inv i (QueueShift Taking window) now Taking (s .top) (s .mark + g .depth) refl (up (eqb-true _ _ a) (ltb-true _ _ b)))
@@ -201,7 +201,7 @@ module _ (g : Settings) (good : Good g) (kind : g .kind ≡ 0) (s : State) (q : 
         (cases Steps (ltb (suc scan) (g .width)) _ _
         (λ a. stay g kind s q inv i (Confirm Taking scan sum) now (nextOf g j) (Confirm Taking (suc scan) (sub32 sum (s .first j))) tt _
         (ltb-true _ _ a) taking refl refl one-more)
-        (λ a. cases Steps (eqb (sub32 sum (s .first j)) 0) _ _
+        (λ a. cases Steps _ _ _
         (λ b. win g kind s q inv i (Confirm Taking scan sum) now (nextOf g j) refl
         (λ s₀ q₀ h. pass-end some-few on (rw (last (ltb-false _ _ a)) at (one-more s₀ q₀ h)) (eqb-true _ _ b)))
         (λ b. lose g kind s q inv i (Confirm Taking scan sum) now (nextOf g j) (Window Taking) tt _ tt taking refl refl)))

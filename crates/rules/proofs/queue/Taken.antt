@@ -7,7 +7,7 @@ use mathlib.Core.Path.{_≡_, refl, sym, ap, _∙_, subst}
 use mathlib.Core.Logic.{_≢_, _⊎_, inl, inr}
 use mathlib.Core.Bool.{Bool, false}
 use Prim.Native.Nat.{ℕ, suc, _+_, _-_, _*_, _≤_, _<_}
-use native.Mathlib.Nat.{le-refl, le-of-eq, le-of-lt, eq-or-lt-of-le}
+use native.Mathlib.Nat.{le-refl, le-trans, le-of-eq, le-of-lt, eq-or-lt-of-le}
 use native.Mathlib.Decide.{ℕ-discrete, decLe}
 use native.Mathlib.Omega.{arith}
 use lib.Dec.{ltb, eqb}
@@ -143,7 +143,7 @@ module _ (g : Settings) (good : Good g) (kind : g .kind ≡ 0) (s : State) (q : 
         sym (distance-held g s (q .items) (it .stamp) (λ m l. rw (queue-below g kind (s .second m)) (o .held m l)) (holds-below g kind s q (inv .pool)))
 
     distance-le : distanceIn g s (it .stamp) ≤ mostPassed g
-    distance-le = rw (distance, queue-most g kind) bounded
+    distance-le = rw distance (le-trans bounded (queue-most g kind))
 
     -- ---- what is left
     abbrev t : State

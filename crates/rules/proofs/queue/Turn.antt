@@ -1,8 +1,9 @@
--- The queue as a kind: its invariant holds of a new pool, every begin and every step keeps it, and no sum of a queue from make
--- reaches 2^32. Each phase's step is in the file of its operation; here they are put together.
+-- The queue as a kind: its invariant holds of a new pool, every begin and every step keeps it, no sum of a queue from make
+-- reaches 2^32, and no difference but confirm's passes below 0. Each phase's step is in the file of its operation; here they
+-- are put together.
 use mathlib.Core.Path.{_≡_, refl, sym, subst}
 use mathlib.Core.Logic.{_≢_}
-use Prim.Native.Nat.{ℕ, _+_, _^_, _<_}
+use Prim.Native.Nat.{ℕ, _≤_, _<_}
 use native.Mathlib.Nat.{le-refl}
 use native.Mathlib.Omega.{arith}
 use lib.Dec.{eqb}
@@ -10,8 +11,8 @@ use Rattle.laws.specs.Choice.{cond, cond-true}
 use Rattle.rules.specs.Worker.{fresh, zeroSlot}
 use Rattle.rules.specs.Effects.{refusedOf}
 use Rattle.rules.specs.Step.{ruleOf, ruleBy}
-use Rattle.rules.specs.Confirm.{counted}
 use Rattle.rules.specs.Sequential.{Contents, noItems}
+use Rattle.rules.specs.Consequences.{NoWrap}
 use Rattle.rules.specs.declared.Settings.{Settings}
 use Rattle.rules.specs.declared.Side.{Side}
 use Rattle.rules.specs.declared.Side.the-variants.{Putting, Taking}
@@ -24,12 +25,12 @@ use Rattle.rules.proofs.machine.Phases.{idle-phase}
 use Rattle.rules.proofs.counts.Passes.{summed-more, summed-le}
 use Rattle.rules.proofs.counts.Held.{count-none}
 use Rattle.rules.proofs.machine.Good.{Good}
-use Rattle.rules.proofs.machine.Turns.{Common, Counts, Safe, sumSoFar, begun, Kind}
+use Rattle.rules.proofs.machine.Turns.{Common, Counts, Safe, begun, Kind}
 use Rattle.rules.proofs.queue.Inv.{Windows, Stamps, Pool, Knows, Inv, Linked, Snap, sum-few, put-few, taken-few, top-few, mark-few}
 use Rattle.rules.proofs.queue.Moves.{Stepped, inv-after, told-knows}
 use Rattle.rules.proofs.queue.Put.{put-window, put-read, put-shift}
 use Rattle.rules.proofs.queue.Landed.{put-commit}
-use Rattle.rules.proofs.queue.Take.{counted-put, take-window, take-read, take-shift, take-confirm}
+use Rattle.rules.proofs.queue.Take.{take-window, take-read, take-shift, take-confirm}
 use Rattle.rules.proofs.queue.Taken.{take-commit, holds-below}
 
 module _ (g : Settings) (good : Good g) (kind : g .kind ≡ 0) where
@@ -136,29 +137,36 @@ module _ (g : Settings) (good : Good g) (kind : g .kind ≡ 0) where
     unfolding ruleOf
     stepped = by-phase (phaseIn g s i) refl
 
-    -- ---- no sum of a pass reaches 2^32
+    -- ---- no sum reaches 2^32, and no difference but confirm's passes below 0
     index : subIn s i < g .width
     index = common .slots i .index
 
-    alone : s .first (subIn s i) < 2 ^ 32
-    alone = omega (arith, put-few good (inv .pool) (subIn s i) index)
+    width16 : g .width ≤ 16
+    width16 = good .bounds .width16
 
-    pass-few : (p : Phase) → Knows g s (subIn s i) p → sumSoFar p + s .first (subIn s i) < 2 ^ 32
-    pass-few Idle k = omega (arith, alone)
-    pass-few (Window side) k = omega (arith, alone)
-    pass-few (QueuePutRead window scan) k = omega (arith, alone)
-    pass-few (QueueTakeRead window bare scan sum) k =
-        omega (arith, sum-few good (inv .pool), summed-le (summed-more g (s .first) (subIn s i) scan sum index (k .scan-lt) (k .read .sums)))
-    pass-few (StackRead side window version scan sum) k = absurd k
-    pass-few (Check side version seen) k = absurd k
-    pass-few (QueueCommit side seen) k = omega (arith, alone)
-    pass-few (StackCommit side seen) k = absurd k
-    pass-few (QueueShift side window) k = omega (arith, alone)
-    pass-few (StackShift side version scan sum) k = absurd k
-    pass-few (Confirm side scan sum) k = omega (arith, alone)
-
-    pass-safe : sumSoFar (phaseIn g s i) + counted g (viewIn s i) < 2 ^ 32
-    pass-safe = rw (counted-put g kind (viewIn s i)) (pass-few (phaseIn g s i) (inv .knows i))
+    no-wrap : (p : Phase) → Knows g s (subIn s i) p → NoWrap g (viewIn s i) p
+    no-wrap Idle k = tt
+    no-wrap (Window side) k = tt
+    no-wrap (QueuePutRead window scan) k = omega (arith, k .scan-lt, width16)
+    no-wrap (QueueTakeRead window bare scan sum) k = (
+      omega (arith, sum-few good (inv .pool), summed-le (summed-more g (s .first) (subIn s i) scan sum index (k .scan-lt) (k .read .sums))),
+      omega (arith, k .read .bare-le, k .scan-lt, width16),
+      omega (arith, k .scan-lt, width16),
+    )
+    no-wrap (StackRead side window version scan sum) k = absurd k
+    no-wrap (Check side version seen) k = absurd k
+    no-wrap (QueueCommit Putting seen) k = (
+      inv .pool .windows .held (subIn s i) index,
+      omega (arith, put-few good (inv .pool) (subIn s i) index),
+      omega (arith, inv .pool .puts-few, inv .pool .steps-few),
+    )
+    no-wrap (QueueCommit Taking seen) k = omega (arith, taken-few good (inv .pool) (subIn s i) index)
+    no-wrap (StackCommit side seen) k = absurd k
+    no-wrap (QueueShift Putting window) k = (omega (arith, top-few good (inv .pool), good .bounds .depth64), omega (arith, inv .pool .windows .order))
+    no-wrap (QueueShift Taking window) k = omega (arith, mark-few good (inv .pool), good .bounds .depth64)
+    no-wrap (StackShift side version scan sum) k = absurd k
+    no-wrap (Confirm Putting scan sum) k = absurd k
+    no-wrap (Confirm Taking scan sum) k = omega (arith, k, width16)
 
   -- ---- what follows
   counts : (s : State) (q : Contents) → Inv g s q → Counts g s
@@ -182,7 +190,7 @@ module _ (g : Settings) (good : Good g) (kind : g .kind ≡ 0) where
         mark = omega (arith, mark-few good (inv .pool), good .bounds .depth64);
         first = λ j l. omega (arith, put-few good (inv .pool) j l);
         second = λ j l. omega (arith, taken-few good (inv .pool) j l);
-        pass = pass-safe s q common inv;
+        rule = λ i. no-wrap s q common inv i (phaseIn g s i) (inv .knows i);
         able = λ i. stepped s q common inv i .able;
       }
 

@@ -4,7 +4,7 @@ use mathlib.Core.Path.{_≡_, refl}
 use Prim.Native.Nat.{ℕ, suc, _^_, _<_}
 use native.Mathlib.Omega.{arith}
 use borrow.Author.Tests.{ltb-true, ltb-false, eqb-true}
-use lib.Dec.{ltb, eqb}
+use lib.Dec.{ltb}
 use Rattle.laws.specs.Choice.{cond-false, cases}
 use Rattle.laws.specs.Wrap.{add32, sub32}
 use Rattle.rules.specs.Worker.{zeroSlot}
@@ -109,4 +109,4 @@ module _ {g : Settings} {s : State} {q : Contents} {i : ℕ} (a : Stepping g s q
       let scan-is : add32 scan 1 ≡ suc scan = add32-suc scan (omega (arith, scan-lt, a .good .bounds .width16)) in
       rw (count-is, scan-is)
       (cases (On a) (ltb (suc scan) (g .width)) _ _ (λ l. goes-on (ltb-true _ _ l))
-      (λ l. cases (On a) (eqb rest 0) _ _ (λ u. finishes (omega (arith, ltb-false, scan-lt)) (eqb-true _ _ u)) (λ u. starts-again _)))
+      (λ l. cases (On a) _ _ _ (λ u. finishes (omega (arith, ltb-false, scan-lt)) (eqb-true _ _ u)) (λ u. starts-again _)))

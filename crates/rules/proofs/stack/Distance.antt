@@ -9,13 +9,13 @@ use native.Mathlib.Nat.{le-of-eq, eq-or-lt-of-le, le-refl, mul-le-mul-left}
 use native.Mathlib.Decide.{decLe}
 use native.Mathlib.Omega.{arith}
 use borrow.Author.Tests.{le-ltb}
-use Rattle.laws.specs.Choice.{cond-false}
+use Rattle.laws.specs.Choice.{cond, cond-false}
 use Rattle.rules.specs.Held.{Item, passedOver}
 use Rattle.rules.specs.Sequential.{Contents, mostPassed}
 use Rattle.rules.specs.declared.Settings.{Settings}
 use Rattle.rules.proofs.counts.Sums.{upTo, upTo-none, rows-more, rows-flat, sum-zero, sum-within-but, times-pred}
 use Rattle.rules.proofs.machine.Machine.{State, countIn, distanceIn}
-use Rattle.rules.proofs.machine.Good.{Good, stack-most}
+use Rattle.rules.proofs.machine.Good.{Good}
 use Rattle.rules.proofs.stack.Inv.{Ghost, Pool}
 
 -- the most newer items that a take passes over
@@ -23,7 +23,8 @@ abbrev pub mostNewer : Settings → ℕ
 mostNewer g = (g .width - 1) * (2 * g .depth + 2 * g .shift - 1)
 
 pub newer-most : (g : Settings) → g .kind ≡ 1 → mostNewer g ≤ mostPassed g
-newer-most g kind = rw (stack-most g kind) (mul-le-mul-left (g .width - 1) (omega arith))
+unfolding mostPassed cond
+newer-most g kind = rw kind (mul-le-mul-left (g .width - 1) (omega arith))
 
 -- no row from 1 to c passes a test
 no-row : (p : ℕ → Bool) (c : ℕ) → ((n : ℕ) → 1 ≤ n → n ≤ c → p n ≡ false) → upTo p c ≡ 0

@@ -135,7 +135,7 @@ module _ {g : Settings} {s : State} {q : Contents} {i : ℕ} (a : Stepping g s q
   unfolding checkRule
   turn-check side version seen e =
       let k : Checking g (sight s) side (version .0) (seen .0) j = known a e in
-      cases (On a) (eqb (s .mark) (version .0)) _ _
+      cases (On a) _ _ _
       (λ t.
       let now : version .0 ≡ s .mark = sym (eqb-true _ _ t) in
       walk a e side refl j (StackCommit side seen) _ refl tt (record {

@@ -1,12 +1,13 @@
 -- What the invariant says of every step's answer and of every sum: no commit is refused for want of a cell or an item, a take
--- passes over few newer items, and no count reaches 2^32. A live put has held < lo + s ≤ R, and a live take held > lo - d ≥ 0.
+-- passes over few newer items, no count reaches 2^32, and no difference but confirm's passes below 0. A live put has
+-- held < lo + s ≤ R, and a live take held > lo - d ≥ 0.
 use mathlib.Core.Path.{_≡_, refl, sym}
 use mathlib.Core.Logic.{_≢_}
-use Prim.Native.Nat.{ℕ, _+_, _≤_}
+use Prim.Native.Nat.{ℕ, _≤_, _<_}
 use native.Mathlib.Omega.{arith}
 use borrow.Author.Tests.{ltb-false, eqb-true}
 use lib.Dec.{ltb, eqb}
-use Rattle.laws.specs.Choice.{cond-false, cases}
+use Rattle.laws.specs.Choice.{cases}
 use Rattle.laws.specs.Wrap.{add32, sub32}
 use Rattle.rules.specs.Answers.{numberOf}
 use Rattle.rules.specs.Effects.{restartOf, hopOf, itemsHeld, subVersion}
@@ -15,9 +16,10 @@ use Rattle.rules.specs.Read.{stackRead, missOf}
 use Rattle.rules.specs.Check.{checkRule}
 use Rattle.rules.specs.Commit.{stackCommit, commitBy, landedOf, removedOf}
 use Rattle.rules.specs.Shift.{stackShift, shiftBy}
-use Rattle.rules.specs.Confirm.{counted, confirmRule, confirmedOf}
+use Rattle.rules.specs.Confirm.{confirmRule, confirmedOf}
 use Rattle.rules.specs.Step.{ruleOf, ruleBy}
 use Rattle.rules.specs.Sequential.{Contents}
+use Rattle.rules.specs.Consequences.{NoWrap}
 use Rattle.rules.specs.declared.Settings.{Settings}
 use Rattle.rules.specs.declared.Side.{Side}
 use Rattle.rules.specs.declared.Side.the-variants.{Putting, Taking}
@@ -30,9 +32,9 @@ use Rattle.rules.specs.declared.Answer.{Answer}
 use Rattle.rules.specs.declared.Answer.the-variants.{Moving, Put, Taken, Empty, Full, Refused}
 use Rattle.rules.proofs.machine.Machine.{State, subIn, viewIn, phaseIn, applyIn, applyInBy}
 use Rattle.rules.proofs.machine.Good.{Good}
-use Rattle.rules.proofs.machine.Turns.{Common, Safe, Counts, sumSoFar}
+use Rattle.rules.proofs.machine.Turns.{Common, Safe, Counts}
 use Rattle.rules.proofs.stack.Inv.{sight, Knows, Inv}
-use Rattle.rules.proofs.stack.After.{versions-few, version-few, window-le, held-le}
+use Rattle.rules.proofs.stack.After.{versions-few, version-few, window-ge, window-le, held-le}
 use Rattle.rules.proofs.stack.Moves.{sum-le-versions}
 use Rattle.rules.proofs.stack.Put.{put-room}
 use Rattle.rules.proofs.stack.Distance.{mostNewer}
@@ -119,25 +121,45 @@ module _ {g : Settings} {s : State} {q : Contents} (good : Good g) (kind : g .ki
     unfolding ruleOf
     stack-answers = fine-by (phaseIn g s i) refl (inv .knows i)
 
-  -- ---- sums
-  one-few : (i : ℕ) → 0 + s .second (subIn s i) ≤ 4000000000
-  one-few i = omega (arith, version-few (inv .pool) (subIn s i) (common .slots i .index))
+  -- ---- sums and differences
+  module _ (i : ℕ) where
+    index : subIn s i < g .width
+    index = common .slots i .index
 
-  sum-by : (i : ℕ) (p : Phase) → Knows g (sight s) (inv .ghost) (subIn s i) p → sumSoFar p + s .second (subIn s i) ≤ 4000000000
-  sum-by i Idle k = one-few i
-  sum-by i (Window side) k = one-few i
-  sum-by i (QueuePutRead window scan) k = absurd k
-  sum-by i (QueueTakeRead window bare scan sum) k = absurd k
-  sum-by i (StackRead side window version scan sum) k = omega (arith, versions-few (inv .pool), sum-le-versions (common .slots i .index) k)
-  sum-by i (Check side version seen) k = one-few i
-  sum-by i (QueueCommit side seen) k = absurd k
-  sum-by i (StackCommit side seen) k = one-few i
-  sum-by i (QueueShift side window) k = absurd k
-  sum-by i (StackShift side version scan sum) k = one-few i
-  sum-by i (Confirm side scan sum) k = one-few i
+    few : s .second (subIn s i) ≤ 4000000000
+    few = version-few (inv .pool) (subIn s i) index
 
-  counts-version : (i : ℕ) → counted g (viewIn s i) ≡ s .second (subIn s i)
-  counts-version i = rw kind (cond-false _ _)
+    no-wrap : (p : Phase) → Knows g (sight s) (inv .ghost) (subIn s i) p → NoWrap g (viewIn s i) p
+    no-wrap Idle k = tt
+    no-wrap (Window side) k = tt
+    no-wrap (QueuePutRead window scan) k = absurd k
+    no-wrap (QueueTakeRead window bare scan sum) k = absurd k
+    no-wrap (StackRead side window version scan sum) k = (
+      omega (arith, versions-few (inv .pool), sum-le-versions index k),
+      omega (arith, k .scan-lt, good .bounds .width16),
+      k .depth-le,
+    )
+    no-wrap (Check side version seen) k = tt
+    no-wrap (QueueCommit side seen) k = absurd k
+    no-wrap (StackCommit Putting seen) k = (
+      omega (arith, held-le (inv .pool) (subIn s i) index, good .bounds .rows1024),
+      omega (arith, few),
+      omega (arith, inv .pool .few .puts, versions-few (inv .pool)),
+    )
+    no-wrap (StackCommit Taking seen) k = (
+      (λ u. omega (arith, k .fits (sym u), inv .pool .window .depth-lo)),
+      omega (arith, few),
+    )
+    no-wrap (QueueShift side window) k = absurd k
+    no-wrap (StackShift Putting version scan sum) k = (
+      omega (arith, window-le (inv .pool), good .bounds),
+      omega (arith, versions-few (inv .pool)),
+    )
+    no-wrap (StackShift Taking version scan sum) k = (
+      omega (arith, window-ge (inv .pool), good .bounds .shift-depth),
+      omega (arith, versions-few (inv .pool)),
+    )
+    no-wrap (Confirm side scan sum) k = omega (arith, k, good .bounds .width16)
 
   pub stack-safe : Safe g s
   stack-safe =
@@ -148,7 +170,7 @@ module _ {g : Settings} {s : State} {q : Contents} (good : Good g) (kind : g .ki
         mark = omega (arith, versions-few o, good .bounds .depth64);
         first = λ j l. omega (arith, held-le o j l, good .bounds .rows1024);
         second = λ j l. omega (arith, version-few o j l);
-        pass = λ i. omega (arith, sum-by i (phaseIn g s i) (inv .knows i), counts-version i);
+        rule = λ i. no-wrap i (phaseIn g s i) (inv .knows i);
         able = λ i. not-23 g (applyIn g s i (ruleOf g (viewIn s i)) .answer) (stack-answers i);
       }
 

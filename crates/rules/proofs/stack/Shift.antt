@@ -5,10 +5,10 @@ use mathlib.Core.Path.{_≡_, refl, sym}
 use mathlib.Core.Logic.{inl, inr}
 use mathlib.Core.Bool.{Bool, true, false}
 use Prim.Native.Nat.{ℕ, suc, _+_, _-_, _<_}
-use native.Mathlib.Nat.{le-refl}
+use native.Mathlib.Nat.{le-refl, le-trans}
 use native.Mathlib.Omega.{arith}
 use borrow.Author.Tests.{ltb-true, ltb-false, leb-true, leb-false, eqb-true}
-use lib.Dec.{ltb, leb, eqb}
+use lib.Dec.{ltb, leb}
 use Rattle.laws.specs.Choice.{cases}
 use Rattle.laws.specs.Wrap.{add32, sub32}
 use Rattle.rules.specs.Worker.{encode}
@@ -95,7 +95,7 @@ module _ {g : Settings} {s : State} {q : Contents} {i : ℕ} (a : Stepping g s q
 
     stuck : (b : Side) → Unable g b (s .top) → ((m : ℕ) → m < g .width → Missed g b (s .top) (s .first m)) → Stuck g b q
     stuck Putting l missed =
-        rw (stack-full g (a .kind))
+        le-trans (stack-full g (a .kind))
         (many-held (held-rows (a .inv .pool) (a .kind)) (g .rows - g .shift + 1) (λ m u. omega (arith, missed m u, a .inv .pool .window)))
     stuck Taking l missed = none-held (held-rows (a .inv .pool) (a .kind)) (λ m u. omega (arith, missed m u))
 
@@ -112,17 +112,17 @@ module _ {g : Settings} {s : State} {q : Contents} {i : ℕ} (a : Stepping g s q
         (inv-still a confirms (s .slot i) tt (omega (arith, k .scan-is, a .good .bounds .width1)))
         (snap-after a (still s i confirms (s .slot i)) confirms (s .slot i) refl tt s q pass))
 
-  -- ---- the rule, the same on both sides but for the test and the new window
+  -- ---- the rule, the same on both sides but for the tests and the new window
   shift-by : (side : Side) (version : Version) (scan sum : ℕ) → phaseIn g s i ≡ StackShift side version scan sum
-      → (able : Bool) → (able ≡ true → Able g side (s .top)) → (able ≡ false → Unable g side (s .top))
-      → On a (shiftBy (viewIn s i) side (eqb (s .mark) (version .0)) able (shiftedOf (viewIn s i) side (windowAfter g side (s .top)) (suc (s .mark)))
+      → (same able : Bool) → (same ≡ true → version .0 ≡ s .mark) → (able ≡ true → Able g side (s .top)) → (able ≡ false → Unable g side (s .top))
+      → On a (shiftBy (viewIn s i) side same able (shiftedOf (viewIn s i) side (windowAfter g side (s .top)) (suc (s .mark)))
       (movedOf (viewIn s i) j (Confirm side scan sum) (s .slot i)))
   unfolding shiftBy
-  shift-by side version scan sum e able yes-able not-able =
-      cases (On a) (eqb (s .mark) (version .0)) _ _
+  shift-by side version scan sum e same able now yes-able not-able =
+      cases (On a) same _ _
       (λ u. cases (On a) able _ _
-      (λ x. shifts side version scan sum e (sym (eqb-true _ _ u)) (yes-able x))
-      (λ x. goes-to-confirm side version scan sum e (sym (eqb-true _ _ u)) (not-able x)))
+      (λ x. shifts side version scan sum e (now u) (yes-able x))
+      (λ x. goes-to-confirm side version scan sum e (now u) (not-able x)))
       (λ u. restart a e side refl j)
 
   mark-is : add32 (s .mark) 1 ≡ suc (s .mark)
@@ -134,8 +134,10 @@ module _ {g : Settings} {s : State} {q : Contents} {i : ℕ} (a : Stepping g s q
   turn-shift Putting version scan sum e =
       let up : add32 (s .top) (g .shift) ≡ s .top + g .shift =
       add32-is (s .top) (g .shift) (omega (arith, window-le (a .inv .pool), a .good .bounds)) in
-      rw (up, mark-is) (shift-by Putting version scan sum e (leb (s .top + g .shift) (g .rows)) (λ u. leb-true _ _ u) (λ u. leb-false _ _ u))
+      rw (up, mark-is)
+      (shift-by Putting version scan sum e _ (leb (s .top + g .shift) (g .rows)) (λ u. sym (eqb-true _ _ u)) (λ u. leb-true _ _ u) (λ u. leb-false _ _ u))
   turn-shift Taking version scan sum e =
       let down : sub32 (s .top) (g .shift) ≡ s .top - g .shift =
       sub32-is (s .top) (g .shift) (omega (arith, window-ge (a .inv .pool), a .good .bounds)) (omega (arith, window-le (a .inv .pool), a .good .bounds)) in
-      rw (down, mark-is) (shift-by Taking version scan sum e (ltb (g .depth) (s .top)) (λ u. ltb-true _ _ u) (λ u. ltb-false _ _ u))
+      rw (down, mark-is)
+      (shift-by Taking version scan sum e _ (ltb (g .depth) (s .top)) (λ u. sym (eqb-true _ _ u)) (λ u. ltb-true _ _ u) (λ u. ltb-false _ _ u))
