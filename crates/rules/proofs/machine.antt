@@ -5,4 +5,3 @@ pub mod Good
 pub mod Turns
 pub mod Slots
 pub mod Subs
-pub mod Tried

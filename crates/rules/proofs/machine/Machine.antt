@@ -9,7 +9,7 @@ use Rattle.laws.specs.Choice.{cond}
 use Rattle.rules.specs.Held.{Item, rowsBelow, passedOver}
 use Rattle.rules.specs.Make.{newMark}
 use Rattle.rules.specs.Worker.{fresh, phaseOf, encode}
-use Rattle.rules.specs.Effects.{keepOf, movedOf, finishedOf}
+use Rattle.rules.specs.Effects.{movedOf, finishedOf}
 use Rattle.rules.specs.Shift.{shiftedOf}
 use Rattle.rules.specs.Step.{ruleOf}
 use Rattle.rules.specs.Apply.{stampOf}
@@ -201,11 +201,6 @@ module _ (g : Settings) (s : State) (i : ℕ) where
       ≡ next Moving (turnedIn s i (s .top) (s .mark) (encode (record { value = s .slot i .value; index = index; phase = p }) kept))
   unfolding applyIn applyInBy
   apply-moved index p kept = ap (next Moving) (after-turned s i (s .top) (s .mark) _)
-
-  -- a step to a slot that is given whole, as the window's step to a fresh worker
-  pub apply-kept : (x : Slot) → applyIn g s i (keepOf (viewIn s i) Moves x) ≡ next Moving (turnedIn s i (s .top) (s .mark) x)
-  unfolding applyIn applyInBy
-  apply-kept x = ap (next Moving) (after-turned s i (s .top) (s .mark) x)
 
   pub apply-shifted : (side : Side) (top mark : ℕ)
       → applyIn g s i (shiftedOf (viewIn s i) side top mark)

@@ -40,6 +40,14 @@ drop-end (y ∷ ys) zero e f l = absurd (nil≢cons (sym e))
 drop-end (y ∷ ys) (suc p) e zero l = absurd (omega arith)
 drop-end (y ∷ ys) (suc p) e (suc f) l = drop-end ys p e f (omega arith)
 
+-- a chosen step is not after the one that finishes
+pub chosen-le : (es : List Event) (x : Placement) → Placed es x → x .chosen ≤ x .finished
+chosen-le es x y = by (decLe (x .chosen) (x .finished))
+  where
+    by : Dec (x .chosen ≤ x .finished) → x .chosen ≤ x .finished
+    by (yes l) = l
+    by (no l) = absurd (y .chosen .since .quiet (x .finished) (y .finished .since .later) (lt-of-not-le l) (y .finished .here .called) (y .final))
+
 clash-ot : {x : Status} {k k′ : Operation} → x ≡ pending k → x ≡ tried k′ → ⊥
 clash-ot e f = let z : _≡_ {A = ℕ} 0 1 = cc in omega arith
 
@@ -235,16 +243,9 @@ module _ {S : Type 0} (g : Settings) (next : S → Call → Next S)
       here i u n = record { called = hc ∙ u; accepted = omega (arith, same-number) }
 
       -- an operation placed after p does not end at p
-      placed-le : (x : Placement) → Placed es x → x .chosen ≤ x .finished
-      placed-le x y = go (decLe (x .chosen) (x .finished))
-        where
-          go : Dec (x .chosen ≤ x .finished) → x .chosen ≤ x .finished
-          go (yes l) = l
-          go (no l) = absurd (y .chosen .since .quiet (x .finished) (y .finished .since .later) (lt-of-not-le l) (y .finished .here .called) (y .final))
-
       fresh-at : (ys : List Placement) → All (Placed es) ys → All (λ (y : Placement). suc p ≤ y .chosen) ys → All (λ (y : Placement). y .finished ≢ p) ys
       fresh-at [] a b = tt
-      fresh-at (y ∷ ys) a b = ((λ e. omega (arith, placed-le y (a .0), b .0)), fresh-at ys (a .1) (b .1))
+      fresh-at (y ∷ ys) a b = ((λ e. omega (arith, chosen-le es y (a .0), b .0)), fresh-at ys (a .1) (b .1))
 
       -- the fates of the workers besides i, whose operation ends at g
       fates : {q′ : Contents} (i : ℕ) {k : Operation} → c ≡ step i → status s i ≡ pending k → Others s i (o .state) → (r : Rest (o .state) q′ (suc p)) (g : ℕ) → StepOf es i g
@@ -348,7 +349,7 @@ module _ {S : Type 0} (g : Settings) (next : S → Call → Next S)
           (fates i u a w r p (here i u (n .high)))
           (λ j st fin. refl)
           (λ j f x. other-awaits i w r j f (λ e. absurd (clash-it b (rw e at (x .1)))) x)
-      by-turn (wins i k u n a b w h′ z) =
+      by-turn (wins i k u n m a b w h′ z) =
           let r : Rest (o .state) q (suc p) = ih q h′ (live-next s (o .state) p i live (w .same) (onward i u) (λ k′ e. absurd (clash-io b e)) (λ k′ e. absurd (clash-it b e))) in
           let fate : ℕ → Option ℕ = upd (r .fate) i (some p) in
           let set-i : fate i ≡ some p = upd-same (r .fate) i (some p) in

@@ -235,7 +235,7 @@ module _ (g : Settings) (kind : g .kind ≡ 0) (s : State) (q : Contents) (inv :
         → Stepped g s q i (applyIn g s i (finishedOf (viewIn s i) NoItem index))
     win e none =
         rw (apply-empty g s i index) (record {
-          turn = λ few. wins i taking refl final-empty (status-now ∙ e) (status-rest index rested refl (grown _ _ unmoved rest))
+          turn = λ few. wins i taking refl final-empty (omega arith) (status-now ∙ e) (status-rest index rested refl (grown _ _ unmoved rest))
               (others _ _ unmoved rest) (inv-rest index rested refl (grown _ _ unmoved rest) q (pool _ _ unmoved rest few))
               (λ s₀ q₀ h. gives-empty g q₀ (none s₀ q₀ (rw now at h)));
           able = omega arith;

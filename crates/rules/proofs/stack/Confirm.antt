@@ -1,12 +1,13 @@
 -- The confirm step: one sub's version is subtracted, and after the last one nothing is left only if no version had changed at
 -- the worker's linearization point since it was read; then the list there was empty, or full, as the answer says.
 use mathlib.Core.Path.{_≡_, refl}
-use Prim.Native.Nat.{ℕ, suc, _^_, _<_}
+use Prim.Native.Nat.{ℕ, suc, _^_, _≤_, _<_}
 use native.Mathlib.Omega.{arith}
 use borrow.Author.Tests.{ltb-true, ltb-false, eqb-true}
 use lib.Dec.{ltb}
 use Rattle.laws.specs.Choice.{cond-false, cases}
 use Rattle.laws.specs.Wrap.{add32, sub32}
+use Rattle.rules.specs.Answers.{numberOf}
 use Rattle.rules.specs.Worker.{zeroSlot}
 use Rattle.rules.specs.Effects.{movedOf, finishedOf, nothingFor, nextOf}
 use Rattle.rules.specs.Confirm.{counted, confirmedOf, confirmRule}
@@ -39,6 +40,10 @@ answerFor Taking = Empty
 final-answer : (side : Side) → Final (answerFor side)
 final-answer Putting = final-full
 final-answer Taking = final-empty
+
+not-item : (side : Side) → 3 ≤ numberOf (answerFor side)
+not-item Putting = omega arith
+not-item Taking = omega arith
 
 gives-answer : (g : Settings) (q : Contents) (side : Side) (v : ℕ) → Stuck g side q → Gives g q (operationOf side v) (answerFor side) q
 gives-answer g q Putting v l = gives-full g q v l
@@ -97,7 +102,7 @@ module _ {g : Settings} {s : State} {q : Contents} {i : ℕ} (a : Stepping g s q
   finishes : suc scan ≡ g .width → rest ≡ 0 → On a (finishedOf (viewIn s i) (nothingFor side) index)
   finishes all none =
       rw (answers side)
-      (wins i (operationOf side (s .slot i .value)) refl (final-answer side) (status-at a e)
+      (wins i (operationOf side (s .slot i .value)) refl (final-answer side) (not-item side) (status-at a e)
       (status-after a (still s i done zeroSlot) done zeroSlot refl tt) (others-still a done zeroSlot) (inv-still a done zeroSlot tt tt)
       (λ s₀ q₀ z. gives-answer g q₀ side (s .slot i .value)
       (pass-end few (next-lt g (subIn s i) (a .good .bounds .width1)) (rw all at (pass s₀ q₀ z)) none)))
