@@ -12,7 +12,7 @@ use Rattle.rules.specs.Statement.{Placement, Placed, All, Gives, done, A
 use Rattle.rules.specs.Consequences.{InRealTime}
 use Rattle.rules.specs.declared.Settings.{Settings}
 use Rattle.rules.proofs.order.Given.{gives-changed}
-use Rattle.rules.proofs.order.Order.{chosen-le}
+use Rattle.rules.proofs.order.Positions.{chosen-le}
 
 all-at : {A : Type 0} (P : A → Type 0) (xs : List A) (x : A) → All P xs → List·Memᴰ x xs → P x
 all-at P [] x h m = absurd (List·Memᴰ·not-nil m)
