@@ -11,8 +11,7 @@ use Rattle.rules.specs.Make.{makeOf}
 use Rattle.rules.specs.Sequential.{Contents, noItems}
 use Rattle.rules.specs.Run.{Call, callOf, run}
 use Rattle.rules.specs.Statement.{OneAtATime}
-use Rattle.rules.specs.declared.Settings.{Settings}
-use Rattle.rules.specs.declared.Answer.{Answer}
+use Rattle.rules.proofs.Types.{Settings, Answer}
 use Rattle.rules.proofs.order.Law.{Next, events, idle, refused, opened, walks, tries, stays, loses, ends, wins, Others}
 use Rattle.rules.proofs.order.Order.{one-at-a-time}
 use Rattle.rules.proofs.Fitness.{settings-bounds}

@@ -10,7 +10,7 @@ use native.Mathlib.Decide.{ℕ-discrete, decLe}
 use native.Mathlib.Omega.{arith}
 use Rattle.laws.specs.Wrap.{sub32}
 use Rattle.rules.specs.Effects.{nextOf}
-use Rattle.rules.specs.declared.Settings.{Settings}
+use Rattle.rules.proofs.Types.{Settings}
 use Rattle.rules.proofs.counts.Sums.{upd, upd-same, upd-other, upd-all, sumN, sum-le, sum-bump, sum-zero, sum-tight}
 use Rattle.rules.proofs.counts.Visits.{Visited, visited-none, visited-all, visited-here, visited-next, visited-still, visited-just}
 

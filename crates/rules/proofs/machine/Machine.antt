@@ -14,17 +14,8 @@ use Rattle.rules.specs.Shift.{shiftedOf}
 use Rattle.rules.specs.Step.{ruleOf}
 use Rattle.rules.specs.Apply.{stampOf}
 use Rattle.rules.specs.Run.{Call, beginPut, beginTake, step}
-use Rattle.rules.specs.declared.Settings.{Settings}
-use Rattle.rules.specs.declared.Side.{Side}
-use Rattle.rules.specs.declared.Side.the-variants.{Putting, Taking}
-use Rattle.rules.specs.declared.Phase.{Phase}
-use Rattle.rules.specs.declared.Phase.the-variants.{Idle, Window}
-use Rattle.rules.specs.declared.Slot.{Slot}
-use Rattle.rules.specs.declared.View.{View}
-use Rattle.rules.specs.declared.Effect.{Effect}
-use Rattle.rules.specs.declared.Outcome.{Outcome}
+use Rattle.rules.proofs.Types.{Settings, Side, Putting, Taking, Phase, Idle, Window, Slot, View, Effect, Outcome, Answer}
 use Rattle.rules.specs.declared.Outcome.the-variants.{Refused as Stays, Moving as Moves, Landed, Removed, Empty as NoItem, Full as NoRoom}
-use Rattle.rules.specs.declared.Answer.{Answer}
 use Rattle.rules.specs.declared.Answer.the-variants.{Moving, Put, Taken, Empty, Full, Refused}
 use Rattle.rules.proofs.counts.Sums.{upd, upd-self, sumN, upTo}
 use Rattle.rules.proofs.order.Law.{Next}

@@ -7,13 +7,7 @@ use lib.Dec.{eqb}
 use Rattle.laws.specs.Choice.{cond, cond-false}
 use Rattle.rules.specs.Worker.{phaseOf, queuePhase, stackPhase, encode, encodePhase}
 use Rattle.rules.specs.Sequential.{Operation, putting, taking}
-use Rattle.rules.specs.declared.Settings.{Settings}
-use Rattle.rules.specs.declared.Side.{Side}
-use Rattle.rules.specs.declared.Side.the-variants.{Putting, Taking}
-use Rattle.rules.specs.declared.Phase.{Phase}
-use Rattle.rules.specs.declared.Phase.the-variants.{Idle, Window, QueuePutRead, QueueTakeRead, StackRead, Check, QueueCommit, StackCommit, QueueShift, StackShift, Confirm}
-use Rattle.rules.specs.declared.Worker.{Worker}
-use Rattle.rules.specs.declared.Slot.{Slot}
+use Rattle.rules.proofs.Types.{Settings, Side, Putting, Taking, Phase, Idle, Window, QueuePutRead, QueueTakeRead, StackRead, Check, QueueCommit, StackCommit, QueueShift, StackShift, Confirm, Worker, Slot}
 use Rattle.rules.proofs.order.Law.{Status, idle, pending, tried}
 
 abbrev pub worker : ℕ → ℕ → Phase → Worker

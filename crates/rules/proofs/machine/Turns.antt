@@ -38,11 +38,7 @@ use Rattle.rules.specs.Step.{ruleOf}
 use Rattle.rules.specs.Sequential.{Contents, noItems}
 use Rattle.rules.specs.Run.{Call, beginPut, beginTake, step, begin}
 use Rattle.rules.specs.Consequences.{NoWrap}
-use Rattle.rules.specs.declared.Settings.{Settings}
-use Rattle.rules.specs.declared.Side.{Side}
-use Rattle.rules.specs.declared.Side.the-variants.{Putting, Taking}
-use Rattle.rules.specs.declared.Phase.the-variants.{Idle, Window}
-use Rattle.rules.specs.declared.Slot.{Slot}
+use Rattle.rules.proofs.Types.{Settings, Side, Putting, Taking, Idle, Window, Slot}
 use Rattle.rules.specs.declared.Answer.the-variants.{Moving}
 use Rattle.rules.proofs.counts.Sums.{upd, upd-same, upd-other}
 use Rattle.rules.proofs.order.Law.{Next, Status, pending, Turn, refused, opened}

@@ -8,8 +8,7 @@ use Rattle.rules.specs.Answers.{numberOf}
 use Rattle.rules.specs.Sequential.{Operation, Contents}
 use Rattle.rules.specs.Run.{Call, step, begin, Event, Final}
 use Rattle.rules.specs.Statement.{Gives}
-use Rattle.rules.specs.declared.Settings.{Settings}
-use Rattle.rules.specs.declared.Answer.{Answer}
+use Rattle.rules.proofs.Types.{Settings, Answer}
 
 -- an answer, and the state that it leaves
 pub record Next (S : Type 0) : Type 0 where

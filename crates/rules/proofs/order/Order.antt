@@ -15,7 +15,7 @@ use Rattle.rules.specs.Answers.{numberOf}
 use Rattle.rules.specs.Sequential.{Operation, Contents, noItems}
 use Rattle.rules.specs.Run.{Call, step, Event, at, Final, StepOf, Since, Own}
 use Rattle.rules.specs.Statement.{Placement, Placed, All, Sorted, Gives, done, Accepted, OneAtATime}
-use Rattle.rules.specs.declared.Settings.{Settings}
+use Rattle.rules.proofs.Types.{Settings}
 use Rattle.rules.proofs.counts.Sums.{upd, upd-same, upd-other}
 use Rattle.rules.proofs.order.Positions.{begin-no-step, drop-head, drop-end, chosen-le, since-suc}
 use Rattle.rules.proofs.order.Law.{Next, events, Status, idle, pending, tried, Others as OthersOf, Turn as TurnOf, refused, opened, walks, tries, stays, loses, ends, wins}

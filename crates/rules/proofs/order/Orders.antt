@@ -10,7 +10,7 @@ use Rattle.rules.specs.Sequential.{Contents, noItems, mostPassed}
 use Rattle.rules.specs.Run.{step, Event, at, distanceIn}
 use Rattle.rules.specs.Statement.{Placement, Placed, All, Gives, done, Accepted, OneAtATime}
 use Rattle.rules.specs.Consequences.{InRealTime}
-use Rattle.rules.specs.declared.Settings.{Settings}
+use Rattle.rules.proofs.Types.{Settings}
 use Rattle.rules.proofs.order.Given.{gives-changed}
 use Rattle.rules.proofs.order.Positions.{chosen-le}
 

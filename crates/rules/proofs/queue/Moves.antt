@@ -14,14 +14,8 @@ use Rattle.rules.specs.Shift.{shiftedOf}
 use Rattle.rules.specs.Sequential.{Operation, putting, taking, Contents, leastFull}
 use Rattle.rules.specs.Run.{step, Final}
 use Rattle.rules.specs.Statement.{Gives}
-use Rattle.rules.specs.declared.Settings.{Settings}
-use Rattle.rules.specs.declared.Side.{Side}
-use Rattle.rules.specs.declared.Phase.{Phase}
-use Rattle.rules.specs.declared.Phase.the-variants.{Idle, Window}
-use Rattle.rules.specs.declared.Worker.{Worker}
-use Rattle.rules.specs.declared.Slot.{Slot}
+use Rattle.rules.proofs.Types.{Settings, Side, Phase, Idle, Window, Worker, Slot, Answer}
 use Rattle.rules.specs.declared.Outcome.the-variants.{Empty as NoItem, Full as NoRoom}
-use Rattle.rules.specs.declared.Answer.{Answer}
 use Rattle.rules.specs.declared.Answer.the-variants.{Empty, Full}
 use Rattle.rules.proofs.counts.Sums.{upd}
 use Rattle.rules.proofs.order.Law.{Next, pending, tried}

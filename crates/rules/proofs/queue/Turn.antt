@@ -12,11 +12,7 @@ use Rattle.rules.specs.Effects.{refusedOf}
 use Rattle.rules.specs.Step.{ruleOf, ruleBy}
 use Rattle.rules.specs.Sequential.{Contents, noItems}
 use Rattle.rules.specs.Consequences.{NoWrap}
-use Rattle.rules.specs.declared.Settings.{Settings}
-use Rattle.rules.specs.declared.Side.{Side}
-use Rattle.rules.specs.declared.Side.the-variants.{Putting, Taking}
-use Rattle.rules.specs.declared.Phase.{Phase}
-use Rattle.rules.specs.declared.Phase.the-variants.{Idle, Window, QueuePutRead, QueueTakeRead, StackRead, Check, QueueCommit, StackCommit, QueueShift, StackShift, Confirm}
+use Rattle.rules.proofs.Types.{Settings, Side, Putting, Taking, Phase, Idle, Window, QueuePutRead, QueueTakeRead, StackRead, Check, QueueCommit, StackCommit, QueueShift, StackShift, Confirm}
 use Rattle.rules.proofs.counts.Sums.{sum-zero}
 use Rattle.rules.proofs.order.Law.{refused}
 use Rattle.rules.proofs.machine.Machine.{State, subIn, viewIn, phaseIn, applyIn, applyInBy, madeIn}

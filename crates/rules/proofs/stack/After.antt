@@ -10,13 +10,7 @@ use Rattle.rules.specs.Worker.{encode}
 use Rattle.rules.specs.Effects.{movedOf, restartOf}
 use Rattle.rules.specs.Sequential.{Contents}
 use Rattle.rules.specs.Run.{step}
-use Rattle.rules.specs.declared.Settings.{Settings}
-use Rattle.rules.specs.declared.Side.{Side}
-use Rattle.rules.specs.declared.Phase.{Phase}
-use Rattle.rules.specs.declared.Phase.the-variants.{Window}
-use Rattle.rules.specs.declared.Worker.{Worker}
-use Rattle.rules.specs.declared.Slot.{Slot}
-use Rattle.rules.specs.declared.Effect.{Effect}
+use Rattle.rules.proofs.Types.{Settings, Side, Phase, Window, Worker, Slot, Effect}
 use Rattle.rules.proofs.counts.Sums.{upd, sumN, sum-gap-at, sum-zero}
 use Rattle.rules.proofs.order.Law.{Next, pending}
 use Rattle.rules.proofs.machine.Machine.{State, belowIn, subIn, viewIn, phaseIn, applyIn, turnedIn, apply-moved}

@@ -10,11 +10,7 @@ use Rattle.rules.specs.Worker.{zeroSlot, fresh}
 use Rattle.rules.specs.Sequential.{Contents}
 use Rattle.rules.specs.Statement.{Gives}
 use Rattle.rules.specs.Run.{Final}
-use Rattle.rules.specs.declared.Settings.{Settings}
-use Rattle.rules.specs.declared.Side.{Side}
-use Rattle.rules.specs.declared.Phase.the-variants.{Idle, StackCommit}
-use Rattle.rules.specs.declared.Version.{Version}
-use Rattle.rules.specs.declared.Answer.{Answer}
+use Rattle.rules.proofs.Types.{Settings, Side, Idle, StackCommit, Version, Answer}
 use Rattle.rules.proofs.counts.Sums.{upd, upd-same, upd-other, sumN, sum-bump}
 use Rattle.rules.proofs.machine.Machine.{State, next, subIn, phaseIn}
 use Rattle.rules.proofs.machine.Phases.{operationOf, worker}

@@ -14,13 +14,7 @@ use Rattle.rules.specs.Confirm.{counted, confirmedOf, confirmRule}
 use Rattle.rules.specs.Sequential.{Contents}
 use Rattle.rules.specs.Statement.{Gives}
 use Rattle.rules.specs.Run.{Final}
-use Rattle.rules.specs.declared.Settings.{Settings}
-use Rattle.rules.specs.declared.Side.{Side}
-use Rattle.rules.specs.declared.Side.the-variants.{Putting, Taking}
-use Rattle.rules.specs.declared.Phase.the-variants.{Idle, Window, Confirm}
-use Rattle.rules.specs.declared.Worker.{Worker}
-use Rattle.rules.specs.declared.Slot.{Slot}
-use Rattle.rules.specs.declared.Answer.{Answer}
+use Rattle.rules.proofs.Types.{Settings, Side, Putting, Taking, Idle, Window, Confirm, Worker, Slot, Answer}
 use Rattle.rules.specs.declared.Answer.the-variants.{Empty, Full}
 use Rattle.rules.proofs.counts.Sums.{sumN}
 use Rattle.rules.proofs.machine.Machine.{State, next, subIn, viewIn, phaseIn, applyIn, apply-moved, apply-empty, apply-full}

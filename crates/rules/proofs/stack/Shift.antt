@@ -15,12 +15,7 @@ use Rattle.rules.specs.Worker.{encode}
 use Rattle.rules.specs.Effects.{movedOf}
 use Rattle.rules.specs.Shift.{stackShift, shiftBy, shiftedOf}
 use Rattle.rules.specs.Sequential.{Contents}
-use Rattle.rules.specs.declared.Settings.{Settings}
-use Rattle.rules.specs.declared.Side.{Side}
-use Rattle.rules.specs.declared.Side.the-variants.{Putting, Taking}
-use Rattle.rules.specs.declared.Phase.the-variants.{Window, StackShift, Confirm}
-use Rattle.rules.specs.declared.Version.{Version}
-use Rattle.rules.specs.declared.Worker.{Worker}
+use Rattle.rules.proofs.Types.{Settings, Side, Putting, Taking, Window, StackShift, Confirm, Version, Worker}
 use Rattle.rules.proofs.machine.Machine.{State, subIn, viewIn, phaseIn, turnedIn, apply-moved, apply-shifted}
 use Rattle.rules.proofs.counts.Wraps.{add32-is, add32-suc, sub32-is}
 use Rattle.rules.proofs.counts.Visits.{visited-all}
