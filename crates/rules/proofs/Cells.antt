@@ -16,7 +16,7 @@ use Rattle.laws.specs.Wrap.{sub32}
 use Rattle.rules.specs.Layout.{cellsAt, cellAt, firstOf, secondOf}
 use Rattle.rules.specs.Limits.{Bounds}
 use Rattle.rules.specs.Fit.{SubFits}
-use Rattle.rules.specs.Held.{Item, itemAt, rowsBelow, rowsHeld, itemsAbove, heldSub, heldBelow, cellItems, countItems, passedOver, stampUpTo}
+use Rattle.rules.specs.Held.{Item, rowsBelow, rowsHeld, itemsAbove, heldSub, heldBelow, cellItems, countItems, passedOver, stampUpTo}
 use Rattle.rules.specs.declared.Settings.{Settings}
 
 -- ---- cells

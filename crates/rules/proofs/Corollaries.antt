@@ -1,12 +1,11 @@
 -- What follows for every list of calls from a new pool: from demand 3's order, or from what shows it.
-use Prim.Native.Nat.{ℕ, _+_}
+use Prim.Native.Nat.{ℕ}
 use mathlib.Core.List.{List}
 use native.Mathlib.Omega.{arith}
-use Rattle.rules.specs.Answers.{numberOf}
 use Rattle.rules.specs.Make.{makeOf}
 use Rattle.rules.specs.Run.{Call, run}
 use Rattle.rules.specs.Consequences.{wordsAfter, OfEveryRun, NothingLost, StampsOnce, hasStamp, WithinBound, InRealTime, NoSumWraps, NeverUnfit}
-use Rattle.rules.specs.declared.Settings.{Settings}
+use Rattle.rules.proofs.Types.{Settings}
 use Rattle.rules.proofs.counts.Held.{count-none}
 use Rattle.rules.proofs.Transfer.{made-related}
 use Rattle.rules.proofs.Runs.{accounted, stamped-once, safe-after, fine-at}

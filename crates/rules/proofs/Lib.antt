@@ -3,6 +3,7 @@ pub mod Cells
 pub mod Fitness
 pub mod Making
 pub mod Untouched
+pub mod Types
 pub mod counts
 pub mod order
 pub mod machine

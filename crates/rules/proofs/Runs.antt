@@ -17,11 +17,7 @@ use Rattle.rules.specs.Step.{ruleOf}
 use Rattle.rules.specs.Sequential.{Contents}
 use Rattle.rules.specs.Run.{Call, beginPut, beginTake, step, callOf, run, at}
 use Rattle.rules.specs.Consequences.{wordsAfter, itemIn, itemsIn, hasStamp, NoSumWraps}
-use Rattle.rules.specs.declared.Settings.{Settings}
-use Rattle.rules.specs.declared.Side.{Side}
-use Rattle.rules.specs.declared.Side.the-variants.{Putting, Taking}
-use Rattle.rules.specs.declared.Effect.{Effect}
-use Rattle.rules.specs.declared.Outcome.{Outcome}
+use Rattle.rules.proofs.Types.{Settings, Side, Putting, Taking, Effect, Outcome}
 use Rattle.rules.specs.declared.Outcome.the-variants.{Refused, Moving, Landed, Removed, Empty, Full}
 use Rattle.rules.proofs.counts.Sums.{bit, bit-le}
 use Rattle.rules.proofs.order.Law.{Next}

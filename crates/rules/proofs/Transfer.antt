@@ -3,18 +3,16 @@
 use mathlib.Core.Path.{_≡_, refl, sym, ap, subst}
 use mathlib.Core.Bool.{true}
 use mathlib.Core.List.{List, [], _∷_}
-use mathlib.Core.Logic.{_≢_}
 use Prim.Native.Nat.{ℕ, _≤_}
 use native.Mathlib.Omega.{arith}
 use Rattle.rules.specs.Answers.{numberOf}
 use Rattle.rules.specs.Limits.{settingsFit}
 use Rattle.rules.specs.Make.{makeOf}
-use Rattle.rules.specs.Sequential.{Operation, Contents, noItems}
-use Rattle.rules.specs.Run.{Call, step, callOf, run}
+use Rattle.rules.specs.Sequential.{Contents, noItems}
+use Rattle.rules.specs.Run.{Call, callOf, run}
 use Rattle.rules.specs.Statement.{OneAtATime}
-use Rattle.rules.specs.declared.Settings.{Settings}
-use Rattle.rules.specs.declared.Answer.{Answer}
-use Rattle.rules.proofs.order.Law.{Next, events, idle, tried, refused, opened, walks, tries, stays, loses, ends, wins, Others}
+use Rattle.rules.proofs.Types.{Settings, Answer}
+use Rattle.rules.proofs.order.Law.{Next, events, idle, refused, opened, walks, tries, stays, loses, ends, wins, Others}
 use Rattle.rules.proofs.order.Order.{one-at-a-time}
 use Rattle.rules.proofs.Fitness.{settings-bounds}
 use Rattle.rules.proofs.machine.Machine.{State, nextIn, madeIn}
@@ -22,7 +20,6 @@ use Rattle.rules.proofs.machine.Phases.{statusOf, idle-phase}
 use Rattle.rules.proofs.machine.Turns.{Common, Kind, Turned, statusIn, turn}
 use Rattle.rules.proofs.machine.Slots.{common-next, common-made}
 use Rattle.rules.proofs.order.Given.{Changed, unchanged-by, gives-changed}
-use Rattle.rules.proofs.machine.Tried.{tried-itemless}
 use Rattle.rules.proofs.words.Says.{Says}
 use Rattle.rules.proofs.words.Follows.{Follows, follows}
 use Rattle.rules.proofs.words.Made.{Accepted, made-says}
@@ -55,13 +52,7 @@ module _ (g : Settings) (limits : settingsFit g ≡ true) (k : Kind g) where
   with-common m (stays i op u n a b w h z) = stays i op u n a b (rest w) (whole m h) z
   with-common m (loses i op u n a b w h) = loses i op u n a b (rest w) (whole m h)
   with-common m (ends i op u n a b w q′ give h) = ends i op u n a b (rest w) q′ give (whole m h)
-  with-common m (wins i op u n a b w h z) = wins i op u n a b (rest w) (whole m h) z
-
-  -- a worker that wins was in confirm
-  wins-itemless : (s : State) (c : Call) (i : ℕ) (o : Operation) → c ≡ step i → statusIn g s i ≡ tried o
-      → (numberOf (nextIn g s c .answer) ≢ 1) × (numberOf (nextIn g s c .answer) ≢ 2)
-  unfolding nextIn
-  wins-itemless s c i o u e = rw u (tried-itemless g s i o e)
+  with-common m (wins i op u n l a b w h z) = wins i op u n l a b (rest w) (whole m h) z
 
   whole-turn : (s : State) (q : Contents) → Whole s q → (c : Call) → After s q c (nextIn g s c)
   whole-turn s q h c = with-common (common-next g width1 s (h .common) c) (turn g k s q (h .common) (h .inv) c)
@@ -85,9 +76,8 @@ module _ (g : Settings) (limits : settingsFit g ≡ true) (k : Kind g) where
   onward-by s q c h (stays i op u n a b w h′ z) = idle-by n h′
   onward-by s q c h (loses i op u n a b w h′) = idle-by n h′
   onward-by s q c h (ends i op u n a b w q′ give h′) = record { list = q′; whole = h′; changed = gives-changed g q _ q′ op give }
-  onward-by s q c h (wins i op u n a b w h′ z) =
-      let t = wins-itemless s c i op u a in
-      record { list = q; whole = h′; changed = unchanged-by g q _ (t .0) (t .1) }
+  onward-by s q c h (wins i op u n l a b w h′ z) =
+      record { list = q; whole = h′; changed = unchanged-by g q _ (λ e. omega arith) (λ e. omega arith) }
 
   pub onward : (s : State) (q : Contents) → Whole s q → (c : Call) → Onward s q (nextIn g s c)
   onward s q h c = onward-by s q c h (whole-turn s q h c)

@@ -1,26 +1,24 @@
 -- No call touches a word beyond the needed ones: every word that a definition stores lies below them, whatever the words hold.
 -- A refusal gives back the same words; a fit pool's index is below its width, so its sub and its cell are among the needed ones.
-use Prim.Native.Nat.{ℕ, zero, suc, _+_, _*_, _%_, _≤_, _<_}
+use Prim.Native.Nat.{ℕ, zero, suc, _+_, _%_, _≤_, _<_}
 use mathlib.Core.Path.{_≡_, refl, sym, subst, _∙_}
 use mathlib.Core.List.{List, [], _∷_}
-use mathlib.Core.Bool.{true}
 use native.Mathlib.Omega.{arith}
 use lib.ListN.{getD, set, length, length-set}
 use lib.Seq.{getD-set-other, sets}
 use lib.Dec.{leb, ltb, eqb}
 use borrow.Author.Tests.{leb-false}
-use Rattle.laws.specs.Choice.{cond, cases}
+use Rattle.laws.specs.Choice.{cases}
 use Rattle.laws.specs.Wrap.{sub32}
-use Rattle.rules.specs.Answers.{Out, out, refuse}
-use Rattle.rules.specs.Layout.{needed, cellsAt, cellAt, subAt, workerAt, workerWords, settingsOf}
+use Rattle.rules.specs.Answers.{Out}
+use Rattle.rules.specs.Layout.{needed, workerAt, settingsOf}
 use Rattle.rules.specs.Limits.{settingsFit}
 use Rattle.rules.specs.Worker.{putSlot, wordsOf}
 use Rattle.rules.specs.Fit.{checkedOf, FitPool}
 use Rattle.rules.specs.Make.{zeroed, newHead, indexed, madeWords, makeOf}
 use Rattle.rules.specs.Begin.{stepsSpent, slotBegin, fitBegin, checkedBegin, beginOf}
 use Rattle.rules.specs.Apply.{putItem, putView, applyBy, applyOf}
-use Rattle.rules.specs.Effects.{viewOf}
-use Rattle.rules.specs.Step.{ruleOf, slotStep, fitStep, checkedStep, stepOf}
+use Rattle.rules.specs.Step.{slotStep, fitStep, checkedStep, stepOf}
 use Rattle.rules.specs.Untouched.{Beyond, MakeKeeps, BeginKeeps, StepKeeps}
 use Rattle.rules.specs.declared.Settings.{Settings}
 use Rattle.rules.specs.declared.Side.{Side}

@@ -5,4 +5,4 @@ pub mod Good
 pub mod Turns
 pub mod Slots
 pub mod Subs
-pub mod Tried
+pub mod Ways

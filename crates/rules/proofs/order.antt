@@ -1,4 +1,5 @@
 -- The order of a run, and what the sequential specification gives.
+pub mod Positions
 pub mod Law
 pub mod Order
 pub mod Orders

@@ -1,12 +1,12 @@
 -- "Fit", and the order of the refusals before it.
-use Prim.Native.Nat.{ℕ, _+_, _*_, _-_, _<_, _≤_}
+use Prim.Native.Nat.{ℕ, _+_, _-_, _<_, _≤_}
 use mathlib.Core.Path.{_≡_}
 use mathlib.Core.List.{List}
 use mathlib.Core.Bool.{Bool, true, false}
 use lib.ListN.{getD, length}
 use lib.Dec.{ltb, leb, eqb}
 use Rattle.laws.specs.Choice.{cond, both, allBelow}
-use Rattle.rules.specs.Layout.{headWords, workerWords, workersAt, workerAt, needed, settingsOf, firstOf, secondOf}
+use Rattle.rules.specs.Layout.{headWords, workerWords, workerAt, needed, settingsOf, firstOf, secondOf}
 use Rattle.rules.specs.Limits.{settingsFit, Bounds}
 use Rattle.rules.specs.declared.Settings.{Settings}
 use Rattle.rules.specs.declared.Checked.{Checked}

@@ -1,9 +1,8 @@
 -- A run by hand as a row of a table: settings, words lent, calls, and what comes of them.
-use Prim.Native.Nat.{ℕ, zero, suc, _+_}
+use Prim.Native.Nat.{ℕ, _+_}
 use mathlib.Core.List.{List, [], _∷_, _++_}
 use mathlib.Core.Path.{_≡_}
-use mathlib.Core.Bool.{Bool, true, false}
-use lib.ListN.{length, replicate, set}
+use lib.ListN.{replicate, set}
 use lib.Dec.{ltb, leb, eqb}
 use Rattle.laws.specs.Choice.{cond}
 use Rattle.rules.specs.Answers.{numberOf, fieldsOf}
@@ -12,7 +11,6 @@ use Rattle.rules.specs.Limits.{settingsFit}
 use Rattle.rules.specs.Make.{makeOf}
 use Rattle.rules.specs.Run.{Call, beginPut, beginTake, step, Event, run}
 use Rattle.rules.specs.declared.Settings.{Settings}
-use Rattle.rules.specs.declared.Answer.{Answer}
 
 -- an operation that finished, or a call that was refused: the worker, the operation's steps taken, the answer's number and fields
 pub record Line : Type 0 where

@@ -14,7 +14,7 @@ use borrow.Author.Tests.{eqb-true, eq-eqb}
 use Rattle.laws.specs.Choice.{cond}
 use Rattle.rules.specs.Held.{Item, countItems, passedOver}
 use Rattle.rules.specs.Sequential.{Found, find}
-use Rattle.rules.specs.declared.Settings.{Settings}
+use Rattle.rules.proofs.Types.{Settings}
 use Rattle.rules.proofs.counts.Sums.{sumN, upTo, upTo-suc, upTo-ext, upTo-true, bit, sum-ext, sum-bump, sum-gap, sum-gap-at, sum-sub, rows-more, rows-flat}
 use Rattle.rules.proofs.machine.Machine.{State, belowIn, distanceIn}
 

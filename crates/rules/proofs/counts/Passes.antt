@@ -4,13 +4,13 @@
 -- at once, at its end.
 use mathlib.Core.Path.{_≡_, refl, sym, _∙_}
 use mathlib.Core.Logic.{_≢_, _⊎_, inl, inr}
-use Prim.Native.Nat.{ℕ, suc, _+_, _-_, _^_, _≤_, _<_}
+use Prim.Native.Nat.{ℕ, suc, _+_, _^_, _≤_, _<_}
 use native.Mathlib.Nat.{le-refl, le-trans}
 use native.Mathlib.Decide.{ℕ-discrete, decLe}
 use native.Mathlib.Omega.{arith}
 use Rattle.laws.specs.Wrap.{sub32}
 use Rattle.rules.specs.Effects.{nextOf}
-use Rattle.rules.specs.declared.Settings.{Settings}
+use Rattle.rules.proofs.Types.{Settings}
 use Rattle.rules.proofs.counts.Sums.{upd, upd-same, upd-other, upd-all, sumN, sum-le, sum-bump, sum-zero, sum-tight}
 use Rattle.rules.proofs.counts.Visits.{Visited, visited-none, visited-all, visited-here, visited-next, visited-still, visited-just}
 

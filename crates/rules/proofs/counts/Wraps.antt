@@ -7,7 +7,7 @@ use native.Mathlib.Numerals.{add-one}
 use native.Mathlib.Omega.{arith}
 use Rattle.laws.specs.Wrap.{add32, sub32}
 use Rattle.rules.specs.Effects.{nextOf}
-use Rattle.rules.specs.declared.Settings.{Settings}
+use Rattle.rules.proofs.Types.{Settings}
 
 pub add32-is : (a b : ℕ) → a + b < 2 ^ 32 → add32 a b ≡ a + b
 add32-is a b l = mod-eq-of-lt l

@@ -8,7 +8,7 @@ use Rattle.laws.specs.Choice.{cond, cond-true, cond-false}
 use Rattle.rules.specs.Limits.{settingsFit, Bounds}
 use Rattle.rules.specs.Held.{rowsBelow}
 use Rattle.rules.specs.Sequential.{mostPassed, leastFull}
-use Rattle.rules.specs.declared.Settings.{Settings}
+use Rattle.rules.proofs.Types.{Settings}
 use Rattle.rules.proofs.Fitness.{settings-bounds, queue-limits}
 
 -- the bounds; and of a queue s = d, and R a multiple of d

@@ -9,22 +9,13 @@ use Rattle.laws.specs.Choice.{cond}
 use Rattle.rules.specs.Held.{Item, rowsBelow, passedOver}
 use Rattle.rules.specs.Make.{newMark}
 use Rattle.rules.specs.Worker.{fresh, phaseOf, encode}
-use Rattle.rules.specs.Effects.{keepOf, movedOf, finishedOf}
+use Rattle.rules.specs.Effects.{movedOf, finishedOf}
 use Rattle.rules.specs.Shift.{shiftedOf}
 use Rattle.rules.specs.Step.{ruleOf}
 use Rattle.rules.specs.Apply.{stampOf}
 use Rattle.rules.specs.Run.{Call, beginPut, beginTake, step}
-use Rattle.rules.specs.declared.Settings.{Settings}
-use Rattle.rules.specs.declared.Side.{Side}
-use Rattle.rules.specs.declared.Side.the-variants.{Putting, Taking}
-use Rattle.rules.specs.declared.Phase.{Phase}
-use Rattle.rules.specs.declared.Phase.the-variants.{Idle, Window}
-use Rattle.rules.specs.declared.Slot.{Slot}
-use Rattle.rules.specs.declared.View.{View}
-use Rattle.rules.specs.declared.Effect.{Effect}
-use Rattle.rules.specs.declared.Outcome.{Outcome}
+use Rattle.rules.proofs.Types.{Settings, Side, Putting, Taking, Phase, Idle, Window, Slot, View, Effect, Outcome, Answer}
 use Rattle.rules.specs.declared.Outcome.the-variants.{Refused as Stays, Moving as Moves, Landed, Removed, Empty as NoItem, Full as NoRoom}
-use Rattle.rules.specs.declared.Answer.{Answer}
 use Rattle.rules.specs.declared.Answer.the-variants.{Moving, Put, Taken, Empty, Full, Refused}
 use Rattle.rules.proofs.counts.Sums.{upd, upd-self, sumN, upTo}
 use Rattle.rules.proofs.order.Law.{Next}
@@ -201,11 +192,6 @@ module _ (g : Settings) (s : State) (i : ℕ) where
       ≡ next Moving (turnedIn s i (s .top) (s .mark) (encode (record { value = s .slot i .value; index = index; phase = p }) kept))
   unfolding applyIn applyInBy
   apply-moved index p kept = ap (next Moving) (after-turned s i (s .top) (s .mark) _)
-
-  -- a step to a slot that is given whole, as the window's step to a fresh worker
-  pub apply-kept : (x : Slot) → applyIn g s i (keepOf (viewIn s i) Moves x) ≡ next Moving (turnedIn s i (s .top) (s .mark) x)
-  unfolding applyIn applyInBy
-  apply-kept x = ap (next Moving) (after-turned s i (s .top) (s .mark) x)
 
   pub apply-shifted : (side : Side) (top mark : ℕ)
       → applyIn g s i (shiftedOf (viewIn s i) side top mark)

@@ -7,13 +7,7 @@ use lib.Dec.{eqb}
 use Rattle.laws.specs.Choice.{cond, cond-false}
 use Rattle.rules.specs.Worker.{phaseOf, queuePhase, stackPhase, encode, encodePhase}
 use Rattle.rules.specs.Sequential.{Operation, putting, taking}
-use Rattle.rules.specs.declared.Settings.{Settings}
-use Rattle.rules.specs.declared.Side.{Side}
-use Rattle.rules.specs.declared.Side.the-variants.{Putting, Taking}
-use Rattle.rules.specs.declared.Phase.{Phase}
-use Rattle.rules.specs.declared.Phase.the-variants.{Idle, Window, QueuePutRead, QueueTakeRead, StackRead, Check, QueueCommit, StackCommit, QueueShift, StackShift, Confirm}
-use Rattle.rules.specs.declared.Worker.{Worker}
-use Rattle.rules.specs.declared.Slot.{Slot}
+use Rattle.rules.proofs.Types.{Settings, Side, Putting, Taking, Phase, Idle, Window, QueuePutRead, QueueTakeRead, StackRead, Check, QueueCommit, StackCommit, QueueShift, StackShift, Confirm, Worker, Slot}
 use Rattle.rules.proofs.order.Law.{Status, idle, pending, tried}
 
 abbrev pub worker : ℕ → ℕ → Phase → Worker
@@ -113,41 +107,46 @@ pub stack-phase : (g : Settings) → g .kind ≡ 1 → (k : Worker) → OfStack 
 unfolding encode
 stack-phase g e k t o = rw e (stack-back (k .phase) t (k .value) (k .index) o)
 
-value-back : (p : Phase) (v x : ℕ) (o : Slot) → encodePhase p v x o .value ≡ v
-unfolding encodePhase
-value-back Idle v x o = refl
-value-back (Window side) v x o = refl
-value-back (QueuePutRead window scan) v x o = refl
-value-back (QueueTakeRead window bare scan sum) v x o = refl
-value-back (StackRead side window version scan sum) v x o = refl
-value-back (Check side version seen) v x o = refl
-value-back (QueueCommit side seen) v x o = refl
-value-back (StackCommit side seen) v x o = refl
-value-back (QueueShift side window) v x o = refl
-value-back (StackShift side version scan sum) v x o = refl
-value-back (Confirm side scan sum) v x o = refl
+-- the scan that a phase holds, or else the slot's
+abbrev pub scanIn : Phase → ℕ → ℕ
+scanIn Idle d = d
+scanIn (Window side) d = d
+scanIn (QueuePutRead window scan) d = scan
+scanIn (QueueTakeRead window bare scan sum) d = scan
+scanIn (StackRead side window version scan sum) d = scan
+scanIn (Check side version seen) d = d
+scanIn (QueueCommit side seen) d = d
+scanIn (StackCommit side seen) d = d
+scanIn (QueueShift side window) d = d
+scanIn (StackShift side version scan sum) d = scan
+scanIn (Confirm side scan sum) d = scan
 
-index-back : (p : Phase) (v x : ℕ) (o : Slot) → encodePhase p v x o .index ≡ x
+words-back : (p : Phase) (v x : ℕ) (o : Slot)
+    → (encodePhase p v x o .value ≡ v) × (encodePhase p v x o .index ≡ x) × (encodePhase p v x o .scan ≡ scanIn p (o .scan))
 unfolding encodePhase
-index-back Idle v x o = refl
-index-back (Window side) v x o = refl
-index-back (QueuePutRead window scan) v x o = refl
-index-back (QueueTakeRead window bare scan sum) v x o = refl
-index-back (StackRead side window version scan sum) v x o = refl
-index-back (Check side version seen) v x o = refl
-index-back (QueueCommit side seen) v x o = refl
-index-back (StackCommit side seen) v x o = refl
-index-back (QueueShift side window) v x o = refl
-index-back (StackShift side version scan sum) v x o = refl
-index-back (Confirm side scan sum) v x o = refl
+words-back Idle v x o = (refl, refl, refl)
+words-back (Window side) v x o = (refl, refl, refl)
+words-back (QueuePutRead window scan) v x o = (refl, refl, refl)
+words-back (QueueTakeRead window bare scan sum) v x o = (refl, refl, refl)
+words-back (StackRead side window version scan sum) v x o = (refl, refl, refl)
+words-back (Check side version seen) v x o = (refl, refl, refl)
+words-back (QueueCommit side seen) v x o = (refl, refl, refl)
+words-back (StackCommit side seen) v x o = (refl, refl, refl)
+words-back (QueueShift side window) v x o = (refl, refl, refl)
+words-back (StackShift side version scan sum) v x o = (refl, refl, refl)
+words-back (Confirm side scan sum) v x o = (refl, refl, refl)
 
 pub encode-value : (k : Worker) (o : Slot) → encode k o .value ≡ k .value
 unfolding encode
-encode-value k o = value-back (k .phase) (k .value) (k .index) o
+encode-value k o = words-back (k .phase) (k .value) (k .index) o .0
 
 pub encode-index : (k : Worker) (o : Slot) → encode k o .index ≡ k .index
 unfolding encode
-encode-index k o = index-back (k .phase) (k .value) (k .index) o
+encode-index k o = words-back (k .phase) (k .value) (k .index) o .1
+
+pub encode-scan : (k : Worker) (o : Slot) → encode k o .scan ≡ scanIn (k .phase) (o .scan)
+unfolding encode
+encode-scan k o = words-back (k .phase) (k .value) (k .index) o .2
 
 same-either : {A : Type 0} (b : Bool) (x : A) → cond b x x ≡ x
 unfolding cond
@@ -168,7 +167,3 @@ window-back kind Taking v x o = same-either (eqb kind 0) (Window Taking)
 pub window-phase : (kind : ℕ) (side : Side) (v x : ℕ) (o : Slot) → phaseOf kind (encode (worker v x (Window side)) o) ≡ Window side
 unfolding encode
 window-phase kind side v x o = window-back kind side v x o
-
-pub rest-phase : (kind x : ℕ) (v : ℕ) (o : Slot) → phaseOf kind (encode (worker v x Idle) o) ≡ Idle
-unfolding encode encodePhase
-rest-phase kind x v o = idle-phase kind _ refl

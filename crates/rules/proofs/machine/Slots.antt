@@ -21,41 +21,18 @@ use Rattle.rules.specs.Shift.{shiftBy, queueShift, stackShift}
 use Rattle.rules.specs.Confirm.{counted, confirmRule, confirmedOf}
 use Rattle.rules.specs.Step.{ruleBy, ruleOf}
 use Rattle.rules.specs.Run.{Call, beginPut, beginTake, step}
-use Rattle.rules.specs.declared.Settings.{Settings}
-use Rattle.rules.specs.declared.Side.{Side}
-use Rattle.rules.specs.declared.Side.the-variants.{Putting, Taking}
-use Rattle.rules.specs.declared.Phase.{Phase}
-use Rattle.rules.specs.declared.Phase.the-variants.{Idle, Window, QueuePutRead, QueueTakeRead, StackRead, Check, QueueCommit, StackCommit, QueueShift, StackShift, Confirm}
-use Rattle.rules.specs.declared.Version.{Version}
-use Rattle.rules.specs.declared.Slot.{Slot}
-use Rattle.rules.specs.declared.View.{View}
-use Rattle.rules.specs.declared.Effect.{Effect}
-use Rattle.rules.specs.declared.Outcome.{Outcome}
+use Rattle.rules.proofs.Types.{Settings, Side, Putting, Taking, Phase, Idle, Window, QueuePutRead, QueueTakeRead, StackRead, Check, QueueCommit, StackCommit, QueueShift, StackShift, Confirm, Version, Slot, View, Effect, Outcome}
 use Rattle.rules.specs.declared.Outcome.the-variants.{Refused, Moving, Landed, Removed, Empty, Full}
 use Rattle.rules.proofs.counts.Sums.{upd, upd-all}
 use Rattle.rules.proofs.counts.Wraps.{next-lt}
 use Rattle.rules.proofs.order.Law.{Next}
 use Rattle.rules.proofs.machine.Machine.{State, viewIn, applyIn, applyInBy, stepIn, beginIn, nextIn, madeIn}
-use Rattle.rules.proofs.machine.Phases.{OfQueue, OfStack, worker, encode-index}
+use Rattle.rules.proofs.machine.Phases.{OfQueue, OfStack, scanIn, worker, encode-index, encode-scan}
 use Rattle.rules.proofs.machine.Turns.{SlotFits, Common}
 
 -- a phase of the kind
 abbrev pub OfKind : ℕ → Phase → Type 0
 OfKind kind p = (kind ≡ 0 → OfQueue p) × (kind ≢ 0 → OfStack p)
-
--- the scan that a phase holds, or else the slot's
-abbrev scanIn : Phase → ℕ → ℕ
-scanIn Idle d = d
-scanIn (Window side) d = d
-scanIn (QueuePutRead window scan) d = scan
-scanIn (QueueTakeRead window bare scan sum) d = scan
-scanIn (StackRead side window version scan sum) d = scan
-scanIn (Check side version seen) d = d
-scanIn (QueueCommit side seen) d = d
-scanIn (StackCommit side seen) d = d
-scanIn (QueueShift side window) d = d
-scanIn (StackShift side version scan sum) d = scan
-scanIn (Confirm side scan sum) d = scan
 
 -- ---- the phase of a slot
 queue-from : (o : Slot) → OfQueue (queuePhase o) × (scanIn (queuePhase o) (o .scan) ≡ o .scan)
@@ -113,26 +90,12 @@ module _ (g : Settings) where
   number-fits (Confirm Putting scan sum) v x o t = of-both (g .kind) false (λ k. absurd (t .0 k))
   number-fits (Confirm Taking scan sum) v x o t = of-both (g .kind) true (λ k. refl)
 
-  scan-back : (p : Phase) (v x : ℕ) (o : Slot) → encodePhase p v x o .scan ≡ scanIn p (o .scan)
-  unfolding encodePhase
-  scan-back Idle v x o = refl
-  scan-back (Window side) v x o = refl
-  scan-back (QueuePutRead window scan) v x o = refl
-  scan-back (QueueTakeRead window bare scan sum) v x o = refl
-  scan-back (StackRead side window version scan sum) v x o = refl
-  scan-back (Check side version seen) v x o = refl
-  scan-back (QueueCommit side seen) v x o = refl
-  scan-back (StackCommit side seen) v x o = refl
-  scan-back (QueueShift side window) v x o = refl
-  scan-back (StackShift side version scan sum) v x o = refl
-  scan-back (Confirm side scan sum) v x o = refl
-
   encode-fits : (v x : ℕ) (p : Phase) (o : Slot) → x < g .width → scanIn p (o .scan) < g .width → OfKind (g .kind) p
       → SlotFits g (encode (worker v x p) o)
   unfolding encode
   encode-fits v x p o lx ls t = record {
     index = subst (λ (i : ℕ). i < g .width) (sym (encode-index (worker v x p) o)) lx;
-    scan = subst (λ (i : ℕ). i < g .width) (sym (scan-back p v x o)) ls;
+    scan = subst (λ (i : ℕ). i < g .width) (sym (encode-scan (worker v x p) o)) ls;
     number = number-fits p v x o t;
   }
 

@@ -23,16 +23,7 @@ use Rattle.rules.specs.Commit.{commitBy, queueCommit, stackCommit}
 use Rattle.rules.specs.Shift.{shiftBy, queueShift, stackShift}
 use Rattle.rules.specs.Confirm.{confirmRule, confirmedOf}
 use Rattle.rules.specs.Step.{ruleBy, ruleOf}
-use Rattle.rules.specs.declared.Settings.{Settings}
-use Rattle.rules.specs.declared.Side.{Side}
-use Rattle.rules.specs.declared.Side.the-variants.{Putting, Taking}
-use Rattle.rules.specs.declared.Phase.{Phase}
-use Rattle.rules.specs.declared.Phase.the-variants.{Idle, Window, QueuePutRead, QueueTakeRead, StackRead, Check, QueueCommit, StackCommit, QueueShift, StackShift, Confirm}
-use Rattle.rules.specs.declared.Version.{Version}
-use Rattle.rules.specs.declared.Slot.{Slot}
-use Rattle.rules.specs.declared.View.{View}
-use Rattle.rules.specs.declared.Effect.{Effect}
-use Rattle.rules.specs.declared.Outcome.{Outcome}
+use Rattle.rules.proofs.Types.{Settings, Side, Putting, Taking, Phase, Idle, Window, QueuePutRead, QueueTakeRead, StackRead, Check, QueueCommit, StackCommit, QueueShift, StackShift, Confirm, Version, Slot, View, Effect, Outcome}
 use Rattle.rules.specs.declared.Outcome.the-variants.{Refused, Moving, Landed, Removed, Empty, Full}
 use Rattle.rules.proofs.counts.Wraps.{add32-suc, sub32-is}
 use Rattle.rules.proofs.machine.Good.{queue-below, stack-below}

@@ -16,7 +16,7 @@
 --
 -- How a step is taken apart: unfold `ruleOf`, split on the phase by a function of (p : Phase) and `phaseIn g s i ≡ p`,
 -- unfold `ruleBy` and that phase's rule, and split each `cond` by `cases` (laws, Choice), with
--- P = λ e. Turned s q (step i) (applyIn g s i e). Then the effect is written out: `apply-moved`, `apply-kept`,
+-- P = λ e. Turned s q (step i) (applyIn g s i e). Then the effect is written out: `apply-moved`,
 -- `apply-shifted`, `apply-empty`, `apply-full` (Machine) say what `applyIn` makes of it, and `applyIn applyInBy` unfold for
 -- a landed or removed item. A slot `encode k o` is in phase `k .phase` by `queue-phase` or `stack-phase` (Phases), with
 -- `encode-value` and `encode-index`; so Inv best speaks of `phaseIn g s i` and of `s .slot i .index`, never of the other words.
@@ -38,11 +38,7 @@ use Rattle.rules.specs.Step.{ruleOf}
 use Rattle.rules.specs.Sequential.{Contents, noItems}
 use Rattle.rules.specs.Run.{Call, beginPut, beginTake, step, begin}
 use Rattle.rules.specs.Consequences.{NoWrap}
-use Rattle.rules.specs.declared.Settings.{Settings}
-use Rattle.rules.specs.declared.Side.{Side}
-use Rattle.rules.specs.declared.Side.the-variants.{Putting, Taking}
-use Rattle.rules.specs.declared.Phase.the-variants.{Idle, Window}
-use Rattle.rules.specs.declared.Slot.{Slot}
+use Rattle.rules.proofs.Types.{Settings, Side, Putting, Taking, Idle, Window, Slot}
 use Rattle.rules.specs.declared.Answer.the-variants.{Moving}
 use Rattle.rules.proofs.counts.Sums.{upd, upd-same, upd-other}
 use Rattle.rules.proofs.order.Law.{Next, Status, pending, Turn, refused, opened}

@@ -17,8 +17,7 @@ use Rattle.rules.specs.Sequential.{Operation, putting, taking, Contents,
 use Rattle.rules.specs.Run.{valueIn, stampIn, distanceIn}
 use Rattle.rules.specs.Statement.{Gives}
 use Rattle.rules.specs.Consequences.{itemIn}
-use Rattle.rules.specs.declared.Settings.{Settings}
-use Rattle.rules.specs.declared.Answer.{Answer}
+use Rattle.rules.proofs.Types.{Settings, Answer}
 use Rattle.rules.proofs.counts.Sums.{bit}
 use Rattle.rules.proofs.counts.Held.{count-none, count-cons}
 

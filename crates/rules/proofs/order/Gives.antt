@@ -10,8 +10,7 @@ use Rattle.rules.specs.Held.{Item}
 use Rattle.rules.specs.Sequential.{putting, taking, Contents, Found, giveBy, leaving, mostPassed, leastFull, passedBy}
 use Rattle.rules.specs.Run.{Final}
 use Rattle.rules.specs.Statement.{Gives}
-use Rattle.rules.specs.declared.Settings.{Settings}
-use Rattle.rules.specs.declared.Row.{Row}
+use Rattle.rules.proofs.Types.{Settings, Row}
 use Rattle.rules.specs.declared.Answer.the-variants.{Put, Taken, Empty, Full}
 use Rattle.rules.proofs.counts.Held.{RowFound}
 

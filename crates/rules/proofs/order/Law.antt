@@ -3,13 +3,12 @@
 use mathlib.Core.Path.{_≡_}
 use mathlib.Core.Logic.{_≢_}
 use mathlib.Core.List.{List, [], _∷_}
-use Prim.Native.Nat.{ℕ, _<_}
+use Prim.Native.Nat.{ℕ, _≤_, _<_}
 use Rattle.rules.specs.Answers.{numberOf}
 use Rattle.rules.specs.Sequential.{Operation, Contents}
 use Rattle.rules.specs.Run.{Call, step, begin, Event, Final}
 use Rattle.rules.specs.Statement.{Gives}
-use Rattle.rules.specs.declared.Settings.{Settings}
-use Rattle.rules.specs.declared.Answer.{Answer}
+use Rattle.rules.proofs.Types.{Settings, Answer}
 
 -- an answer, and the state that it leaves
 pub record Next (S : Type 0) : Type 0 where
@@ -40,7 +39,7 @@ module _ {S : Type 0} (g : Settings) (next : S → Call → Next S)
 
   -- what one call does to the operations under way: it is refused; it begins one; it walks on; it tries an answer, which is
   -- final only if its confirm pass wins; it stays in that pass, loses it, ends with an answer given here, or wins with the
-  -- answer that was tried
+  -- empty or full that was tried
   pub data Turn (s : S) (q : Contents) (c : Call) (o : Next S) : Type 0 where
     refused : 4 < numberOf (o .answer) → o .state ≡ s → Turn s q c o
     opened : (i : ℕ) (k : Operation) → c ≡ begin i k → numberOf (o .answer) ≡ 0 → status s i ≡ idle → status (o .state) i ≡ pending k
@@ -55,5 +54,5 @@ module _ {S : Type 0} (g : Settings) (next : S → Call → Next S)
         → Others s i (o .state) → I (o .state) q → Turn s q c o
     ends : (i : ℕ) (k : Operation) → c ≡ step i → Final (o .answer) → status s i ≡ pending k → status (o .state) i ≡ idle
         → Others s i (o .state) → (q′ : Contents) → Gives g q k (o .answer) q′ → I (o .state) q′ → Turn s q c o
-    wins : (i : ℕ) (k : Operation) → c ≡ step i → Final (o .answer) → status s i ≡ tried k → status (o .state) i ≡ idle
+    wins : (i : ℕ) (k : Operation) → c ≡ step i → Final (o .answer) → 3 ≤ numberOf (o .answer) → status s i ≡ tried k → status (o .state) i ≡ idle
         → Others s i (o .state) → I (o .state) q → ((s₀ : S) (q₀ : Contents) → Snap s₀ q₀ i s → Gives g q₀ k (o .answer) q₀) → Turn s q c o

@@ -2,43 +2,27 @@
 -- An operation is placed where it finishes, or earlier, at a step where it was tried: whether a tried one wins is known only
 -- later, so the order is built from the back of the run. The rest of the run says which tried operation wins, and at the step
 -- where it was tried its entry is put in front.
-use mathlib.Core.Path.{_≡_, refl, sym, ap, _∙_, subst}
+use mathlib.Core.Path.{_≡_, refl, sym, ap, _∙_}
 use mathlib.Core.Logic.{_≢_, _⊎_, inl, inr}
-use mathlib.Core.List.{List, [], _∷_, map, nil≢cons, List·Memᴰ, List·Memᴰ·head, List·Memᴰ·tail}
+use mathlib.Core.List.{List, [], _∷_, map, List·Memᴰ, List·Memᴰ·head, List·Memᴰ·tail}
 use mathlib.Core.Option.{Option, none, some}
-use Prim.Native.Nat.{ℕ, zero, suc, _≤_, _<_}
-use native.Mathlib.Decide.{ℕ-discrete, decLe}
-use native.Mathlib.Nat.{eq-or-lt-of-le, lt-of-not-le}
+use Prim.Native.Nat.{ℕ, suc, _≤_, _<_}
+use native.Mathlib.Decide.{ℕ-discrete}
+use native.Mathlib.Nat.{eq-or-lt-of-le}
 use native.Mathlib.Omega.{arith}
 use lib.ListN.{drop}
 use Rattle.rules.specs.Answers.{numberOf}
-use Rattle.rules.specs.Sequential.{Operation, putting, taking, Contents, noItems}
-use Rattle.rules.specs.Run.{Call, step, begin, Event, nothing, at, Final, StepOf, Since, Own}
+use Rattle.rules.specs.Sequential.{Operation, Contents, noItems}
+use Rattle.rules.specs.Run.{Call, step, Event, at, Final, StepOf, Since, Own}
 use Rattle.rules.specs.Statement.{Placement, Placed, All, Sorted, Gives, done, Accepted, OneAtATime}
-use Rattle.rules.specs.declared.Settings.{Settings}
+use Rattle.rules.proofs.Types.{Settings}
 use Rattle.rules.proofs.counts.Sums.{upd, upd-same, upd-other}
+use Rattle.rules.proofs.order.Positions.{begin-no-step, drop-head, drop-end, chosen-le, since-suc}
 use Rattle.rules.proofs.order.Law.{Next, events, Status, idle, pending, tried, Others as OthersOf, Turn as TurnOf, refused, opened, walks, tries, stays, loses, ends, wins}
-
--- a begin is no step
-pub begin-no-step : (i : ℕ) (o : Operation) (j : ℕ) → begin i o ≡ step j → ⊥
-begin-no-step i (putting v) j e = let z : _≡_ {A = ℕ} 0 1 = cc in omega arith
-begin-no-step i taking j e = let z : _≡_ {A = ℕ} 0 1 = cc in omega arith
 
 all-map : {A : Type 0} {P R : A → Type 0} (xs : List A) → ((x : A) → P x → R x) → All P xs → All R xs
 all-map [] g h = tt
 all-map (x ∷ xs) g h = (g x (h .0), all-map xs g (h .1))
-
-drop-head : (es : List Event) (p : ℕ) (x : Event) (xs : List Event) → drop p es ≡ x ∷ xs → (at es p ≡ x) × (drop (suc p) es ≡ xs)
-drop-head [] zero x xs e = absurd (nil≢cons e)
-drop-head [] (suc p) x xs e = absurd (nil≢cons e)
-drop-head (y ∷ ys) zero x xs e = (cc, cc)
-drop-head (y ∷ ys) (suc p) x xs e = drop-head ys p x xs e
-
-drop-end : (es : List Event) (p : ℕ) → drop p es ≡ [] → (f : ℕ) → p ≤ f → at es f ≡ nothing
-drop-end [] p e f l = refl
-drop-end (y ∷ ys) zero e f l = absurd (nil≢cons (sym e))
-drop-end (y ∷ ys) (suc p) e zero l = absurd (omega arith)
-drop-end (y ∷ ys) (suc p) e (suc f) l = drop-end ys p e f (omega arith)
 
 clash-ot : {x : Status} {k k′ : Operation} → x ≡ pending k → x ≡ tried k′ → ⊥
 clash-ot e f = let z : _≡_ {A = ℕ} 0 1 = cc in omega arith
@@ -91,17 +75,6 @@ module _ {S : Type 0} (g : Settings) (next : S → Call → Next S)
       fated : (i : ℕ) (k : Operation) (f : ℕ) → status s i ≡ tried k → fate i ≡ some f → Fate s i k p f order
       covers : (i f : ℕ) → p ≤ f → StepOf es i f → Final (at es f .answer) → Found f order ⊎ Awaited s fate i f
       accepted : Accepted g q (map (done es) order)
-
-    -- past a position that does not end the operation
-    since-suc : {i : ℕ} {k : Operation} {b p : ℕ} → Since es i k b p → (at es p .call ≡ step i → ¬ (Final (at es p .answer))) → Since es i k b (suc p)
-    since-suc {i} {k} {b} {p} x quiet = record { begun = x .begun; opened = x .opened; later = omega arith; quiet = go }
-      where
-        go : (q : ℕ) → b < q → q < suc p → at es q .call ≡ step i → ¬ (Final (at es q .answer))
-        go q l m = pick (eq-or-lt-of-le m)
-          where
-            pick : ((suc q ≡ suc p) ⊎ (suc q < suc p)) → at es q .call ≡ step i → ¬ (Final (at es q .answer))
-            pick (inl e) = let e′ : q ≡ p = omega arith in subst (λ (n : ℕ). at es n .call ≡ step i → ¬ (Final (at es n .answer))) (sym e′) quiet
-            pick (inr n) = x .quiet q l (omega arith)
 
     -- nothing is placed at p
     skip : (s t : S) (q : Contents) (p : ℕ) (r : Rest t q (suc p)) (fate : ℕ → Option ℕ)
@@ -235,16 +208,9 @@ module _ {S : Type 0} (g : Settings) (next : S → Call → Next S)
       here i u n = record { called = hc ∙ u; accepted = omega (arith, same-number) }
 
       -- an operation placed after p does not end at p
-      placed-le : (x : Placement) → Placed es x → x .chosen ≤ x .finished
-      placed-le x y = go (decLe (x .chosen) (x .finished))
-        where
-          go : Dec (x .chosen ≤ x .finished) → x .chosen ≤ x .finished
-          go (yes l) = l
-          go (no l) = absurd (y .chosen .since .quiet (x .finished) (y .finished .since .later) (lt-of-not-le l) (y .finished .here .called) (y .final))
-
       fresh-at : (ys : List Placement) → All (Placed es) ys → All (λ (y : Placement). suc p ≤ y .chosen) ys → All (λ (y : Placement). y .finished ≢ p) ys
       fresh-at [] a b = tt
-      fresh-at (y ∷ ys) a b = ((λ e. omega (arith, placed-le y (a .0), b .0)), fresh-at ys (a .1) (b .1))
+      fresh-at (y ∷ ys) a b = ((λ e. omega (arith, chosen-le es y (a .0), b .0)), fresh-at ys (a .1) (b .1))
 
       -- the fates of the workers besides i, whose operation ends at g
       fates : {q′ : Contents} (i : ℕ) {k : Operation} → c ≡ step i → status s i ≡ pending k → Others s i (o .state) → (r : Rest (o .state) q′ (suc p)) (g : ℕ) → StepOf es i g
@@ -348,7 +314,7 @@ module _ {S : Type 0} (g : Settings) (next : S → Call → Next S)
           (fates i u a w r p (here i u (n .high)))
           (λ j st fin. refl)
           (λ j f x. other-awaits i w r j f (λ e. absurd (clash-it b (rw e at (x .1)))) x)
-      by-turn (wins i k u n a b w h′ z) =
+      by-turn (wins i k u n m a b w h′ z) =
           let r : Rest (o .state) q (suc p) = ih q h′ (live-next s (o .state) p i live (w .same) (onward i u) (λ k′ e. absurd (clash-io b e)) (λ k′ e. absurd (clash-it b e))) in
           let fate : ℕ → Option ℕ = upd (r .fate) i (some p) in
           let set-i : fate i ≡ some p = upd-same (r .fate) i (some p) in

@@ -4,16 +4,15 @@ use mathlib.Core.Path.{_≡_, subst}
 use mathlib.Core.Logic.{_⊎_, inl, inr}
 use mathlib.Core.List.{List, [], _∷_, map, List·Memᴰ, List·Memᴰ·not-nil, List·Memᴰ·cases-cons}
 use Prim.Native.Nat.{ℕ, _≤_}
-use native.Mathlib.Nat.{lt-of-not-le}
-use native.Mathlib.Decide.{decLe}
 use native.Mathlib.Omega.{arith}
 use Rattle.rules.specs.Answers.{numberOf}
 use Rattle.rules.specs.Sequential.{Contents, noItems, mostPassed}
 use Rattle.rules.specs.Run.{step, Event, at, distanceIn}
 use Rattle.rules.specs.Statement.{Placement, Placed, All, Gives, done, Accepted, OneAtATime}
 use Rattle.rules.specs.Consequences.{InRealTime}
-use Rattle.rules.specs.declared.Settings.{Settings}
+use Rattle.rules.proofs.Types.{Settings}
 use Rattle.rules.proofs.order.Given.{gives-changed}
+use Rattle.rules.proofs.order.Positions.{chosen-le}
 
 all-at : {A : Type 0} (P : A → Type 0) (xs : List A) (x : A) → All P xs → List·Memᴰ x xs → P x
 all-at P [] x h m = absurd (List·Memᴰ·not-nil m)
@@ -50,16 +49,8 @@ module _ (g : Settings) (es : List Event) where
       let x = r .covers i f (record { called = e; accepted = omega arith }) (record { low = omega arith; high = omega arith }) in
       subst (λ (m : ℕ). numberOf (at es m .answer) ≡ 2 → distanceIn (at es m .answer) ≤ mostPassed g) (x .2) (bounded-in r (x .0) (x .1)) n
 
-  -- a chosen step is not after the one that finishes
-  chosen-le : (x : Placement) → Placed es x → x .chosen ≤ x .finished
-  chosen-le x y = by (decLe (x .chosen) (x .finished))
-    where
-      by : Dec (x .chosen ≤ x .finished) → x .chosen ≤ x .finished
-      by (yes l) = l
-      by (no l) = absurd (y .chosen .since .quiet (x .finished) (y .finished .since .later) (lt-of-not-le l) (y .finished .here .called) (y .final))
-
   pub in-real-time : (r : OneAtATime g es) → InRealTime g es r
   in-real-time r x y mx my l =
       let px = all-at (Placed es) (r .order) x (r .placed) mx in
       let py = all-at (Placed es) (r .order) y (r .placed) my in
-      omega (arith, chosen-le x px, py .chosen .since .later)
+      omega (arith, chosen-le es x px, py .chosen .since .later)

@@ -11,7 +11,7 @@ use native.Mathlib.Decide.{ℕ-discrete, decLe}
 use native.Mathlib.Omega.{arith}
 use Rattle.rules.specs.Effects.{nextOf}
 use Rattle.rules.specs.Sequential.{Contents}
-use Rattle.rules.specs.declared.Settings.{Settings}
+use Rattle.rules.proofs.Types.{Settings}
 use Rattle.rules.proofs.machine.Machine.{State}
 use Rattle.rules.proofs.counts.Wraps.{multiple-le, multiple-lt}
 use Rattle.rules.proofs.counts.Visits.{Visited, visited-all, visited-here, visited-next, visited-still, visited-just}

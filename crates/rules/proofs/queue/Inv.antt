@@ -6,22 +6,16 @@
 -- that is the order of the stamps. A worker knows what its pass has seen, in a form that growing counts keep.
 use mathlib.Core.Path.{_≡_}
 use mathlib.Core.Logic.{_≢_, _⊎_, inl, inr}
-use mathlib.Core.List.{[]}
 use Prim.Native.Nat.{ℕ, _+_, _*_, _≤_, _<_}
 use native.Mathlib.Nat.{le-trans}
 use native.Mathlib.Omega.{arith}
 use Rattle.rules.specs.Held.{Item}
-use Rattle.rules.specs.Worker.{phaseOf}
 use Rattle.rules.specs.Sequential.{Contents}
-use Rattle.rules.specs.declared.Settings.{Settings}
-use Rattle.rules.specs.declared.Side.the-variants.{Putting, Taking}
-use Rattle.rules.specs.declared.Phase.{Phase}
-use Rattle.rules.specs.declared.Phase.the-variants.{Idle, Window, QueuePutRead, QueueTakeRead, StackRead, Check, QueueCommit, StackCommit, QueueShift, StackShift, Confirm}
-use Rattle.rules.specs.declared.Slot.{Slot}
+use Rattle.rules.proofs.Types.{Settings, Putting, Taking, Phase, Idle, Window, QueuePutRead, QueueTakeRead, StackRead, Check, QueueCommit, StackCommit, QueueShift, StackShift, Confirm}
 use Rattle.rules.proofs.counts.Sums.{sumN, sum-zero, sum-gap-at}
 use Rattle.rules.proofs.machine.Machine.{State, subIn, phaseIn}
 use Rattle.rules.proofs.counts.Visits.{Visited}
-use Rattle.rules.proofs.counts.Passes.{Summed, summed-grow, Pass}
+use Rattle.rules.proofs.counts.Passes.{Summed, summed-grow}
 use Rattle.rules.proofs.counts.Held.{Holds}
 use Rattle.rules.proofs.counts.Stamps.{Stamped}
 use Rattle.rules.proofs.machine.Good.{Good}
@@ -145,41 +139,9 @@ pub record Inv (g : Settings) (s : State) (q : Contents) : Type 0 where
   pub pool : Pool g s q
   pub knows : (i : ℕ) → Knows g s (subIn s i) (phaseIn g s i)
 
--- ---- the link of a worker in confirm to its linearization point, the end of its first pass
--- the subs confirmed, and what is left of the sum
-abbrev pub confirmed : Phase → ℕ
-confirmed Idle = 0
-confirmed (Window side) = 0
-confirmed (QueuePutRead window scan) = 0
-confirmed (QueueTakeRead window bare scan sum) = 0
-confirmed (StackRead side window version scan sum) = 0
-confirmed (Check side version seen) = 0
-confirmed (QueueCommit side seen) = 0
-confirmed (StackCommit side seen) = 0
-confirmed (QueueShift side window) = 0
-confirmed (StackShift side version scan sum) = 0
-confirmed (Confirm side scan sum) = scan
-
-abbrev pub left : Phase → ℕ
-left Idle = 0
-left (Window side) = 0
-left (QueuePutRead window scan) = 0
-left (QueueTakeRead window bare scan sum) = 0
-left (StackRead side window version scan sum) = 0
-left (Check side version seen) = 0
-left (QueueCommit side seen) = 0
-left (StackCommit side seen) = 0
-left (QueueShift side window) = 0
-left (StackShift side version scan sum) = 0
-left (Confirm side scan sum) = sum
-
--- if nothing is left in the end, no item was held there
-abbrev pub Linked : Settings → State → Contents → (ℕ → ℕ) → Slot → Type 0
-Linked g s₀ q₀ put x =
-    Pass (g .width) (q₀ .items ≡ []) (s₀ .first) put (x .index) (confirmed (phaseOf (g .kind) x)) (left (phaseOf (g .kind) x))
-
-abbrev pub Snap : Settings → State → Contents → ℕ → State → Type 0
-Snap g s₀ q₀ i s = Linked g s₀ q₀ (s .first) (s .slot i)
+-- ---- what a take's pass sums up of each sub
+abbrev pub putsIn : State → ℕ → ℕ
+putsIn s = s .first
 
 -- ---- windows and counts only grow, and what a worker knows stays true
 pub record Grown (s t : State) : Type 0 where

@@ -18,10 +18,7 @@ use Rattle.rules.specs.Worker.{fresh}
 use Rattle.rules.specs.Effects.{hopOf}
 use Rattle.rules.specs.Commit.{queueCommit, commitBy, landedOf}
 use Rattle.rules.specs.Sequential.{putting, Contents}
-use Rattle.rules.specs.declared.Settings.{Settings}
-use Rattle.rules.specs.declared.Side.the-variants.{Putting}
-use Rattle.rules.specs.declared.Phase.the-variants.{Idle, Window, QueueCommit}
-use Rattle.rules.specs.declared.Effect.{Effect}
+use Rattle.rules.proofs.Types.{Settings, Putting, Idle, Window, QueueCommit, Effect}
 use Rattle.rules.specs.declared.Answer.the-variants.{Put}
 use Rattle.rules.proofs.counts.Sums.{upd, upd-same, upd-other, upd-self, sum-bump}
 use Rattle.rules.proofs.machine.Machine.{State, next, subIn, viewIn, phaseIn, applyIn, applyInBy}

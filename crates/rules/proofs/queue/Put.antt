@@ -16,11 +16,7 @@ use Rattle.rules.specs.Window.{windowRule}
 use Rattle.rules.specs.Read.{queuePutRead, missOf}
 use Rattle.rules.specs.Shift.{queueShift, shiftBy}
 use Rattle.rules.specs.Sequential.{Operation, putting, Contents}
-use Rattle.rules.specs.declared.Settings.{Settings}
-use Rattle.rules.specs.declared.Side.the-variants.{Putting}
-use Rattle.rules.specs.declared.Phase.{Phase}
-use Rattle.rules.specs.declared.Phase.the-variants.{Window, QueuePutRead, QueueCommit, QueueShift}
-use Rattle.rules.specs.declared.Effect.{Effect}
+use Rattle.rules.proofs.Types.{Settings, Putting, Phase, Window, QueuePutRead, QueueCommit, QueueShift, Effect}
 use Rattle.rules.proofs.machine.Machine.{State, subIn, viewIn, phaseIn, applyIn}
 use Rattle.rules.proofs.counts.Wraps.{add32-is, add32-suc, sub32-is, next-lt, multiple-le}
 use Rattle.rules.proofs.counts.Visits.{Visited, visited-none, visited-all, visited-next}

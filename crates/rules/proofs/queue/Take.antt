@@ -19,13 +19,7 @@ use Rattle.rules.specs.Read.{queueTakeRead, missOf, afterTakes}
 use Rattle.rules.specs.Shift.{queueShift, shiftBy}
 use Rattle.rules.specs.Confirm.{counted, confirmRule, confirmedOf}
 use Rattle.rules.specs.Sequential.{taking, Contents}
-use Rattle.rules.specs.declared.Settings.{Settings}
-use Rattle.rules.specs.declared.Side.the-variants.{Taking}
-use Rattle.rules.specs.declared.Phase.{Phase}
-use Rattle.rules.specs.declared.Phase.the-variants.{Window, QueueTakeRead, QueueCommit, QueueShift, Confirm}
-use Rattle.rules.specs.declared.Slot.{Slot}
-use Rattle.rules.specs.declared.View.{View}
-use Rattle.rules.specs.declared.Effect.{Effect}
+use Rattle.rules.proofs.Types.{Settings, Taking, Phase, Window, QueueTakeRead, QueueCommit, QueueShift, Confirm, Slot, View, Effect}
 use Rattle.rules.proofs.counts.Sums.{sumN}
 use Rattle.rules.proofs.machine.Machine.{State, subIn, viewIn, phaseIn, applyIn}
 use Rattle.rules.proofs.counts.Wraps.{add32-is, add32-suc, next-lt, multiple-lt}

@@ -19,10 +19,7 @@ use Rattle.rules.specs.Worker.{fresh}
 use Rattle.rules.specs.Effects.{hopOf}
 use Rattle.rules.specs.Commit.{queueCommit, commitBy, removedOf}
 use Rattle.rules.specs.Sequential.{taking, Contents, mostPassed, passedBy}
-use Rattle.rules.specs.declared.Settings.{Settings}
-use Rattle.rules.specs.declared.Side.the-variants.{Taking}
-use Rattle.rules.specs.declared.Phase.the-variants.{Idle, Window, QueueCommit}
-use Rattle.rules.specs.declared.Effect.{Effect}
+use Rattle.rules.proofs.Types.{Settings, Taking, Idle, Window, QueueCommit, Effect}
 use Rattle.rules.proofs.counts.Sums.{upd, upd-same, upd-other, upd-self, upTo, sum-within-but, rows-more, rows-flat, times-pred}
 use Rattle.rules.proofs.machine.Machine.{State, next, subIn, viewIn, phaseIn, belowIn, takenIn, distanceIn, applyIn, applyInBy}
 use Rattle.rules.proofs.counts.Wraps.{add32-suc}

@@ -1,33 +1,29 @@
 -- The queue as a kind: its invariant holds of a new pool, every begin and every step keeps it, no sum of a queue from make
 -- reaches 2^32, and no difference but confirm's passes below 0. Each phase's step is in the file of its operation; here they
 -- are put together.
-use mathlib.Core.Path.{_≡_, refl, sym, subst}
-use mathlib.Core.Logic.{_≢_}
+use mathlib.Core.Path.{_≡_, refl, subst}
 use Prim.Native.Nat.{ℕ, _≤_, _<_}
 use native.Mathlib.Nat.{le-refl}
 use native.Mathlib.Omega.{arith}
 use lib.Dec.{eqb}
 use Rattle.laws.specs.Choice.{cond, cond-true}
-use Rattle.rules.specs.Worker.{fresh, zeroSlot}
+use Rattle.rules.specs.Worker.{zeroSlot}
 use Rattle.rules.specs.Effects.{refusedOf}
 use Rattle.rules.specs.Step.{ruleOf, ruleBy}
 use Rattle.rules.specs.Sequential.{Contents, noItems}
 use Rattle.rules.specs.Consequences.{NoWrap}
-use Rattle.rules.specs.declared.Settings.{Settings}
-use Rattle.rules.specs.declared.Side.{Side}
-use Rattle.rules.specs.declared.Side.the-variants.{Putting, Taking}
-use Rattle.rules.specs.declared.Phase.{Phase}
-use Rattle.rules.specs.declared.Phase.the-variants.{Idle, Window, QueuePutRead, QueueTakeRead, StackRead, Check, QueueCommit, StackCommit, QueueShift, StackShift, Confirm}
-use Rattle.rules.proofs.counts.Sums.{upd-other, sum-zero}
+use Rattle.rules.proofs.Types.{Settings, Side, Putting, Taking, Phase, Idle, Window, QueuePutRead, QueueTakeRead, StackRead, Check, QueueCommit, StackCommit, QueueShift, StackShift, Confirm}
+use Rattle.rules.proofs.counts.Sums.{sum-zero}
 use Rattle.rules.proofs.order.Law.{refused}
 use Rattle.rules.proofs.machine.Machine.{State, subIn, viewIn, phaseIn, applyIn, applyInBy, madeIn}
-use Rattle.rules.proofs.machine.Phases.{idle-phase}
+use Rattle.rules.proofs.machine.Phases.{idle-phase, worker}
 use Rattle.rules.proofs.counts.Passes.{summed-more, summed-le}
 use Rattle.rules.proofs.counts.Held.{count-none}
 use Rattle.rules.proofs.machine.Good.{Good}
 use Rattle.rules.proofs.machine.Turns.{Common, Counts, Safe, begun, Kind}
-use Rattle.rules.proofs.queue.Inv.{Windows, Stamps, Pool, Knows, Inv, Linked, Snap, sum-few, put-few, taken-few, top-few, mark-few}
-use Rattle.rules.proofs.queue.Moves.{Stepped, inv-after, told-knows}
+use Rattle.rules.proofs.machine.Ways.{Snap, Written, others-after}
+use Rattle.rules.proofs.queue.Inv.{Windows, Stamps, Knows, Inv, putsIn, Grown, sum-few, put-few, taken-few, top-few, mark-few}
+use Rattle.rules.proofs.queue.Moves.{Stepped, written, inv-after}
 use Rattle.rules.proofs.queue.Put.{put-window, put-read, put-shift}
 use Rattle.rules.proofs.queue.Landed.{put-commit}
 use Rattle.rules.proofs.queue.Take.{take-window, take-read, take-shift, take-confirm}
@@ -83,28 +79,25 @@ module _ (g : Settings) (good : Good g) (kind : g .kind ≡ 0) where
       }
 
   -- ---- a begin
-  begins : (s : State) (q : Contents) → Inv g s q → (i : ℕ) (side : Side) (v : ℕ) → Inv g (begun s i side v) q
-  begins s q inv i side v =
-      inv-after g s i (begun s i side v) _ refl
-      (record { top = le-refl _; mark = le-refl _; put = λ j. le-refl _; taken = λ j. le-refl _ }) q q inv
-      (record {
-        windows = o .windows;
-        stamps = o .stamps;
-        total = o .total;
-        puts-few = o .puts-few;
-        steps-few = o .steps-few;
-        holds = o .holds;
-        count = o .count;
-      })
-      (told-knows g kind v (subIn s i) (Window side) tt zeroSlot (begun s i side v) tt)
-    where
-      o : Pool g s q
-      o = inv .pool
+  module _ (s : State) (i : ℕ) (side : Side) (v : ℕ) where
+    up : Grown s (begun s i side v)
+    up = record { top = le-refl _; mark = le-refl _; put = λ j. le-refl _; taken = λ j. le-refl _ }
 
-  begins-kept : (s : State) (i : ℕ) (side : Side) (v : ℕ) (j : ℕ) → j ≢ i
-      → (s₀ : State) (q₀ : Contents) → Snap g s₀ q₀ j s → Snap g s₀ q₀ j (begun s i side v)
-  begins-kept s i side v j n s₀ q₀ z =
-      subst (Linked g s₀ q₀ (s .first)) (sym (upd-other (s .slot) i (fresh v (subIn s i) (Window side)) j n)) z
+    opens : Written g putsIn s i (worker v (subIn s i) (Window side)) (begun s i side v)
+    opens = written g kind s i (worker v (subIn s i) (Window side)) zeroSlot (begun s i side v) tt refl up
+
+    begins : (q : Contents) → Inv g s q → Inv g (begun s i side v) q
+    begins q inv =
+        let o = inv .pool in
+        inv-after opens up inv (record {
+          windows = o .windows;
+          stamps = o .stamps;
+          total = o .total;
+          puts-few = o .puts-few;
+          steps-few = o .steps-few;
+          holds = o .holds;
+          count = o .count;
+        }) tt
 
   -- ---- a step
   module _ (s : State) (q : Contents) (common : Common g s) (inv : Inv g s q) (i : ℕ) where
@@ -198,10 +191,10 @@ pub queueKind : (g : Settings) → Good g → g .kind ≡ 0 → Kind g
 queueKind g good kind =
     record {
       Inv = Inv g;
-      Snap = Snap g;
+      Snap = Snap g putsIn;
       at-first = at-first g good kind;
-      begins = λ s q common inv i e side v. begins g good kind s q inv i side v;
-      begins-kept = begins-kept g good kind;
+      begins = λ s q common inv i e side v. begins g good kind s i side v q inv;
+      begins-kept = λ s i side v. others-after (opens g good kind s i side v) (Inv g) .kept;
       steps = λ s q common inv i l few. stepped g good kind s q common inv i .turn few;
       counts = counts g good kind;
       holding = λ s q inv. record { held = holds-below g kind s q (inv .pool); count = inv .pool .count };

@@ -1,31 +1,25 @@
 -- What is left to show of a step once the new state is known: the pool's part of the invariant, what the stepping worker knows,
 -- and that the others know as much as before. Most steps change nothing that is shared, and these only walk.
-use mathlib.Core.Path.{_≡_, refl, sym, ap, ap₂, _∙_, subst}
+use mathlib.Core.Path.{_≡_, refl, sym}
 use mathlib.Core.List.{List}
 use Prim.Native.Nat.{ℕ, _+_, _≤_, _<_}
 use native.Mathlib.Nat.{le-refl}
 use native.Mathlib.Omega.{arith}
 use Rattle.rules.specs.Held.{Item}
-use Rattle.rules.specs.Worker.{phaseOf, encode}
+use Rattle.rules.specs.Worker.{encode}
 use Rattle.rules.specs.Effects.{movedOf, restartOf}
 use Rattle.rules.specs.Sequential.{Contents}
 use Rattle.rules.specs.Run.{step}
-use Rattle.rules.specs.declared.Settings.{Settings}
-use Rattle.rules.specs.declared.Side.{Side}
-use Rattle.rules.specs.declared.Phase.{Phase}
-use Rattle.rules.specs.declared.Phase.the-variants.{Idle, Window, QueuePutRead, QueueTakeRead, StackRead, Check, QueueCommit, StackCommit, QueueShift, StackShift, Confirm}
-use Rattle.rules.specs.declared.Worker.{Worker}
-use Rattle.rules.specs.declared.Slot.{Slot}
-use Rattle.rules.specs.declared.Effect.{Effect}
-use Rattle.rules.proofs.counts.Sums.{upd, upd-same, upd-other, upd-all, sumN, sum-gap-at, sum-zero}
-use Rattle.rules.proofs.order.Law.{Next, pending, Others, walks}
-use Rattle.rules.proofs.machine.Machine.{State, belowIn, subIn, viewIn, phaseIn, applyIn, nextIn, turnedIn, apply-moved}
-use Rattle.rules.proofs.machine.Phases.{OfStack, operationOf, statusOf, worker, stack-phase, encode-value, encode-index}
-use Rattle.rules.proofs.counts.Passes.{pass-grow}
+use Rattle.rules.proofs.Types.{Settings, Side, Phase, Window, Worker, Slot, Effect}
+use Rattle.rules.proofs.counts.Sums.{upd, sumN, sum-gap-at, sum-zero}
+use Rattle.rules.proofs.order.Law.{Next, pending}
+use Rattle.rules.proofs.machine.Machine.{State, belowIn, subIn, viewIn, phaseIn, applyIn, turnedIn, apply-moved}
+use Rattle.rules.proofs.machine.Phases.{OfStack, operationOf, statusOf, worker, stack-phase}
 use Rattle.rules.proofs.counts.Held.{Holds, holds-ext}
 use Rattle.rules.proofs.machine.Good.{Good, stack-below}
-use Rattle.rules.proofs.machine.Turns.{Common, statusIn, status-here, status-other, Turned}
-use Rattle.rules.proofs.stack.Inv.{Ghost, sight, Pool, Knows, Inv, SnapAt, Snap}
+use Rattle.rules.proofs.machine.Turns.{Common, Turned}
+use Rattle.rules.proofs.machine.Ways.{Snap, Written, each-after, by-walk}
+use Rattle.rules.proofs.stack.Inv.{Ghost, sight, Pool, Knows, Inv, versionsIn}
 
 -- ---- what a pool from make has: no count is near 2^32, and the list is what the rows from 1 to the held ones have
 module _ {g : Settings} {s : State} {q : Contents} {ghost : Ghost} (o : Pool g s q ghost) where
@@ -60,61 +54,6 @@ pub record Stepping (g : Settings) (s : State) (q : Contents) (i : ℕ) : Type 0
   pub inv : Inv g s q
   pub time : s .steps < 4000000000
 
--- versions only grow, so a confirming worker's link is kept
-snap-grow : (g : Settings) (h₀ : ℕ → ℕ) (q₀ : Contents) (h h′ : ℕ → ℕ) (index : ℕ) (p : Phase) → ((j : ℕ) → h j ≤ h′ j)
-    → SnapAt g h₀ q₀ h index p → SnapAt g h₀ q₀ h′ index p
-snap-grow g h₀ q₀ h h′ index Idle up z = z
-snap-grow g h₀ q₀ h h′ index (Window side) up z = z
-snap-grow g h₀ q₀ h h′ index (QueuePutRead window scan) up z = z
-snap-grow g h₀ q₀ h h′ index (QueueTakeRead window bare scan sum) up z = z
-snap-grow g h₀ q₀ h h′ index (StackRead side window version scan sum) up z = z
-snap-grow g h₀ q₀ h h′ index (Check side version seen) up z = z
-snap-grow g h₀ q₀ h h′ index (QueueCommit side seen) up z = z
-snap-grow g h₀ q₀ h h′ index (StackCommit side seen) up z = z
-snap-grow g h₀ q₀ h h′ index (QueueShift side window) up z = z
-snap-grow g h₀ q₀ h h′ index (StackShift side version scan sum) up z = z
-snap-grow g h₀ q₀ h h′ index (Confirm side scan sum) up z = pass-grow up z
-
--- ---- from s to t, in which worker i's slot is x and the other slots are as they were
-pub others : (g : Settings) (s t : State) (i : ℕ) (x : Slot) → t .slot ≡ upd (s .slot) i x → ((j : ℕ) → s .second j ≤ t .second j)
-    → Others g (nextIn g) (statusIn g) (Inv g) (Snap g) s i t
-others g s t i x e up =
-    record {
-      same = λ j n. ap (λ (f : ℕ → Slot). statusOf (f j .value) (phaseOf (g .kind) (f j))) e ∙ status-other g (s .slot) i x j n;
-      kept = λ j n s₀ q₀ z.
-          subst (λ (y : Slot). SnapAt g (s₀ .second) q₀ (t .second) (y .index) (phaseOf (g .kind) y))
-          (sym (ap (λ (f : ℕ → Slot). f j) e ∙ upd-other (s .slot) i x j n))
-          (snap-grow g (s₀ .second) q₀ (s .second) (t .second) (subIn s j) (phaseIn g s j) up z);
-    }
-
--- ---- worker i is written with a phase of the stack
-module _ {g : Settings} {s : State} {q : Contents} {i : ℕ} (a : Stepping g s q i) (t : State) (k : Worker) (o : Slot)
-    (e : t .slot ≡ upd (s .slot) i (encode k o)) (of : OfStack (k .phase)) where
-  pub status-after : statusIn g t i ≡ statusOf (k .value) (k .phase)
-  status-after =
-      ap (λ (f : ℕ → Slot). statusOf (f i .value) (phaseOf (g .kind) (f i))) e ∙ status-here g (s .slot) i (encode k o)
-      ∙ ap₂ statusOf (encode-value k o) (stack-phase g (a .kind) k of o)
-
-  pub inv-after : (q′ : Contents) (ghost : Ghost) → Pool g t q′ ghost
-      → ((j : ℕ) (p : Phase) → Knows g (sight s) (a .inv .ghost) (subIn s j) p → Knows g (sight t) ghost (subIn s j) p)
-      → Knows g (sight t) ghost (k .index) (k .phase) → Inv g t q′
-  inv-after q′ ghost pool same own =
-      record {
-        ghost = ghost;
-        pool = pool;
-        knows = λ j.
-            subst (λ (f : ℕ → Slot). Knows g (sight t) ghost (f j .index) (phaseOf (g .kind) (f j))) (sym e)
-            (upd-all (λ n (x : Slot). Knows g (sight t) ghost (x .index) (phaseOf (g .kind) x)) (s .slot) i (encode k o) j
-            (λ u. rw (stack-phase g (a .kind) k of o, encode-index k o) own)
-            (λ n. same j (phaseIn g s j) (a .inv .knows j)));
-      }
-
-  -- and if that phase is a confirm, it has its link
-  pub snap-after : (s₀ : State) (q₀ : Contents) → SnapAt g (s₀ .second) q₀ (t .second) (k .index) (k .phase) → Snap g s₀ q₀ i t
-  snap-after s₀ q₀ z =
-      subst (λ (x : Slot). SnapAt g (s₀ .second) q₀ (t .second) (x .index) (phaseOf (g .kind) x))
-      (sym (ap (λ (f : ℕ → Slot). f i) e ∙ upd-same (s .slot) i (encode k o))) (rw (stack-phase g (a .kind) k of o, encode-index k o) z)
-
 -- ---- steps that change nothing that is shared
 -- the worker at an index in a phase, and the state in which it is there and all else is as it was
 abbrev pub moves : State → ℕ → ℕ → Phase → Worker
@@ -123,27 +62,35 @@ moves s i index p = worker (s .slot i .value) index p
 abbrev pub still : State → ℕ → Worker → Slot → State
 still s i k kept = turnedIn s i (s .top) (s .mark) (encode k kept)
 
+-- worker i is written with a phase of the stack, and no version has fallen
+pub written : (g : Settings) → g .kind ≡ 1 → (s : State) (i : ℕ) (k : Worker) (kept : Slot) (t : State) → OfStack (k .phase)
+    → t .slot ≡ upd (s .slot) i (encode k kept) → ((j : ℕ) → s .second j ≤ t .second j) → Written g versionsIn s i k t
+written g kind s i k kept t of slots up = record { kept = kept; slots = slots; phase = stack-phase g kind k of kept; grown = up }
+
 module _ {g : Settings} {s : State} {q : Contents} {i : ℕ} (a : Stepping g s q i) where
   abbrev pub Steps : Next State → Type 0
-  Steps o = Turned g (Inv g) (Snap g) s q (step i) o
+  Steps o = Turned g (Inv g) (Snap g versionsIn) s q (step i) o
 
   abbrev pub On : Effect → Type 0
   On x = Steps (applyIn g s i x)
 
-  -- what the worker knows in its phase, and how far it is
+  -- what the worker knows in its phase
   pub known : {p : Phase} → phaseIn g s i ≡ p → Knows g (sight s) (a .inv .ghost) (subIn s i) p
   known e = rw e at (a .inv .knows i)
 
-  pub status-at : {p : Phase} → phaseIn g s i ≡ p → statusIn g s i ≡ statusOf (s .slot i .value) p
-  status-at e = ap (statusOf (s .slot i .value)) e
+  pub inv-after : {t : State} {k : Worker} {q′ : Contents} → Written g versionsIn s i k t → (ghost : Ghost) → Pool g t q′ ghost
+      → ((j : ℕ) (p : Phase) → Knows g (sight s) (a .inv .ghost) (subIn s j) p → Knows g (sight t) ghost (subIn s j) p)
+      → Knows g (sight t) ghost (k .index) (k .phase) → Inv g t q′
+  inv-after {t} w ghost pool same own =
+      record { ghost = ghost; pool = pool; knows = each-after w (Knows g (sight t) ghost) own (λ j. same j (phaseIn g s j) (a .inv .knows j)) }
 
-  pub others-still : (k : Worker) (kept : Slot) → Others g (nextIn g) (statusIn g) (Inv g) (Snap g) s i (still s i k kept)
-  others-still k kept = others g s (still s i k kept) i (encode k kept) refl (λ j. le-refl _)
+  pub moved : (k : Worker) (kept : Slot) → OfStack (k .phase) → Written g versionsIn s i k (still s i k kept)
+  moved k kept of = written g (a .kind) s i k kept (still s i k kept) of refl (λ j. le-refl _)
 
   pub inv-still : (k : Worker) (kept : Slot) → OfStack (k .phase) → Knows g (sight s) (a .inv .ghost) (k .index) (k .phase) → Inv g (still s i k kept) q
   inv-still k kept of own =
       let o = a .inv .pool in
-      inv-after a (still s i k kept) k kept refl of q (a .inv .ghost)
+      inv-after (moved k kept of) (a .inv .ghost)
       (record {
         window = o .window;
         corridor = o .corridor;
@@ -159,10 +106,8 @@ module _ {g : Settings} {s : State} {q : Contents} {i : ℕ} (a : Stepping g s q
       → (index : ℕ) (p : Phase) (kept : Slot) → statusOf (s .slot i .value) p ≡ pending (operationOf side (s .slot i .value)) → OfStack p
       → Knows g (sight s) (a .inv .ghost) index p → On (movedOf (viewIn s i) index p kept)
   walk e side u index p kept v of own =
-      rw (apply-moved g s i index p kept)
-      (walks i (operationOf side (s .slot i .value)) refl refl (status-at e ∙ u)
-      (status-after a (still s i (moves s i index p) kept) (moves s i index p) kept refl of ∙ v)
-      (others-still (moves s i index p) kept) (inv-still (moves s i index p) kept of own))
+      let k : Worker = moves s i index p in
+      rw (apply-moved g s i index p kept) (by-walk (moved k kept of) e u v (inv-still k kept of own))
 
   -- a restart, from whatever index
   pub restart : {p₀ : Phase} → phaseIn g s i ≡ p₀ → (side : Side) → statusOf (s .slot i .value) p₀ ≡ pending (operationOf side (s .slot i .value))

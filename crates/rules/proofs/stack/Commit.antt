@@ -10,19 +10,15 @@ use Rattle.rules.specs.Worker.{zeroSlot, fresh}
 use Rattle.rules.specs.Sequential.{Contents}
 use Rattle.rules.specs.Statement.{Gives}
 use Rattle.rules.specs.Run.{Final}
-use Rattle.rules.specs.declared.Settings.{Settings}
-use Rattle.rules.specs.declared.Side.{Side}
-use Rattle.rules.specs.declared.Phase.the-variants.{Idle, StackCommit}
-use Rattle.rules.specs.declared.Version.{Version}
-use Rattle.rules.specs.declared.Answer.{Answer}
+use Rattle.rules.proofs.Types.{Settings, Side, Idle, StackCommit, Version, Answer}
 use Rattle.rules.proofs.counts.Sums.{upd, upd-same, upd-other, sumN, sum-bump}
-use Rattle.rules.proofs.order.Law.{ends}
 use Rattle.rules.proofs.machine.Machine.{State, next, subIn, phaseIn}
 use Rattle.rules.proofs.machine.Phases.{operationOf, worker}
 use Rattle.rules.proofs.counts.Stamps.{Stamped}
 use Rattle.rules.proofs.machine.Turns.{Holding}
-use Rattle.rules.proofs.stack.Inv.{sight, Hit, Fits, Pairs, Committing, Pool, Inv}
-use Rattle.rules.proofs.stack.After.{Stepping, Steps, status-at, others, status-after, inv-after}
+use Rattle.rules.proofs.machine.Ways.{Written, by-end}
+use Rattle.rules.proofs.stack.Inv.{sight, Hit, Fits, Pairs, Committing, Pool, Inv, versionsIn}
+use Rattle.rules.proofs.stack.After.{Stepping, Steps, written, inv-after}
 use Rattle.rules.proofs.stack.Corridor.{Touched, versions-grow, knows-touched, countAfter, corridor-after-commit, left-after-commit}
 
 -- ---- a live worker
@@ -105,7 +101,7 @@ module _ {g : Settings} {s : State} {q : Contents} {i : ℕ} (a : Stepping g s q
     -- the commit ends its operation, which is placed here
     pub commits : (x : Answer) → Final x → Gives g q (operationOf side (s .slot i .value)) x q′ → Steps a (next x t)
     commits x final gives =
-        ends i (operationOf side (s .slot i .value)) refl final (status-at a e) (status-after a t (worker 0 j Idle) zeroSlot refl tt)
-        (others g s t i (fresh 0 j Idle) refl (λ m. versions-grow touched m)) q′ gives
-        (inv-after a t (worker 0 j Idle) zeroSlot refl tt q′ (a .inv .ghost) pool
-        (λ m p h. knows-touched touched (a .inv .pool .eras) (subIn s m) p h) tt)
+        let w : Written g versionsIn s i (worker 0 j Idle) t =
+        written g (a .kind) s i (worker 0 j Idle) zeroSlot t tt refl (λ m. versions-grow touched m) in
+        by-end w e refl refl final gives
+        (inv-after a w (a .inv .ghost) pool (λ m p h. knows-touched touched (a .inv .pool .eras) (subIn s m) p h) tt)

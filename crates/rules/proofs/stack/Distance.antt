@@ -12,7 +12,7 @@ use borrow.Author.Tests.{le-ltb}
 use Rattle.laws.specs.Choice.{cond, cond-false}
 use Rattle.rules.specs.Held.{Item, passedOver}
 use Rattle.rules.specs.Sequential.{Contents, mostPassed}
-use Rattle.rules.specs.declared.Settings.{Settings}
+use Rattle.rules.proofs.Types.{Settings}
 use Rattle.rules.proofs.counts.Sums.{upTo, upTo-none, rows-more, rows-flat, sum-zero, sum-within-but, times-pred}
 use Rattle.rules.proofs.machine.Machine.{State, countIn, distanceIn}
 use Rattle.rules.proofs.machine.Good.{Good}

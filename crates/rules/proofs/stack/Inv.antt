@@ -6,20 +6,14 @@
 -- high, or so low, that one commit more does not leave the corridor.
 use mathlib.Core.Path.{_≡_}
 use mathlib.Core.Logic.{_⊎_}
-use mathlib.Core.List.{[]}
 use Prim.Native.Nat.{ℕ, _+_, _*_, _≤_, _<_}
-use lib.ListN.{length}
 use Rattle.rules.specs.Held.{Item}
-use Rattle.rules.specs.Sequential.{Contents, leastFull}
-use Rattle.rules.specs.declared.Settings.{Settings}
-use Rattle.rules.specs.declared.Side.{Side}
-use Rattle.rules.specs.declared.Side.the-variants.{Putting, Taking}
-use Rattle.rules.specs.declared.Phase.{Phase}
-use Rattle.rules.specs.declared.Phase.the-variants.{Idle, Window, QueuePutRead, QueueTakeRead, StackRead, Check, QueueCommit, StackCommit, QueueShift, StackShift, Confirm}
+use Rattle.rules.specs.Sequential.{Contents}
+use Rattle.rules.proofs.Types.{Settings, Side, Putting, Taking, Phase, Idle, Window, QueuePutRead, QueueTakeRead, StackRead, Check, QueueCommit, StackCommit, QueueShift, StackShift, Confirm}
 use Rattle.rules.proofs.counts.Sums.{sumN}
 use Rattle.rules.proofs.machine.Machine.{State, subIn, phaseIn}
 use Rattle.rules.proofs.counts.Visits.{Visited}
-use Rattle.rules.proofs.counts.Passes.{Summed, Pass}
+use Rattle.rules.proofs.counts.Passes.{Summed}
 use Rattle.rules.proofs.counts.Stamps.{Stamped}
 use Rattle.rules.proofs.machine.Turns.{Holding}
 
@@ -148,24 +142,6 @@ pub record Inv (g : Settings) (s : State) (q : Contents) : Type 0 where
   pub pool : Pool g s q ghost
   pub knows : (i : ℕ) → Knows g (sight s) ghost (subIn s i) (phaseIn g s i)
 
--- ---- a worker in confirm
--- what its answer says of the list at its linearization point
-abbrev pub Stuck : Settings → Side → Contents → Type 0
-Stuck g Putting q = leastFull g ≤ length (q .items)
-Stuck g Taking q = q .items ≡ []
-
-abbrev pub SnapAt : Settings → (ℕ → ℕ) → Contents → (ℕ → ℕ) → ℕ → Phase → Type 0
-SnapAt g h₀ q₀ h index Idle = Unit {0}
-SnapAt g h₀ q₀ h index (Window side) = Unit {0}
-SnapAt g h₀ q₀ h index (QueuePutRead window scan) = Unit {0}
-SnapAt g h₀ q₀ h index (QueueTakeRead window bare scan sum) = Unit {0}
-SnapAt g h₀ q₀ h index (StackRead side window version scan sum) = Unit {0}
-SnapAt g h₀ q₀ h index (Check side version seen) = Unit {0}
-SnapAt g h₀ q₀ h index (QueueCommit side seen) = Unit {0}
-SnapAt g h₀ q₀ h index (StackCommit side seen) = Unit {0}
-SnapAt g h₀ q₀ h index (QueueShift side window) = Unit {0}
-SnapAt g h₀ q₀ h index (StackShift side version scan sum) = Unit {0}
-SnapAt g h₀ q₀ h index (Confirm side scan sum) = Pass (g .width) (Stuck g side q₀) h₀ h index scan sum
-
-abbrev pub Snap : Settings → State → Contents → ℕ → State → Type 0
-Snap g s₀ q₀ i s = SnapAt g (s₀ .second) q₀ (s .second) (subIn s i) (phaseIn g s i)
+-- ---- what a pass sums up of each sub
+abbrev pub versionsIn : State → ℕ → ℕ
+versionsIn s = s .second

@@ -17,11 +17,7 @@ use Rattle.rules.specs.Window.{windowRule, queueSeen, stackSeen}
 use Rattle.rules.specs.Read.{stackRead, stackHit, missOf}
 use Rattle.rules.specs.Check.{checkRule}
 use Rattle.rules.specs.Sequential.{Contents}
-use Rattle.rules.specs.declared.Settings.{Settings}
-use Rattle.rules.specs.declared.Side.{Side}
-use Rattle.rules.specs.declared.Side.the-variants.{Putting, Taking}
-use Rattle.rules.specs.declared.Phase.the-variants.{Window, StackRead, Check, StackCommit, StackShift}
-use Rattle.rules.specs.declared.Version.{Version}
+use Rattle.rules.proofs.Types.{Settings, Side, Putting, Taking, Window, StackRead, Check, StackCommit, StackShift, Version}
 use Rattle.rules.proofs.counts.Sums.{sumN}
 use Rattle.rules.proofs.machine.Machine.{State, subIn, viewIn, phaseIn}
 use Rattle.rules.proofs.counts.Wraps.{add32-is, add32-suc, sub32-is}

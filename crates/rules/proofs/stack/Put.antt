@@ -10,10 +10,7 @@ use Rattle.laws.specs.Wrap.{add32}
 use Rattle.rules.specs.Held.{Item}
 use Rattle.rules.specs.Commit.{landedOf}
 use Rattle.rules.specs.Sequential.{Contents}
-use Rattle.rules.specs.declared.Settings.{Settings}
-use Rattle.rules.specs.declared.Side.the-variants.{Putting}
-use Rattle.rules.specs.declared.Phase.the-variants.{StackCommit}
-use Rattle.rules.specs.declared.Version.{Version}
+use Rattle.rules.proofs.Types.{Settings, Putting, StackCommit, Version}
 use Rattle.rules.specs.declared.Answer.the-variants.{Put}
 use Rattle.rules.proofs.counts.Sums.{upd, upd-same, upd-other}
 use Rattle.rules.proofs.machine.Machine.{State, next, subIn, viewIn, phaseIn, applyIn, applyInBy}

@@ -15,22 +15,16 @@ use Rattle.rules.specs.Worker.{encode}
 use Rattle.rules.specs.Effects.{movedOf}
 use Rattle.rules.specs.Shift.{stackShift, shiftBy, shiftedOf}
 use Rattle.rules.specs.Sequential.{Contents}
-use Rattle.rules.specs.declared.Settings.{Settings}
-use Rattle.rules.specs.declared.Side.{Side}
-use Rattle.rules.specs.declared.Side.the-variants.{Putting, Taking}
-use Rattle.rules.specs.declared.Phase.the-variants.{Window, StackShift, Confirm}
-use Rattle.rules.specs.declared.Version.{Version}
-use Rattle.rules.specs.declared.Worker.{Worker}
-use Rattle.rules.proofs.order.Law.{walks, tries}
+use Rattle.rules.proofs.Types.{Settings, Side, Putting, Taking, Window, StackShift, Confirm, Version, Worker}
 use Rattle.rules.proofs.machine.Machine.{State, subIn, viewIn, phaseIn, turnedIn, apply-moved, apply-shifted}
-use Rattle.rules.proofs.machine.Phases.{operationOf}
 use Rattle.rules.proofs.counts.Wraps.{add32-is, add32-suc, sub32-is}
 use Rattle.rules.proofs.counts.Visits.{visited-all}
 use Rattle.rules.proofs.counts.Passes.{Pass, pass-start}
 use Rattle.rules.proofs.counts.Held.{none-held, many-held}
 use Rattle.rules.proofs.machine.Good.{stack-full}
-use Rattle.rules.proofs.stack.Inv.{Ghost, Sight, sight, Missed, Left, Shifting, Pool, Stuck}
-use Rattle.rules.proofs.stack.After.{versions-few, window-ge, window-le, held-rows, Stepping, On, moves, still, known, status-at, others, others-still, inv-still, status-after, inv-after, snap-after, restart}
+use Rattle.rules.proofs.machine.Ways.{Stuck, Written, by-walk, by-try}
+use Rattle.rules.proofs.stack.Inv.{Ghost, Sight, sight, Missed, Left, Shifting, Pool, versionsIn}
+use Rattle.rules.proofs.stack.After.{versions-few, window-ge, window-le, held-rows, Stepping, On, moves, known, written, inv-after, moved, inv-still, restart}
 use Rattle.rules.proofs.stack.Corridor.{Able, Unable, windowAfter, loAfter, window-after-shift, corridor-moves, knows-shifted}
 
 module _ {g : Settings} {s : State} {q : Contents} {i : ℕ} (a : Stepping g s q i) where
@@ -62,6 +56,9 @@ module _ {g : Settings} {s : State} {q : Contents} {i : ℕ} (a : Stepping g s q
       abbrev ghost : Ghost
       ghost = record { lo = loAfter g side (s .top); era = s .second }
 
+      w : Written g versionsIn s i begins t
+      w = written g (a .kind) s i begins (s .slot i) t tt refl (λ m. le-refl _)
+
       pool : Pool g t q ghost
       pool =
           let o = a .inv .pool in
@@ -78,9 +75,8 @@ module _ {g : Settings} {s : State} {q : Contents} {i : ℕ} (a : Stepping g s q
       shifts : On a (shiftedOf (viewIn s i) side (windowAfter g side (s .top)) (suc (s .mark)))
       shifts =
           rw (apply-shifted g s i side (windowAfter g side (s .top)) (suc (s .mark)))
-          (walks i (operationOf side (s .slot i .value)) refl refl (status-at a e) (status-after a t begins (s .slot i) refl tt)
-          (others g s t i _ refl (λ m. le-refl _))
-          (inv-after a t begins (s .slot i) refl tt q ghost pool
+          (by-walk w e refl refl
+          (inv-after a w ghost pool
           (λ m p h. knows-shifted g (a .good .bounds) v (a .inv .ghost) (a .inv .pool .window) side able (a .inv .pool .eras) reads left
           (subIn s m) (a .common .slots m .index) p h) tt))
 
@@ -107,10 +103,8 @@ module _ {g : Settings} {s : State} {q : Contents} {i : ℕ} (a : Stepping g s q
         let pass : Pass (g .width) (Stuck g side q) (s .second) (s .second) j scan sum =
         rw (k .scan-is) (pass-start (k .passed .summed) (omega (arith, versions-few (a .inv .pool))) (λ same. stuck side l (as-read same))) in
         rw (apply-moved g s i j (Confirm side scan sum) (s .slot i))
-        (tries i (operationOf side (s .slot i .value)) refl refl (status-at a e)
-        (status-after a (still s i confirms (s .slot i)) confirms (s .slot i) refl tt) (others-still a confirms (s .slot i))
-        (inv-still a confirms (s .slot i) tt (omega (arith, k .scan-is, a .good .bounds .width1)))
-        (snap-after a (still s i confirms (s .slot i)) confirms (s .slot i) refl tt s q pass))
+        (by-try (moved a confirms (s .slot i) tt) e refl refl
+        (inv-still a confirms (s .slot i) tt (omega (arith, k .scan-is, a .good .bounds .width1))) pass)
 
   -- ---- the rule, the same on both sides but for the tests and the new window
   shift-by : (side : Side) (version : Version) (scan sum : ℕ) → phaseIn g s i ≡ StackShift side version scan sum

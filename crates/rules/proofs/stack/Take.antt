@@ -8,10 +8,7 @@ use Rattle.laws.specs.Wrap.{add32, sub32}
 use Rattle.rules.specs.Held.{Item}
 use Rattle.rules.specs.Commit.{removedOf}
 use Rattle.rules.specs.Sequential.{Contents, passedBy}
-use Rattle.rules.specs.declared.Settings.{Settings}
-use Rattle.rules.specs.declared.Side.the-variants.{Taking}
-use Rattle.rules.specs.declared.Phase.the-variants.{StackCommit}
-use Rattle.rules.specs.declared.Version.{Version}
+use Rattle.rules.proofs.Types.{Settings, Taking, StackCommit, Version}
 use Rattle.rules.proofs.counts.Sums.{upd, upd-same, upd-other, upd-all}
 use Rattle.rules.proofs.machine.Machine.{State, next, subIn, viewIn, phaseIn, takenIn, distanceIn, applyIn, applyInBy}
 use Rattle.rules.proofs.counts.Wraps.{add32-suc, sub32-is}

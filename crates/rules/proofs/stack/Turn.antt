@@ -1,34 +1,28 @@
 -- The stack is a kind: its invariant holds of a new pool, every begin and every step keeps it, and each step is a turn of the
 -- placed order. Puts and takes are placed at their commits, "empty" and "full" at the shift step that sent them to confirm.
-use mathlib.Core.Path.{_≡_, refl, sym, subst}
-use mathlib.Core.Logic.{_≢_}
+use mathlib.Core.Path.{_≡_, refl}
 use mathlib.Core.List.{[]}
 use Prim.Native.Nat.{ℕ}
 use native.Mathlib.Nat.{le-refl}
 use native.Mathlib.Omega.{arith}
 use lib.Dec.{eqb}
 use Rattle.laws.specs.Choice.{cond, cond-false}
-use Rattle.rules.specs.Worker.{phaseOf, zeroSlot}
+use Rattle.rules.specs.Worker.{zeroSlot}
 use Rattle.rules.specs.Effects.{hopOf}
 use Rattle.rules.specs.Commit.{stackCommit}
 use Rattle.rules.specs.Step.{ruleOf, ruleBy}
 use Rattle.rules.specs.Sequential.{Contents, noItems}
-use Rattle.rules.specs.declared.Settings.{Settings}
-use Rattle.rules.specs.declared.Side.{Side}
-use Rattle.rules.specs.declared.Side.the-variants.{Putting, Taking}
-use Rattle.rules.specs.declared.Phase.{Phase}
-use Rattle.rules.specs.declared.Phase.the-variants.{Idle, Window, QueuePutRead, QueueTakeRead, StackRead, Check, QueueCommit, StackCommit, QueueShift, StackShift, Confirm}
-use Rattle.rules.specs.declared.Version.{Version}
-use Rattle.rules.specs.declared.Slot.{Slot}
-use Rattle.rules.proofs.counts.Sums.{upd-other, upd-all, sum-zero}
+use Rattle.rules.proofs.Types.{Settings, Side, Putting, Taking, Phase, Idle, Window, QueuePutRead, QueueTakeRead, StackRead, Check, QueueCommit, StackCommit, QueueShift, StackShift, Confirm, Version}
+use Rattle.rules.proofs.counts.Sums.{sum-zero}
 use Rattle.rules.proofs.order.Law.{refused}
 use Rattle.rules.proofs.machine.Machine.{State, subIn, viewIn, phaseIn, applyIn, applyInBy, madeIn}
-use Rattle.rules.proofs.machine.Phases.{idle-phase, window-phase}
+use Rattle.rules.proofs.machine.Phases.{idle-phase, worker}
 use Rattle.rules.proofs.counts.Held.{count-none}
 use Rattle.rules.proofs.machine.Good.{Good}
 use Rattle.rules.proofs.machine.Turns.{Kind, begun}
-use Rattle.rules.proofs.stack.Inv.{sight, Knows, Inv, SnapAt, Snap}
-use Rattle.rules.proofs.stack.After.{rows-held, Stepping, On, known, restart}
+use Rattle.rules.proofs.machine.Ways.{Snap, Written, each-after, others-after}
+use Rattle.rules.proofs.stack.Inv.{sight, Knows, Inv, versionsIn}
+use Rattle.rules.proofs.stack.After.{rows-held, Stepping, On, known, written, restart}
 use Rattle.rules.proofs.stack.Moves.{turn-window, turn-read, turn-check}
 use Rattle.rules.proofs.stack.Shift.{turn-shift}
 use Rattle.rules.proofs.stack.Confirm.{turn-confirm}
@@ -99,8 +93,11 @@ at-first g good kind =
     }
 
 -- ---- a begin changes nothing but its worker's slot
-begins : {g : Settings} {s : State} {q : Contents} → Inv g s q → (i : ℕ) (side : Side) (v : ℕ) → Inv g (begun s i side v) q
-begins {g} {s} {q} inv i side v =
+opens : (g : Settings) → g .kind ≡ 1 → (s : State) (i : ℕ) (side : Side) (v : ℕ) → Written g versionsIn s i (worker v (subIn s i) (Window side)) (begun s i side v)
+opens g kind s i side v = written g kind s i (worker v (subIn s i) (Window side)) zeroSlot (begun s i side v) tt refl (λ j. le-refl _)
+
+begins : {g : Settings} {s : State} {q : Contents} → g .kind ≡ 1 → Inv g s q → (i : ℕ) (side : Side) (v : ℕ) → Inv g (begun s i side v) q
+begins {g} {s} kind inv i side v =
     let o = inv .pool in
     record {
       ghost = inv .ghost;
@@ -113,25 +110,18 @@ begins {g} {s} {q} inv i side v =
         pairs = o .pairs;
         holding = record { held = o .holding .held; count = o .holding .count };
       };
-      knows = λ j.
-          upd-all (λ n (x : Slot). Knows g (sight s) (inv .ghost) (x .index) (phaseOf (g .kind) x)) (s .slot) i _ j
-          (λ e. rw (window-phase (g .kind) side v (subIn s i) zeroSlot) tt) (λ n. inv .knows j);
+      knows = each-after (opens g kind s i side v) (Knows g (sight s) (inv .ghost)) tt (inv .knows);
     }
-
-begins-kept : (g : Settings) (s : State) (i : ℕ) (side : Side) (v : ℕ) (j : ℕ) → j ≢ i
-    → (s₀ : State) (q₀ : Contents) → Snap g s₀ q₀ j s → Snap g s₀ q₀ j (begun s i side v)
-begins-kept g s i side v j n s₀ q₀ z =
-    subst (λ (x : Slot). SnapAt g (s₀ .second) q₀ (s .second) (x .index) (phaseOf (g .kind) x)) (sym (upd-other (s .slot) i _ j n)) z
 
 -- ---- the stack
 pub stackKind : (g : Settings) → Good g → g .kind ≡ 1 → Kind g
 stackKind g good kind =
     record {
       Inv = Inv g;
-      Snap = Snap g;
+      Snap = Snap g versionsIn;
       at-first = at-first g good kind;
-      begins = λ s q common inv i e side v. begins inv i side v;
-      begins-kept = begins-kept g;
+      begins = λ s q common inv i e side v. begins kind inv i side v;
+      begins-kept = λ s i side v. others-after (opens g kind s i side v) (Inv g) .kept;
       steps = λ s q common inv i l time. turn-step (record { good = good; kind = kind; common = common; inv = inv; time = time });
       counts = λ s q inv. stack-counts good kind inv;
       holding = λ s q inv. inv .pool .holding;

@@ -2,7 +2,7 @@
 use mathlib.Core.Path.{_≡_, sym, _∙_}
 use mathlib.Core.Logic.{_≢_}
 use mathlib.Core.List.{List}
-use Prim.Native.Nat.{ℕ, _+_, _-_, _≤_, _<_}
+use Prim.Native.Nat.{ℕ, _+_, _≤_, _<_}
 use native.Mathlib.Decide.{ℕ-discrete}
 use native.Mathlib.Omega.{arith}
 use lib.ListN.{length, getD}
@@ -11,8 +11,7 @@ use Rattle.rules.specs.Limits.{Bounds}
 use Rattle.rules.specs.Layout.{subAt, workerAt, cellsAt, cellAt, settingsOf}
 use Rattle.rules.specs.Held.{Item, itemAt, rowsBelow}
 use Rattle.rules.specs.Apply.{putItem, stampOf}
-use Rattle.rules.specs.declared.Settings.{Settings}
-use Rattle.rules.specs.declared.Effect.{Effect}
+use Rattle.rules.proofs.Types.{Settings, Effect}
 use Rattle.rules.proofs.Cells.{rows-pos, cell-lt}
 use Rattle.rules.proofs.counts.Sums.{upd, upd-same, upd-other}
 use Rattle.rules.proofs.counts.Stamps.{item-new, item-old}

@@ -17,7 +17,7 @@ use Rattle.rules.specs.Layout.{workersAt, workerAt, needed}
 use Rattle.rules.specs.Limits.{settingsFit}
 use Rattle.rules.specs.Worker.{slotAt}
 use Rattle.rules.specs.Make.{zeroed, newHead, indexed, madeWords, makeOf}
-use Rattle.rules.specs.declared.Settings.{Settings}
+use Rattle.rules.proofs.Types.{Settings}
 use Rattle.rules.specs.declared.Answer.the-variants.{Moving}
 use Rattle.rules.proofs.machine.Machine.{madeIn}
 use Rattle.rules.proofs.words.Lists.{sets-out, sets-in}

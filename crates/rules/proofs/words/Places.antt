@@ -13,8 +13,7 @@ use Rattle.laws.specs.Wrap.{sub32}
 use Rattle.rules.specs.Layout.{cellAt}
 use Rattle.rules.specs.Held.{itemAt}
 use Rattle.rules.specs.Apply.{putItem}
-use Rattle.rules.specs.declared.Settings.{Settings}
-use Rattle.rules.specs.declared.Row.{Row}
+use Rattle.rules.proofs.Types.{Settings, Row}
 use Rattle.rules.specs.declared.Stamp.{Stamp}
 use Rattle.rules.proofs.counts.Wraps.{sub32-is}
 

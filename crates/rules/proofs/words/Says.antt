@@ -11,7 +11,7 @@ use lib.ListN.{length, getD}
 use Rattle.rules.specs.Layout.{stepsAt, putsAt, topAt, markAt, needed, settingsOf, firstOf, secondOf, workerAt}
 use Rattle.rules.specs.Worker.{slotAt}
 use Rattle.rules.specs.Held.{Item, itemAt, itemsAbove, heldSub, heldBelow, heldItems, countItems, passedOver, distanceOf}
-use Rattle.rules.specs.declared.Settings.{Settings}
+use Rattle.rules.proofs.Types.{Settings}
 use Rattle.rules.proofs.counts.Sums.{sumN, sum-none, sum-more, upTo, upTo-suc, bit}
 use Rattle.rules.proofs.machine.Machine.{State, belowIn, countIn, distanceIn}
 use Rattle.rules.proofs.Cells.{count-append}

@@ -3,7 +3,7 @@
 use mathlib.Core.Path.{_≡_, _∙_}
 use mathlib.Core.Logic.{_≢_, _⊎_, inl}
 use mathlib.Core.List.{List}
-use Prim.Native.Nat.{ℕ, _+_, _-_, _≤_, _<_}
+use Prim.Native.Nat.{ℕ, _+_, _≤_, _<_}
 use native.Mathlib.Omega.{arith}
 use lib.ListN.{length, getD, set, length-set}
 use lib.Seq.{getD-set-same, getD-set-other, length-sets}
@@ -11,8 +11,7 @@ use Rattle.laws.specs.Wrap.{add32}
 use Rattle.rules.specs.Layout.{stepsAt, putsAt, topAt, markAt, subAt}
 use Rattle.rules.specs.Worker.{slotAt, putSlot, wordsOf}
 use Rattle.rules.specs.Apply.{putView}
-use Rattle.rules.specs.declared.Slot.{Slot}
-use Rattle.rules.specs.declared.Effect.{Effect}
+use Rattle.rules.proofs.Types.{Slot, Effect}
 use Rattle.rules.proofs.words.Lists.{sets-out, sets-in}
 
 -- ---- a worker's eight words
