@@ -1,0 +1,87 @@
+-- Choice by a test, and tests that hold together: all of a list, all below a bound.
+use Prim.Native.Nat.{ℕ, zero, suc, _+_, _<_, _≤_}
+use mathlib.Core.Bool.{Bool, true, false, false≢true}
+use mathlib.Core.List.{List, [], _∷_}
+use mathlib.Core.Path.{_≡_, refl}
+use mathlib.Core.Logic.{_⊎_, ⊎-elim}
+use native.Mathlib.Nat.{eq-or-lt-of-le}
+use native.Mathlib.Numerals.{add-one}
+use native.Mathlib.Omega.{arith}
+
+-- `a` where the test holds, else `b`
+unfoldable pub cond : {A : Type 0} → Bool → A → A → A
+cond true a b = a
+cond false a b = b
+
+pub cond-true : {A : Type 0} (a b : A) → cond true a b ≡ a
+unfolding cond
+cond-true a b = refl
+
+pub cond-false : {A : Type 0} (a b : A) → cond false a b ≡ b
+unfolding cond
+cond-false a b = refl
+
+-- a choice by its two cases
+pub cases : {A : Type 0} (P : A → Type 0) (b : Bool) (x y : A) → (b ≡ true → P x) → (b ≡ false → P y) → P (cond b x y)
+unfolding cond
+cases P true x y f g = f refl
+cases P false x y f g = g refl
+
+-- both tests hold
+abbrev pub both : Bool → Bool → Bool
+both true b = b
+both false b = false
+
+-- the test holds at each number below the bound
+unfoldable pub allBelow : ℕ → (ℕ → Bool) → Bool
+allBelow zero p = true
+allBelow (suc n) p = both (allBelow n p) (p n)
+
+-- every test of a list holds
+abbrev pub all : List Bool → Bool
+all [] = true
+all (b ∷ bs) = both b (all bs)
+
+abbrev pub Holds : List Bool → Type 0
+Holds [] = Unit
+Holds (b ∷ bs) = (b ≡ true) × Holds bs
+
+-- ---- laws
+both-false : (b : Bool) → both b false ≡ false
+both-false true = refl
+both-false false = refl
+
+pub both-true : (a b : Bool) → both a b ≡ true → (a ≡ true) × (b ≡ true)
+both-true true b e = (refl, e)
+both-true false b e = absurd (false≢true e)
+
+pub all-holds : (bs : List Bool) → all bs ≡ true → Holds bs
+all-holds [] e = tt
+all-holds (b ∷ bs) e = let t = both-true b (all bs) e in (t .0, all-holds bs (t .1))
+
+pub allBelow-none : (p : ℕ → Bool) → allBelow 0 p ≡ true
+unfolding allBelow
+allBelow-none p = refl
+
+-- one number more, at which the test holds
+pub allBelow-more : (i : ℕ) (p : ℕ → Bool) → allBelow i p ≡ true → p i ≡ true → allBelow (i + 1) p ≡ true
+unfolding allBelow
+allBelow-more i p h e = rw (add-one, h) e
+
+-- one number below the bound at which the test fails
+pub allBelow-fails : (n : ℕ) (p : ℕ → Bool) (i : ℕ) → i < n → p i ≡ false → allBelow n p ≡ false
+unfolding allBelow
+allBelow-fails zero p i h e = absurd (omega arith)
+allBelow-fails (suc n) p i h e =
+    ⊎-elim
+    (λ (q : i ≡ n). rw (← q, e) (both-false (allBelow i p)))
+    (λ (l : i < n). rw (allBelow-fails n p i l e))
+    (eq-or-lt-of-le (omega arith))
+
+-- the test at a number below the bound
+pub allBelow-at : (n : ℕ) (p : ℕ → Bool) (i : ℕ) → i < n → allBelow n p ≡ true → p i ≡ true
+unfolding allBelow
+allBelow-at zero p i h e = absurd (omega arith)
+allBelow-at (suc n) p i h e =
+    let t = both-true (allBelow n p) (p n) e in
+    ⊎-elim (λ (q : i ≡ n). rw q (t .1)) (λ (l : i < n). allBelow-at n p i l (t .0)) (eq-or-lt-of-le (omega arith))

@@ -1,0 +1,60 @@
+-- What an effect does to the words, and what it answers. A step not refused adds 1 to the step count.
+use Prim.Native.Nat.{ℕ, _+_}
+use mathlib.Core.List.{List}
+use lib.ListN.{getD, set}
+use Rattle.laws.specs.Wrap.{add32}
+use Rattle.rules.specs.Answers.{Out, out, refuse}
+use Rattle.rules.specs.Layout.{stepsAt, putsAt, topAt, markAt, subAt, cellAt}
+use Rattle.rules.specs.Worker.{putSlot}
+use Rattle.rules.specs.Held.{Item, itemAt, distanceOf}
+use Rattle.rules.specs.declared.Settings.{Settings}
+use Rattle.rules.specs.declared.Row.{Row}
+use Rattle.rules.specs.declared.Stamp.{Stamp}
+use Rattle.rules.specs.declared.Effect.{Effect}
+use Rattle.rules.specs.declared.Outcome.{Outcome}
+use Rattle.rules.specs.declared.Outcome.the-variants.{Refused as Stays, Moving as Moves, Landed, Removed, Empty as NoItem, Full as NoRoom}
+use Rattle.rules.specs.declared.Answer.{Answer}
+use Rattle.rules.specs.declared.Answer.the-variants.{Moving, Put, Taken, Empty, Full}
+
+-- an item in the cell of its row
+unfoldable pub putItem : List ℕ → Settings → ℕ → ℕ → Row → Stamp → List ℕ
+putItem ws g j value row stamp = set (set ws (cellAt g j (row .0)) value) (cellAt g j (row .0) + 1) (stamp .0)
+
+-- all that the step read of the worker at `at` and of sub j, as it is afterwards, and the step counted
+unfoldable pub putView : List ℕ → ℕ → ℕ → Effect → List ℕ
+putView ws at j e =
+    putSlot
+    (set
+    (set
+    (set
+    (set
+    (set
+    (set ws stepsAt (add32 (getD ws stepsAt 0) 1))
+    putsAt (e .puts))
+    topAt (e .top))
+    markAt (e .mark))
+    (subAt j) (e .first))
+    (subAt j + 1) (e .second))
+    at (e .slot)
+
+abbrev pub stampOf : Effect → Stamp
+stampOf e = record { 0 = e .puts }
+
+-- 2: the row's item, and the distance just before
+unfoldable pub takenOf : List ℕ → Settings → ℕ → Row → Answer
+takenOf ws g j row =
+    Taken (itemAt ws g j (row .0) .value) j row (record { 0 = itemAt ws g j (row .0) .stamp })
+    (distanceOf ws g (itemAt ws g j (row .0) .stamp))
+
+unfoldable pub applyBy : List ℕ → Settings → ℕ → ℕ → Effect → Outcome → Out
+applyBy ws g at j e (Stays n) = refuse n ws
+applyBy ws g at j e Moves = out Moving (putView ws at j e)
+applyBy ws g at j e Landed =
+    out (Put (e .value) j (e .row) (stampOf e)) (putView (putItem ws g j (e .value) (e .row) (stampOf e)) at j e)
+applyBy ws g at j e Removed = out (takenOf ws g j (e .row)) (putView ws at j e)
+applyBy ws g at j e NoItem = out Empty (putView ws at j e)
+applyBy ws g at j e NoRoom = out Full (putView ws at j e)
+
+-- an effect of the worker whose words start at `at` and whose sub is j
+unfoldable pub applyOf : List ℕ → Settings → ℕ → ℕ → Effect → Out
+applyOf ws g at j e = applyBy ws g at j e (e .outcome)

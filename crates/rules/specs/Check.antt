@@ -1,0 +1,15 @@
+-- "Check" (stack): if the window's version equals extra, commit; else restart.
+use lib.Dec.{eqb}
+use Rattle.laws.specs.Choice.{cond}
+use Rattle.rules.specs.Effects.{movedOf, restartOf, windowVersion}
+use Rattle.rules.specs.declared.Side.{Side}
+use Rattle.rules.specs.declared.Phase.the-variants.{StackCommit}
+use Rattle.rules.specs.declared.Version.{Version}
+use Rattle.rules.specs.declared.View.{View}
+use Rattle.rules.specs.declared.Effect.{Effect}
+
+unfoldable pub checkRule : View → Side → Version → Version → Effect
+checkRule v side version seen =
+    cond (eqb (windowVersion v) (version .0))
+    (movedOf v (v .slot .index) (StackCommit side seen) (v .slot))
+    (restartOf v (v .slot .index) side)

@@ -1,0 +1,102 @@
+-- "One step": what a worker reads, and the ways in which a step can end. No rule knows a word's place.
+use Prim.Native.Nat.{ℕ, _+_, _%_}
+use mathlib.Core.List.{List}
+use lib.ListN.{getD}
+use lib.Dec.{ltb}
+use Rattle.laws.specs.Choice.{cond}
+use Rattle.laws.specs.Wrap.{add32}
+use Rattle.rules.specs.Layout.{putsAt, topAt, markAt, firstOf, secondOf}
+use Rattle.rules.specs.Worker.{slotAt, encode, fresh}
+use Rattle.rules.specs.declared.Settings.{Settings}
+use Rattle.rules.specs.declared.Side.{Side}
+use Rattle.rules.specs.declared.Side.the-variants.{Putting, Taking}
+use Rattle.rules.specs.declared.Phase.{Phase}
+use Rattle.rules.specs.declared.Phase.the-variants.{Idle, Window}
+use Rattle.rules.specs.declared.Slot.{Slot}
+use Rattle.rules.specs.declared.View.{View}
+use Rattle.rules.specs.declared.Effect.{Effect}
+use Rattle.rules.specs.declared.Outcome.{Outcome}
+use Rattle.rules.specs.declared.Outcome.the-variants.{Refused, Moving, Landed, Removed, Empty, Full}
+
+-- what the worker whose words start at `at` reads
+unfoldable pub viewOf : List ℕ → ℕ → View
+viewOf ws at =
+    record {
+      top = getD ws topAt 0; mark = getD ws markAt 0; puts = getD ws putsAt 0;
+      first = firstOf ws (getD ws (at + 2) 0); second = secondOf ws (getD ws (at + 2) 0);
+      slot = slotAt ws at
+    }
+
+-- ---- the words of a view, by their names in the paper
+-- P
+abbrev pub putWindow : View → ℕ
+putWindow v = v .top
+
+-- T
+abbrev pub takeWindow : View → ℕ
+takeWindow v = v .mark
+
+-- G
+abbrev pub stackWindow : View → ℕ
+stackWindow v = v .top
+
+abbrev pub windowVersion : View → ℕ
+windowVersion v = v .mark
+
+abbrev pub itemsPut : View → ℕ
+itemsPut v = v .first
+
+abbrev pub itemsTaken : View → ℕ
+itemsTaken v = v .second
+
+abbrev pub itemsHeld : View → ℕ
+itemsHeld v = v .first
+
+abbrev pub subVersion : View → ℕ
+subVersion v = v .second
+
+-- ---- indices
+-- "Next" is index + 1 mod w
+unfoldable pub nextOf : Settings → ℕ → ℕ
+nextOf g x = (x + 1) % g .width
+
+-- where a worker goes that lost a commit
+abbrev pub hopOf : Settings → ℕ → ℕ
+hopOf g x = nextOf g x
+
+-- ---- how a step ends
+-- all that is shared stays
+abbrev pub keepOf : View → Outcome → Slot → Effect
+keepOf v outcome slot =
+    record {
+      outcome = outcome; slot = slot; top = v .top; mark = v .mark; puts = v .puts; first = v .first; second = v .second;
+      row = record { 0 = 0 }; value = 0
+    }
+
+abbrev pub refusedOf : View → ℕ → Effect
+refusedOf v n = keepOf v (Refused n) (v .slot)
+
+-- the worker at an index in a phase; its words that the phase does not hold are as in `kept`
+abbrev pub movedOf : View → ℕ → Phase → Slot → Effect
+movedOf v index phase kept = keepOf v Moving (encode (record { value = v .slot .value; index = index; phase = phase }) kept)
+
+-- "Restart" is the window phase, the worker's other words kept
+abbrev pub restartOf : View → ℕ → Side → Effect
+restartOf v index side = movedOf v index (Window side) (v .slot)
+
+-- a final answer: the worker is idle, all its words zero but the index
+abbrev pub finishedOf : View → Outcome → ℕ → Effect
+finishedOf v outcome index = keepOf v outcome (fresh 0 index Idle)
+
+-- the answer of a pass that found no place: 4 for a put, 3 for a take
+abbrev pub nothingFor : Side → Outcome
+nothingFor Putting = Full
+nothingFor Taking = Empty
+
+-- the worker's words with another extra, scan and sum
+abbrev pub withPass : Slot → ℕ → ℕ → ℕ → Slot
+withPass o extra scan sum =
+    record {
+      number = o .number; value = o .value; index = o .index; window = o .window; extra = extra; scan = scan; seen = o .seen;
+      sum = sum
+    }

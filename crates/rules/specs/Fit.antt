@@ -1,0 +1,64 @@
+-- "Fit", and the order of the refusals before it.
+use Prim.Native.Nat.{ℕ, _+_, _*_, _-_, _<_, _≤_}
+use mathlib.Core.Path.{_≡_}
+use mathlib.Core.List.{List}
+use mathlib.Core.Bool.{Bool, true, false}
+use lib.ListN.{getD, length}
+use lib.Dec.{ltb, leb, eqb}
+use Rattle.laws.specs.Choice.{cond, both, allBelow}
+use Rattle.rules.specs.Layout.{headWords, workerWords, workersAt, workerAt, needed, settingsOf, firstOf, secondOf}
+use Rattle.rules.specs.Limits.{settingsFit, Bounds}
+use Rattle.rules.specs.declared.Settings.{Settings}
+use Rattle.rules.specs.declared.Checked.{Checked}
+use Rattle.rules.specs.declared.Checked.the-variants.{Unfit, Fit}
+
+-- settings within limits, words 10 and 11 zero
+unfoldable pub headFit : List ℕ → Bool
+headFit ws = both (settingsFit (settingsOf ws)) (both (eqb (getD ws 10 0) 0) (eqb (getD ws 11 0) 0))
+
+-- items taken at most items put, and put minus taken at most R; or held at most R
+unfoldable pub subFit : Settings → ℕ → ℕ → Bool
+subFit g first second = cond (eqb (g .kind) 0) (both (leb second first) (leb (first - second) (g .rows))) (leb first (g .rows))
+
+unfoldable pub subsFit : List ℕ → Settings → Bool
+subsFit ws g = allBelow (g .width) (λ j. subFit g (firstOf ws j) (secondOf ws j))
+
+-- a phase of the pool's kind: 0 to 6 and 9 to 14, and in a queue neither 3, 6 nor 11
+unfoldable pub phaseFit : ℕ → ℕ → Bool
+phaseFit kind x =
+    cond (ltb 14 x) false
+    (cond (eqb x 7) false
+    (cond (eqb x 8) false
+    (cond (eqb kind 0) (cond (eqb x 3) false (cond (eqb x 6) false (cond (eqb x 11) false true))) true)))
+
+-- word k of a worker's: a phase, an index below w, a scan below w; the others are free
+unfoldable pub wordFit : Settings → ℕ → ℕ → Bool
+wordFit g k x = cond (eqb k 0) (phaseFit (g .kind) x) (cond (eqb k 2) (ltb x (g .width)) (cond (eqb k 5) (ltb x (g .width)) true))
+
+unfoldable pub workersFit : List ℕ → Settings → Bool
+workersFit ws g = allBelow (g .workers) (λ i. allBelow workerWords (λ k. wordFit g k (getD ws (workerAt g i + k) 0)))
+
+-- 21 for the needed words, then the rest of fit for 23
+unfoldable pub bodyChecked : List ℕ → Settings → Checked
+bodyChecked ws g =
+    cond (ltb (length ws) (needed g)) (Unfit 21)
+    (cond (subsFit ws g) (cond (workersFit ws g) (Fit g) (Unfit 23)) (Unfit 23))
+
+-- 21 for 12 words, 23 for the settings and words 10, 11, then the above
+unfoldable pub checkedOf : List ℕ → Checked
+checkedOf ws = cond (ltb (length ws) headWords) (Unfit 21) (cond (headFit ws) (bodyChecked ws (settingsOf ws)) (Unfit 23))
+
+-- what a sub that fits has
+pub record SubFits (g : Settings) (first second : ℕ) : Type 0 where
+  pub queue-order : g .kind ≡ 0 → second ≤ first
+  pub queue-rows : g .kind ≡ 0 → first ≤ second + g .rows
+  pub stack-rows : 1 ≤ g .kind → first ≤ g .rows
+
+-- what a fit pool has
+pub record FitPool (g : Settings) (ws : List ℕ) : Type 0 where
+  pub bounds : Bounds g
+  pub enough : needed g ≤ length ws
+  pub settings : settingsOf ws ≡ g
+  pub sub : (j : ℕ) → j < g .width → SubFits g (firstOf ws j) (secondOf ws j)
+  pub index : (i : ℕ) → i < g .workers → getD ws (workerAt g i + 2) 0 < g .width
+  pub scan : (i : ℕ) → i < g .workers → getD ws (workerAt g i + 5) 0 < g .width

@@ -1,0 +1,52 @@
+-- "Distance": held items of all subs with a smaller stamp (queue) or a greater one (stack) just before the take.
+use Prim.Native.Nat.{ℕ, zero, suc, _+_, _-_}
+use mathlib.Core.List.{List, [], _∷_, _++_}
+use mathlib.Core.Bool.{Bool}
+use lib.ListN.{getD}
+use lib.Dec.{ltb, eqb}
+use Rattle.laws.specs.Choice.{cond}
+use Rattle.rules.specs.Layout.{cellAt, firstOf, secondOf}
+use Rattle.rules.specs.declared.Settings.{Settings}
+
+pub record Item : Type 0 where
+  pub value : ℕ
+  pub stamp : ℕ
+
+-- the item in the cell of a row
+abbrev pub itemAt : List ℕ → Settings → ℕ → ℕ → Item
+itemAt ws g j row = record { value = getD ws (cellAt g j row) 0; stamp = getD ws (cellAt g j row + 1) 0 }
+
+-- a sub's held rows are the `rowsHeld` ones above `rowsBelow`: in a queue those above the taken ones, in a stack all
+abbrev pub rowsBelow : Settings → ℕ → ℕ
+rowsBelow g second = cond (eqb (g .kind) 0) second 0
+
+abbrev pub rowsHeld : Settings → ℕ → ℕ → ℕ
+rowsHeld g first second = first - rowsBelow g second
+
+-- the items of the k rows of sub j above row t
+unfoldable pub itemsAbove : List ℕ → Settings → ℕ → ℕ → ℕ → List Item
+itemsAbove ws g j t zero = []
+itemsAbove ws g j t (suc k) = itemsAbove ws g j t k ++ (itemAt ws g j (t + k + 1) ∷ [])
+
+unfoldable pub heldSub : List ℕ → Settings → ℕ → List Item
+heldSub ws g j = itemsAbove ws g j (rowsBelow g (secondOf ws j)) (rowsHeld g (firstOf ws j) (secondOf ws j))
+
+-- the items held in the subs below m
+unfoldable pub heldBelow : List ℕ → Settings → ℕ → List Item
+heldBelow ws g zero = []
+heldBelow ws g (suc j) = heldBelow ws g j ++ heldSub ws g j
+
+abbrev pub heldItems : List ℕ → Settings → List Item
+heldItems ws g = heldBelow ws g (g .width)
+
+-- how many items of a list pass a test
+unfoldable pub countItems : (Item → Bool) → List Item → ℕ
+countItems p [] = 0
+countItems p (x ∷ xs) = cond (p x) 1 0 + countItems p xs
+
+-- an item that a take of stamp s passes over: older in a queue, newer in a stack
+abbrev pub passedOver : ℕ → ℕ → Item → Bool
+passedOver kind s x = cond (eqb kind 0) (ltb (x .stamp) s) (ltb s (x .stamp))
+
+unfoldable pub distanceOf : List ℕ → Settings → ℕ → ℕ
+distanceOf ws g s = countItems (passedOver (g .kind) s) (heldItems ws g)

@@ -1,0 +1,167 @@
+// The declared types of the pool. The rules over them are in specs/, in paper 01's order.
+
+// A row of a sub, from 1.
+pub struct Row(pub u32);
+
+// The number of a put, from 1.
+pub struct Stamp(pub u32);
+
+// How often a stack's window, or a sub of it, has changed.
+pub struct Version(pub u32);
+
+// A pool's settings, words 0 to 5. Kind 0 is a queue (paper 01's line), 1 a stack (its pile).
+pub struct Settings {
+    pub kind: u32,
+    pub width: u32,
+    pub depth: u32,
+    pub shift: u32,
+    pub rows: u32,
+    pub workers: u32,
+}
+
+// What an operation was begun as.
+pub enum Side {
+    Putting,
+    Taking,
+}
+
+// A worker's phase, with just what that phase has seen.
+pub enum Phase {
+    Idle,
+    Window(Side),
+    // The put window; the subs missed.
+    QueuePutRead {
+        window: u32,
+        scan: u32,
+    },
+    // The take window; the bare subs among those missed; the subs missed; the put counts read.
+    QueueTakeRead {
+        window: u32,
+        bare: u32,
+        scan: u32,
+        sum: u32,
+    },
+    // The window and its version; the subs missed; the versions read.
+    StackRead {
+        side: Side,
+        window: u32,
+        version: Version,
+        scan: u32,
+        sum: u32,
+    },
+    // The window's version, and the sub's.
+    Check {
+        side: Side,
+        version: Version,
+        seen: Version,
+    },
+    // The count of items put, or taken.
+    QueueCommit {
+        side: Side,
+        seen: u32,
+    },
+    // The sub's version.
+    StackCommit {
+        side: Side,
+        seen: Version,
+    },
+    QueueShift {
+        side: Side,
+        window: u32,
+    },
+    // The window's version; the pass that a confirm goes on with.
+    StackShift {
+        side: Side,
+        version: Version,
+        scan: u32,
+        sum: u32,
+    },
+    // The subs confirmed; what is left of the sum.
+    Confirm {
+        side: Side,
+        scan: u32,
+        sum: u32,
+    },
+}
+
+// A worker.
+pub struct Worker {
+    pub value: u32,
+    pub index: u32,
+    pub phase: Phase,
+}
+
+// A worker's eight words as they lie; `number` is the phase's.
+pub struct Slot {
+    pub number: u32,
+    pub value: u32,
+    pub index: u32,
+    pub window: u32,
+    pub extra: u32,
+    pub scan: u32,
+    pub seen: u32,
+    pub sum: u32,
+}
+
+// What a step may read. `top` is word 8, a queue's put window or a stack's window; `mark` is word 9, a queue's take
+// window or the version of a stack's window. `first` and `second` are the two words of the sub at the worker's index:
+// items put and items taken, or items held and version.
+pub struct View {
+    pub top: u32,
+    pub mark: u32,
+    pub puts: u32,
+    pub first: u32,
+    pub second: u32,
+    pub slot: Slot,
+}
+
+// How a step ends.
+pub enum Outcome {
+    Refused(u32),
+    Moving,
+    Landed,
+    Removed,
+    Empty,
+    Full,
+}
+
+// What a step does: all that it read, as it is afterwards. Where an item lands or is removed, `row` is its row; where
+// it lands, `value` is its value and `puts` its stamp.
+pub struct Effect {
+    pub outcome: Outcome,
+    pub slot: Slot,
+    pub top: u32,
+    pub mark: u32,
+    pub puts: u32,
+    pub first: u32,
+    pub second: u32,
+    pub row: Row,
+    pub value: u32,
+}
+
+// What a call answers. `Moving` is paper 01's 0: moving, made or begun.
+pub enum Answer {
+    Moving,
+    Put {
+        value: u32,
+        sub: u32,
+        row: Row,
+        stamp: Stamp,
+    },
+    Taken {
+        value: u32,
+        sub: u32,
+        row: Row,
+        stamp: Stamp,
+        distance: u32,
+    },
+    Empty,
+    Full,
+    Refused(u32),
+}
+
+// A pool's settings where it is fit, or the refusal's number.
+pub enum Checked {
+    Unfit(u32),
+    Fit(Settings),
+}
