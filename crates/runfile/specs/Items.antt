@@ -2,7 +2,6 @@
 use Prim.Native.Nat.{ℕ, _/_, _%_, _^_}
 use lib.Dec.{eqb}
 use Rattle.laws.specs.Choice.{cond}
-use Rattle.rules.specs.declared.Settings.{Settings}
 use Rattle.runfile.specs.declared.item.Opening.{Opening}
 use Rattle.runfile.specs.declared.item.Place.{Place}
 use Rattle.runfile.specs.declared.item.Place.the-variants.{First, Second, Later, Past}

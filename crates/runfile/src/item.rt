@@ -49,9 +49,9 @@ pub enum Place {
 pub enum Item {
     Open(Opening),
     Make(Settings),
-    BeginPut { worker: u32, value: u32 },
-    BeginTake { worker: u32 },
-    Step { worker: u32 },
+    BeginPut { worker: u8, value: u32 },
+    BeginTake { worker: u8 },
+    Step { worker: u8 },
     End,
     Bad,
 }
@@ -99,7 +99,7 @@ fn later(word: u32) -> Item
     ensures { λ r. ⌜ r ≡ laterOf word ⌝ }
 {
     let kind = word / BIT_28;
-    let worker = word / BIT_22 % BIT_6;
+    let worker = (word / BIT_22 % BIT_6) as u8;
     let value = word % BIT_22;
     if kind == 3 {
         return Item::BeginPut { worker, value };

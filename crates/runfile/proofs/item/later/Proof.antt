@@ -1,10 +1,14 @@
 -- `runfile::item::later` meets its contract: the tests of the definition are those of the branches, and bits from 0 need no division. Assumes nothing.
+use borrow.Author.Needs.{needs}
 use native.Mathlib.Nat.{div-one}
 use Rattle.laws.specs.Choice.{cond}
 use Rattle.laws.specs.Tests.{tests}
 use Rattle.runfile.specs.Items.{laterOf}
 use Rattle.runfile.proofs.item.later.Statement.{statement}
 use Rattle.runfile.proofs.item.later.Tie as tie
+
+cast-worker : tie.Need-cast-worker
+cast-worker c = search needs
 
 returns : tie.Need-returns
 unfolding laterOf cond
@@ -41,4 +45,4 @@ returns-8 c = search (tests, div-one)
 pub later-spec : {M : Type 1} → statement M
 later-spec =
     tie.close
-    (tie.spec returns returns-2 returns-3 returns-4 returns-5 returns-6 returns-7 returns-8)
+    (tie.spec cast-worker returns returns-2 returns-3 returns-4 returns-5 returns-6 returns-7 returns-8)

@@ -1,0 +1,2 @@
+// The listing of a run file.
+pub mod line;
