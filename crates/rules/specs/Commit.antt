@@ -21,16 +21,30 @@ use Rattle.rules.specs.declared.Outcome.the-variants.{Landed, Removed}
 abbrev pub landedOf : View → ℕ → ℕ → ℕ → Effect
 landedOf v first second row =
     record {
-      outcome = Landed; slot = fresh 0 (v .slot .index) Idle; top = v .top; mark = v .mark; puts = add32 (v .puts) 1; first = first;
-      second = second; row = record { 0 = row }; value = v .slot .value
+      outcome = Landed;
+      slot = fresh 0 (v .slot .index) Idle;
+      top = v .top;
+      mark = v .mark;
+      puts = add32 (v .puts) 1;
+      first = first;
+      second = second;
+      row = record { 0 = row };
+      value = v .slot .value;
     }
 
 -- the item of a row is taken
 abbrev pub removedOf : View → ℕ → ℕ → ℕ → Effect
 removedOf v first second row =
     record {
-      outcome = Removed; slot = fresh 0 (v .slot .index) Idle; top = v .top; mark = v .mark; puts = v .puts; first = first;
-      second = second; row = record { 0 = row }; value = 0
+      outcome = Removed;
+      slot = fresh 0 (v .slot .index) Idle;
+      top = v .top;
+      mark = v .mark;
+      puts = v .puts;
+      first = first;
+      second = second;
+      row = record { 0 = row };
+      value = 0;
     }
 
 -- what a commit does that matches, if it is able to; a lost one hops

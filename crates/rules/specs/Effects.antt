@@ -22,9 +22,12 @@ use Rattle.rules.specs.declared.Outcome.the-variants.{Refused, Moving, L
 unfoldable pub viewOf : List ℕ → ℕ → View
 viewOf ws at =
     record {
-      top = getD ws topAt 0; mark = getD ws markAt 0; puts = getD ws putsAt 0;
-      first = firstOf ws (getD ws (at + 2) 0); second = secondOf ws (getD ws (at + 2) 0);
-      slot = slotAt ws at
+      top = getD ws topAt 0;
+      mark = getD ws markAt 0;
+      puts = getD ws putsAt 0;
+      first = firstOf ws (getD ws (at + 2) 0);
+      second = secondOf ws (getD ws (at + 2) 0);
+      slot = slotAt ws at;
     }
 
 -- ---- the words of a view, by their names in the paper
@@ -69,8 +72,15 @@ hopOf g x = nextOf g x
 abbrev pub keepOf : View → Outcome → Slot → Effect
 keepOf v outcome slot =
     record {
-      outcome = outcome; slot = slot; top = v .top; mark = v .mark; puts = v .puts; first = v .first; second = v .second;
-      row = record { 0 = 0 }; value = 0
+      outcome = outcome;
+      slot = slot;
+      top = v .top;
+      mark = v .mark;
+      puts = v .puts;
+      first = v .first;
+      second = v .second;
+      row = record { 0 = 0 };
+      value = 0;
     }
 
 abbrev pub refusedOf : View → ℕ → Effect
@@ -97,6 +107,12 @@ nothingFor Taking = Empty
 abbrev pub withPass : Slot → ℕ → ℕ → ℕ → Slot
 withPass o extra scan sum =
     record {
-      number = o .number; value = o .value; index = o .index; window = o .window; extra = extra; scan = scan; seen = o .seen;
-      sum = sum
+      number = o .number;
+      value = o .value;
+      index = o .index;
+      window = o .window;
+      extra = extra;
+      scan = scan;
+      seen = o .seen;
+      sum = sum;
     }

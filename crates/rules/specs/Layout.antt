@@ -48,7 +48,12 @@ needed g = cellsAt g + 2 * (g .width * g .rows)
 abbrev pub settingsOf : List ℕ → Settings
 settingsOf ws =
     record {
-      kind = getD ws 0 0; width = getD ws 1 0; depth = getD ws 2 0; shift = getD ws 3 0; rows = getD ws 4 0; workers = getD ws 5 0
+      kind = getD ws 0 0;
+      width = getD ws 1 0;
+      depth = getD ws 2 0;
+      shift = getD ws 3 0;
+      rows = getD ws 4 0;
+      workers = getD ws 5 0;
     }
 
 abbrev pub firstOf : List ℕ → ℕ → ℕ

@@ -3,25 +3,25 @@ use Prim.Native.Nat.{ℕ, _*_, _%_, _≤_}
 use mathlib.Core.List.{List, [], _∷_}
 use mathlib.Core.Bool.{Bool, true}
 use lib.Dec.{leb, eqb}
-use Rattle.laws.specs.Choice.{cond, all}
+use Rattle.laws.specs.Choice.{cond, both, all}
 use Rattle.rules.specs.declared.Settings.{Settings}
-
--- a test that a queue alone has to meet
-abbrev pub ofQueue : Settings → Bool → Bool
-ofQueue g b = cond (eqb (g .kind) 0) b true
 
 abbrev pub limits : Settings → List Bool
 limits g =
     leb (g .kind) 1 ∷
     leb 1 (g .width) ∷ leb (g .width) 16 ∷
     leb 1 (g .depth) ∷ leb (g .depth) 64 ∷
-    leb 1 (g .shift) ∷ leb (g .shift) (g .depth) ∷ ofQueue g (eqb (g .shift) (g .depth)) ∷
-    leb (2 * g .depth) (g .rows) ∷ leb (g .rows) 1024 ∷ ofQueue g (eqb (g .rows % g .depth) 0) ∷
+    leb 1 (g .shift) ∷ leb (g .shift) (g .depth) ∷
+    leb (2 * g .depth) (g .rows) ∷ leb (g .rows) 1024 ∷
     leb 1 (g .workers) ∷ leb (g .workers) 32 ∷
     leb (g .width * g .rows) 4096 ∷ []
 
+-- a queue has s = d, and R is a multiple of d
+abbrev pub queueLimits : Settings → List Bool
+queueLimits g = eqb (g .shift) (g .depth) ∷ eqb (g .rows % g .depth) 0 ∷ []
+
 unfoldable pub settingsFit : Settings → Bool
-settingsFit g = all (limits g)
+settingsFit g = both (all (limits g)) (cond (eqb (g .kind) 0) (all (queueLimits g)) true)
 
 -- the bounds that settings within limits have
 pub record Bounds (g : Settings) : Type 0 where

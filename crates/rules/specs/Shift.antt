@@ -20,8 +20,15 @@ use Rattle.rules.specs.declared.Outcome.the-variants.{Moving}
 abbrev pub shiftedOf : View → Side → ℕ → ℕ → Effect
 shiftedOf v side top mark =
     record {
-      outcome = Moving; slot = encode (record { value = v .slot .value; index = v .slot .index; phase = Window side }) (v .slot);
-      top = top; mark = mark; puts = v .puts; first = v .first; second = v .second; row = record { 0 = 0 }; value = 0
+      outcome = Moving;
+      slot = encode (record { value = v .slot .value; index = v .slot .index; phase = Window side }) (v .slot);
+      top = top;
+      mark = mark;
+      puts = v .puts;
+      first = v .first;
+      second = v .second;
+      row = record { 0 = 0 };
+      value = 0;
     }
 
 -- a window that is the seen one moves where it can, with what stands for a window that cannot

@@ -17,8 +17,14 @@ use Rattle.rules.specs.declared.Slot.{Slot}
 unfoldable pub slotAt : List ℕ → ℕ → Slot
 slotAt ws at =
     record {
-      number = getD ws at 0; value = getD ws (at + 1) 0; index = getD ws (at + 2) 0; window = getD ws (at + 3) 0;
-      extra = getD ws (at + 4) 0; scan = getD ws (at + 5) 0; seen = getD ws (at + 6) 0; sum = getD ws (at + 7) 0
+      number = getD ws at 0;
+      value = getD ws (at + 1) 0;
+      index = getD ws (at + 2) 0;
+      window = getD ws (at + 3) 0;
+      extra = getD ws (at + 4) 0;
+      scan = getD ws (at + 5) 0;
+      seen = getD ws (at + 6) 0;
+      sum = getD ws (at + 7) 0;
     }
 
 abbrev pub wordsOf : Slot → List ℕ

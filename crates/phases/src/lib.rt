@@ -1,0 +1,11 @@
+// The phases of a step, as pure functions from what a worker reads to what the step does. No word's place is known here.
+mod check;
+mod commit;
+mod confirm;
+mod effects;
+pub mod num;
+mod read;
+pub mod rule;
+mod shift;
+mod window;
+pub mod worker;

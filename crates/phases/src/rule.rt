@@ -1,0 +1,63 @@
+// Which rule a phase takes.
+use crate::check::check;
+use crate::commit::queue_commit;
+use crate::commit::stack_commit;
+use crate::confirm::confirm;
+use crate::effects::refused;
+use crate::read::queue_put_read;
+use crate::read::queue_take_read;
+use crate::read::stack_read;
+use crate::shift::queue_shift;
+use crate::shift::stack_shift;
+use crate::window::window;
+use crate::worker::worker_of;
+use rules::Effect;
+use rules::Phase;
+use rules::Settings;
+use rules::View;
+ghost use mathlib.Core.Path.{_≡_};
+ghost use Prim.Native.Nat.{_≤_, _<_};
+ghost use Rattle.rules.specs.Step.{ruleOf};
+
+pub fn rule(g: Settings, v: View) -> Effect
+    requires { ⌜ g .depth ≤ 64 ⌝ }
+    requires { ⌜ v .slot .index < g .width ⌝ }
+    ensures { λ r. ⌜ r ≡ ruleOf g v ⌝ }
+{
+    let slot = v.slot;
+    let worker = worker_of(g.kind, slot);
+    let phase = worker.phase;
+    match phase {
+        Phase::Idle => refused(v, 26),
+        Phase::Window(side) => window(g, v, side),
+        Phase::QueuePutRead { window, scan } => queue_put_read(g, v, window, scan),
+        Phase::QueueTakeRead {
+            window,
+            bare,
+            scan,
+            sum,
+        } => queue_take_read(g, v, window, bare, scan, sum),
+        Phase::StackRead {
+            side,
+            window,
+            version,
+            scan,
+            sum,
+        } => stack_read(g, v, side, window, version, scan, sum),
+        Phase::Check {
+            side,
+            version,
+            seen,
+        } => check(v, side, version, seen),
+        Phase::QueueCommit { side, seen } => queue_commit(g, v, side, seen),
+        Phase::StackCommit { side, seen } => stack_commit(g, v, side, seen),
+        Phase::QueueShift { side, window } => queue_shift(g, v, side, window),
+        Phase::StackShift {
+            side,
+            version,
+            scan,
+            sum,
+        } => stack_shift(g, v, side, version, scan, sum),
+        Phase::Confirm { side, scan, sum } => confirm(g, v, side, scan, sum),
+    }
+}

@@ -1,0 +1,110 @@
+-- What the tests of settings and fitness say where they hold: settings within limits have the limits as orders, and a
+-- pool that is checked fit has each field of `FitPool`. Each test is read off the choice that it stands in.
+use Prim.Native.Nat.{ℕ, _+_, _*_, _-_, _%_, _<_, _≤_}
+use mathlib.Core.Path.{_≡_, refl, sym, subst, _∙_}
+use mathlib.Core.List.{List}
+use mathlib.Core.Bool.{Bool, true, false}
+use native.Mathlib.Omega.{arith}
+use lib.ListN.{getD, length}
+use lib.Dec.{ltb, leb, eqb, lit<}
+use borrow.Author.Tests.{ltb-true, ltb-false, leb-true, eq-eqb, ne-eqb, eqb-true}
+use Rattle.laws.specs.Choice.{cond, both, both-true, all, all-holds, allBelow, allBelow-at}
+use Rattle.rules.specs.Layout.{headWords, workerWords, workerAt, needed, settingsOf, firstOf, secondOf}
+use Rattle.rules.specs.Limits.{limits, queueLimits, settingsFit, Bounds}
+use Rattle.rules.specs.Fit.{headFit, subFit, subsFit, wordFit, workersFit, bodyChecked, checkedOf, SubFits, FitPool}
+use Rattle.rules.specs.declared.Settings.{Settings}
+use Rattle.rules.specs.declared.Checked.{Checked}
+use Rattle.rules.specs.declared.Checked.the-variants.{Unfit, Fit}
+
+-- ---- settings
+pub settings-bounds : (g : Settings) → settingsFit g ≡ true → Bounds g
+unfolding settingsFit
+settings-bounds g e =
+    let t = all-holds (limits g) (both-true _ _ e .0) in
+    record {
+      kind1 = leb-true _ _ (t .0);
+      width1 = leb-true _ _ (t .1 .0);
+      width16 = leb-true _ _ (t .1 .1 .0);
+      depth1 = leb-true _ _ (t .1 .1 .1 .0);
+      depth64 = leb-true _ _ (t .1 .1 .1 .1 .0);
+      shift1 = leb-true _ _ (t .1 .1 .1 .1 .1 .0);
+      shift-depth = leb-true _ _ (t .1 .1 .1 .1 .1 .1 .0);
+      rows2 = leb-true _ _ (t .1 .1 .1 .1 .1 .1 .1 .0);
+      rows1024 = leb-true _ _ (t .1 .1 .1 .1 .1 .1 .1 .1 .0);
+      workers1 = leb-true _ _ (t .1 .1 .1 .1 .1 .1 .1 .1 .1 .0);
+      workers32 = leb-true _ _ (t .1 .1 .1 .1 .1 .1 .1 .1 .1 .1 .0);
+      cells = leb-true _ _ (t .1 .1 .1 .1 .1 .1 .1 .1 .1 .1 .1 .0);
+    }
+
+-- a queue's shift is its depth, and its rows a multiple of it
+pub queue-limits : (g : Settings) → settingsFit g ≡ true → g .kind ≡ 0 → (g .shift ≡ g .depth) × (g .rows % g .depth ≡ 0)
+unfolding settingsFit cond
+queue-limits g e k =
+    let q : all (queueLimits g) ≡ true = rw (eq-eqb (g .kind) 0 k) at (both-true (all (limits g)) _ e .1) in
+    let t = all-holds (queueLimits g) q in
+    (eqb-true _ _ (t .0), eqb-true _ _ (t .1 .0))
+
+-- ---- a pool
+unfit-fit : (n : ℕ) (g : Settings) → Unfit n ≡ Fit g → ⊥
+unfit-fit n g e = let z : _≡_ {A = ℕ} 0 1 = cc in omega arith
+
+-- a test whose failure, or whose success, would have refused
+passed-not : (b : Bool) (n : ℕ) (y : Checked) (g : Settings) → cond b (Unfit n) y ≡ Fit g → (b ≡ false) × (y ≡ Fit g)
+unfolding cond
+passed-not true n y g e = absurd (unfit-fit n g e)
+passed-not false n y g e = (refl, e)
+
+passed : (b : Bool) (n : ℕ) (y : Checked) (g : Settings) → cond b y (Unfit n) ≡ Fit g → (b ≡ true) × (y ≡ Fit g)
+unfolding cond
+passed true n y g e = (refl, e)
+passed false n y g e = absurd (unfit-fit n g e)
+
+fit-settings : (g h : Settings) → Fit g ≡ Fit h → g ≡ h
+fit-settings g h e = cc
+
+pub sub-fits : (g : Settings) (first second : ℕ) → subFit g first second ≡ true → SubFits g first second
+unfolding subFit cond
+sub-fits g first second e =
+    let queue : g .kind ≡ 0 → (leb second first ≡ true) × (leb (first - second) (g .rows) ≡ true) =
+    λ k. both-true _ _ (rw (eq-eqb (g .kind) 0 k) at e) in
+    let stack : 1 ≤ g .kind → leb first (g .rows) ≡ true =
+    λ k. rw (ne-eqb (g .kind) 0 (λ z. omega arith)) at e in
+    record {
+      queue-order = λ k. leb-true _ _ (queue k .0);
+      queue-rows = λ k. let a = leb-true second first (queue k .0) in let b = leb-true (first - second) (g .rows) (queue k .1) in omega arith;
+      stack-rows = λ k. leb-true _ _ (stack k);
+    }
+
+-- a word of a worker of those that are fit
+pub worker-word : (ws : List ℕ) (g : Settings) (i k : ℕ) → i < g .workers → k < workerWords → workersFit ws g ≡ true → wordFit g k (getD ws (workerAt g i + k) 0) ≡ true
+unfolding workersFit
+worker-word ws g i k h l e = allBelow-at workerWords _ k l (allBelow-at (g .workers) _ i h e)
+
+body-fit : (ws : List ℕ) (h g : Settings) → settingsOf ws ≡ h → settingsFit h ≡ true → bodyChecked ws h ≡ Fit g → FitPool h ws × (h ≡ g)
+unfolding bodyChecked subsFit wordFit cond
+body-fit ws h g s limits e =
+    let long = passed-not (ltb (length ws) (needed h)) 21 _ g e in
+    let subs = passed (subsFit ws h) 23 _ g (long .1) in
+    let workers = passed (workersFit ws h) 23 _ g (subs .1) in (
+      record {
+        bounds = settings-bounds h limits;
+        enough = ltb-false _ _ (long .0);
+        settings = s;
+        sub = λ j l. sub-fits h _ _ (allBelow-at (h .width) _ j l (subs .0));
+        index = λ i l. ltb-true _ _ (worker-word ws h i 2 l (lit< tt) (workers .0));
+        scan = λ i l. ltb-true _ _ (worker-word ws h i 5 l (lit< tt) (workers .0));
+      },
+      fit-settings h g (workers .1),
+    )
+
+pub head-bounds : (ws : List ℕ) → headFit ws ≡ true → Bounds (settingsOf ws)
+unfolding headFit
+head-bounds ws e = settings-bounds (settingsOf ws) (both-true _ _ e .0)
+
+-- a pool that is checked fit
+pub fit-pool : (ws : List ℕ) (g : Settings) → checkedOf ws ≡ Fit g → FitPool g ws
+unfolding checkedOf headFit
+fit-pool ws g e =
+    let head = passed (headFit ws) 23 _ g (passed-not (ltb (length ws) headWords) 21 _ g e .1) in
+    let p = body-fit ws (settingsOf ws) g refl (both-true _ _ (head .0) .0) (head .1) in
+    subst (λ (h : Settings). FitPool h ws) (p .1) (p .0)
