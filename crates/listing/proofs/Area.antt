@@ -9,7 +9,7 @@ use mathlib.Core.Bool.{Bool, true, false}
 use borrow.Author.Tests.{ltb-false}
 use lib.Dec.{ltb}
 use Rattle.laws.specs.Choice.{cond, cases}
-use lib.Seq.{drop-length, length-take-le, take-append-le, take-take, drop-at, set-split}
+use lib.Seq.{take-all, drop-length, length-take-le, take-append-le, take-take, drop-at, set-split}
 use Rattle.listing.specs.Area.{Written, written, putBefore, lineBytes, putLast, usedPart}
 
 module _ (area : List ℕ) (end : ℕ) (text : List ℕ) (room : length text ≤ end) (inside : end ≤ length area) where
@@ -69,12 +69,12 @@ put-on area end text after at piece e fits inside =
 
 -- ---- a text at the end of an area
 module _ (area text : List ℕ) where
-  pub last-start : (putLast area text) .start ≤ length area
+  last-start : (putLast area text) .start ≤ length area
   unfolding putLast putBefore
   last-start = cases (λ (w : Written). w .start ≤ length area) (ltb (length area) lineBytes) _ _ (λ _. omega arith) (λ _. omega arith)
 
   -- a text that fits a line is the used part
-  pub used-last : length text ≤ lineBytes → drop ((putLast area text) .start) ((putLast area text) .area) ≡ usedPart area text
+  used-last : length text ≤ lineBytes → drop ((putLast area text) .start) ((putLast area text) .area) ≡ usedPart area text
   unfolding putLast usedPart cond
   used-last fits = go (ltb (length area) lineBytes) refl
     where
@@ -85,3 +85,12 @@ module _ (area text : List ℕ) where
       go false e =
           let room = ltb-false (length area) lineBytes e in
           used-part area (length area) text (omega arith) (omega arith) ∙ rw (drop-length area) (append-nil text)
+
+  -- what was put starts within the area
+  pub text-inside : (last : List ℕ) (at : ℕ) → written last at ≡ putLast area text → length last ≡ length area → at ≤ length last
+  text-inside last at e kept = let start = ap (λ (w : Written). w .start) e in omega (arith, last-start)
+
+  -- and from there on the area is the text
+  pub text-used : (last : List ℕ) (at : ℕ) → written last at ≡ putLast area text → length text ≤ lineBytes → take (length last - at) (drop at last) ≡ usedPart area text
+  text-used last at e fits =
+      take-all (length last - at) (drop at last) (simp length-drop (omega arith)) ∙ (ap (λ (w : Written). drop (w .start) (w .area)) e ∙ used-last fits)

@@ -41,7 +41,7 @@ put-line-requires : tie.Need-put-line-requires
 put-line-requires c κs =
     let e = c .before .before .before .before .before .before .before .before .before .before .before .args .e in
     let known = c .before .before .before .before .before .before .before .before .struct-known .given in
-    let fits = entry-fits e (omega (arith, known)) (omega (arith, known)) (omega (arith, known)) (omega (arith, known)) (omega (arith, known)) (omega (arith, known)) (omega (arith, known)) (omega (arith, known)) in
+    let fits = entry-fits e (omega (arith, known)) in
     omega (arith, fits, c .before .before .before .before .before .before .before .before .before .if1 .left)
 
 same-length : tie.Need-same-length
