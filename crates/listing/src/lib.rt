@@ -1,2 +1,1 @@
 // The listing of a run file.
-pub mod line;

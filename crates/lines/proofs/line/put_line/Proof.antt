@@ -1,4 +1,4 @@
--- `listing::line::put_line` meets its contract. From number i on the line stands at the end of the area, and the byte that follows number i - 1 is known. Assumes nothing.
+-- `lines::line::put_line` meets its contract. From number i on the line stands at the end of the area, and the byte that follows number i - 1 is known. Assumes nothing.
 use Prim.Native.Nat.{_+_, _-_, _≤_}
 use mathlib.Core.List.{[], _∷_, _++_, append-assoc}
 use mathlib.Core.Path.{_≡_, sym, ap, _∙_}
@@ -6,12 +6,12 @@ use native.Mathlib.Omega.{arith}
 use borrow.Author.Needs.{needs}
 use lib.ListN.{length, drop, getD, length-append}
 use lib.Seq.{drop-length}
-use Rattle.listing.specs.Lines.{decimal, afterOf, lineOf}
-use Rattle.listing.specs.Area.{written, putBefore}
-use Rattle.listing.proofs.Area.{put-none, put-on}
-use Rattle.listing.proofs.Lines.{line-from, line-room, line-part, after-more}
-use Rattle.listing.proofs.line.put_line.Statement.{statement}
-use Rattle.listing.proofs.line.put_line.Tie as tie
+use Rattle.lines.specs.Lines.{decimal, afterOf, lineOf}
+use Rattle.lines.specs.Area.{written, putBefore}
+use Rattle.lines.proofs.Area.{put-none, put-on}
+use Rattle.lines.proofs.Lines.{line-from, line-room, line-part, after-more}
+use Rattle.lines.proofs.line.put_line.Statement.{statement}
+use Rattle.lines.proofs.line.put_line.Tie as tie
 
 abbrev Inv-loop : tie.InvT-loop
 Inv-loop area₀ numbers at₀ i₀ after₀ area at i after =

@@ -5,11 +5,11 @@ use mathlib.Core.Path.{_≡_, refl, ap, _∙_}
 use native.Mathlib.Omega.{arith}
 use lib.ListN.{length, drop, getD, length-append}
 use lib.Seq.{drop-cons}
-use Rattle.listing.specs.Lines.{space, decimal, afterOf, lineOf, numbersOf, worstText, closingOf}
-use Rattle.listing.specs.Area.{lineBytes, written, putBefore}
-use Rattle.listing.specs.declared.line.Entry.{Entry}
-use Rattle.listing.proofs.Area.{put-start}
-use Rattle.listing.proofs.Decimal.{decimal-most}
+use Rattle.lines.specs.Lines.{space, decimal, afterOf, lineOf, numbersOf, worstText, closingOf}
+use Rattle.lines.specs.Area.{lineBytes, written, putBefore}
+use Rattle.lines.specs.declared.line.Entry.{Entry}
+use Rattle.lines.proofs.Area.{put-start}
+use Rattle.lines.proofs.Decimal.{decimal-most}
 
 pub line-from : (xs : List ℕ) (i : ℕ) → 1 ≤ i → i ≤ length xs
     → lineOf (drop (i - 1) xs) ≡ decimal (getD xs (i - 1) 0) ++ (afterOf (drop i xs) ∷ lineOf (drop i xs))

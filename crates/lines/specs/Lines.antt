@@ -3,7 +3,7 @@ use Prim.Native.Nat.{ℕ, zero, suc, _+_, _/_, _%_}
 use mathlib.Core.List.{List, [], _∷_, _++_}
 use lib.Dec.{eqb}
 use Rattle.laws.specs.Choice.{cond}
-use Rattle.listing.specs.declared.line.Entry.{Entry}
+use Rattle.lines.specs.declared.line.Entry.{Entry}
 
 abbrev pub space : ℕ
 space = 32

@@ -1,12 +1,12 @@
--- `listing::line::put_number` meets its contract: the last byte first, and the digits before it. Assumes nothing.
+-- `lines::line::put_number` meets its contract: the last byte first, and the digits before it. Assumes nothing.
 use mathlib.Core.Path.{sym, _∙_}
 use native.Mathlib.Omega.{arith}
 use lib.ListN.{length-set}
-use Rattle.listing.specs.Lines.{decimal}
-use Rattle.listing.proofs.Area.{put-snoc}
+use Rattle.lines.specs.Lines.{decimal}
+use Rattle.lines.proofs.Area.{put-snoc}
 use borrow.Author.Needs.{needs}
-use Rattle.listing.proofs.line.put_number.Statement.{statement}
-use Rattle.listing.proofs.line.put_number.Tie as tie
+use Rattle.lines.proofs.line.put_number.Statement.{statement}
+use Rattle.lines.proofs.line.put_number.Tie as tie
 
 sub-area : tie.Need-sub-area
 sub-area c = search needs

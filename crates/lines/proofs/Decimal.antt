@@ -8,7 +8,7 @@ use borrow.Author.Tests.{eq-eqb, ne-eqb, eqb-false}
 use lib.Dec.{eqb}
 use lib.ListN.{length, length-append}
 use Rattle.laws.specs.Choice.{cond, cases}
-use Rattle.listing.specs.Lines.{digit, digitsOf, decimal}
+use Rattle.lines.specs.Lines.{digit, digitsOf, decimal}
 
 -- room for one digit more than the number changes nothing
 enough : (n m x : ℕ) → x < n → x < m → digitsOf n x ≡ digitsOf m x

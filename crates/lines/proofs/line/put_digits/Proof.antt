@@ -1,34 +1,34 @@
--- `listing::line::put_digits` meets its contract. The digits that are left to put, put before what is there, are always the whole number put before `end`;
+-- `lines::line::put_digits` meets its contract. The digits that are left to put, put before what is there, are always the whole number put before `end`;
 -- below 10 one is left. The measure is the number that is left. Assumes nothing.
 use Prim.Native.Nat.{_≤_}
 use mathlib.Core.Path.{_≡_, sym, _∙_}
 use native.Mathlib.Omega.{arith}
 use borrow.Author.Needs.{needs}
 use lib.ListN.{length}
-use Rattle.listing.specs.Lines.{decimal}
-use Rattle.listing.specs.Area.{putBefore}
-use Rattle.listing.proofs.Area.{put-byte}
-use Rattle.listing.proofs.Decimal.{one-digit, more-digits, decimal-least}
+use Rattle.lines.specs.Lines.{decimal}
+use Rattle.lines.specs.Area.{putBefore}
+use Rattle.lines.proofs.Area.{put-byte}
+use Rattle.lines.proofs.Decimal.{one-digit, more-digits, decimal-least}
 use Prim.Native.Nat.{_+_, _/_, _%_, _≤_}
 use mathlib.Core.Path.{_≡_, sym, ap, _∙_}
 use native.Mathlib.Omega.{arith}
 use borrow.Author.Needs.{needs}
 use lib.ListN.{length, length-append, length-set}
-use Rattle.listing.specs.Lines.{decimal}
-use Rattle.listing.specs.Area.{putBefore}
-use Rattle.listing.proofs.Area.{put-byte, put-snoc}
-use Rattle.listing.proofs.Decimal.{one-digit, more-digits, decimal-least}
+use Rattle.lines.specs.Lines.{decimal}
+use Rattle.lines.specs.Area.{putBefore}
+use Rattle.lines.proofs.Area.{put-byte, put-snoc}
+use Rattle.lines.proofs.Decimal.{one-digit, more-digits, decimal-least}
 use Prim.Native.Nat.{_+_, _/_, _%_, _≤_}
 use mathlib.Core.Path.{_≡_, sym, ap, _∙_}
 use native.Mathlib.Omega.{arith}
 use borrow.Author.Needs.{needs}
 use lib.ListN.{length, length-append, length-set}
-use Rattle.listing.specs.Lines.{decimal}
-use Rattle.listing.specs.Area.{putBefore}
-use Rattle.listing.proofs.Area.{put-byte, put-snoc}
-use Rattle.listing.proofs.Decimal.{one-digit, more-digits, decimal-least}
-use Rattle.listing.proofs.line.put_digits.Statement.{statement}
-use Rattle.listing.proofs.line.put_digits.Tie as tie
+use Rattle.lines.specs.Lines.{decimal}
+use Rattle.lines.specs.Area.{putBefore}
+use Rattle.lines.proofs.Area.{put-byte, put-snoc}
+use Rattle.lines.proofs.Decimal.{one-digit, more-digits, decimal-least}
+use Rattle.lines.proofs.line.put_digits.Statement.{statement}
+use Rattle.lines.proofs.line.put_digits.Tie as tie
 
 abbrev Inv-loop : tie.InvT-loop
 Inv-loop area₀ end x at₀ rest₀ area at rest =

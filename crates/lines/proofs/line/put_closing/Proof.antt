@@ -1,4 +1,4 @@
--- `listing::line::put_closing` meets its contract: four texts, each put before the last one, are the closing line. Assumes nothing.
+-- `lines::line::put_closing` meets its contract: four texts, each put before the last one, are the closing line. Assumes nothing.
 use Prim.Native.Nat.{_≤_}
 use mathlib.Core.List.{[], _∷_}
 use mathlib.Core.Path.{_≡_, _∙_}
@@ -6,13 +6,13 @@ use native.Mathlib.Omega.{arith}
 use borrow.Author.Tests.{lt-ltb, le-ltb}
 use lib.ListN.{length, length-append}
 use Rattle.laws.specs.Choice.{cond}
-use Rattle.listing.specs.Lines.{decimal, lineOf, heldText, worstText, closingOf}
-use Rattle.listing.specs.Area.{written, lineBytes, putBefore, putLast}
-use Rattle.listing.proofs.Area.{put-start, put-on}
-use Rattle.listing.proofs.Lines.{worstOn, heldOn, closing-length, closing-fits}
+use Rattle.lines.specs.Lines.{decimal, lineOf, heldText, worstText, closingOf}
+use Rattle.lines.specs.Area.{written, lineBytes, putBefore, putLast}
+use Rattle.lines.proofs.Area.{put-start, put-on}
+use Rattle.lines.proofs.Lines.{worstOn, heldOn, closing-length, closing-fits}
 use borrow.Author.Needs.{needs}
-use Rattle.listing.proofs.line.put_closing.Statement.{statement}
-use Rattle.listing.proofs.line.put_closing.Tie as tie
+use Rattle.lines.proofs.line.put_closing.Statement.{statement}
+use Rattle.lines.proofs.line.put_closing.Tie as tie
 
 -- what stands at the end of the area after each call, with the area and the two numbers that were passed
 line-put : (c : tie.After-put-line)

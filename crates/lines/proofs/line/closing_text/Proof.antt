@@ -1,13 +1,13 @@
--- `listing::line::closing_text` meets its contract: what `put_closing` put is the area from its start on. Assumes nothing.
+-- `lines::line::closing_text` meets its contract: what `put_closing` put is the area from its start on. Assumes nothing.
 use Prim.Native.Nat.{_≤_}
 use native.Mathlib.Omega.{arith}
 use lib.ListN.{length}
-use Rattle.listing.specs.Lines.{closingOf}
-use Rattle.listing.proofs.Area.{text-inside, text-used}
-use Rattle.listing.proofs.Lines.{closing-fits}
+use Rattle.lines.specs.Lines.{closingOf}
+use Rattle.lines.proofs.Area.{text-inside, text-used}
+use Rattle.lines.proofs.Lines.{closing-fits}
 use borrow.Author.Needs.{needs}
-use Rattle.listing.proofs.line.closing_text.Statement.{statement}
-use Rattle.listing.proofs.line.closing_text.Tie as tie
+use Rattle.lines.proofs.line.closing_text.Statement.{statement}
+use Rattle.lines.proofs.line.closing_text.Tie as tie
 
 put-closing-requires : tie.Need-put-closing-requires
 put-closing-requires c κs = search needs

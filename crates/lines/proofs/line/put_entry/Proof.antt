@@ -1,13 +1,13 @@
--- `listing::line::put_entry` meets its contract: an area of 96 bytes has room for every entry's line. Assumes nothing.
+-- `lines::line::put_entry` meets its contract: an area of 96 bytes has room for every entry's line. Assumes nothing.
 use mathlib.Core.Path.{_∙_}
 use native.Mathlib.Omega.{arith}
 use borrow.Author.Tests.{lt-ltb, le-ltb}
 use Rattle.laws.specs.Choice.{cond}
-use Rattle.listing.specs.Area.{putLast}
-use Rattle.listing.proofs.Lines.{entry-fits}
+use Rattle.lines.specs.Area.{putLast}
+use Rattle.lines.proofs.Lines.{entry-fits}
 use borrow.Author.Needs.{needs}
-use Rattle.listing.proofs.line.put_entry.Statement.{statement}
-use Rattle.listing.proofs.line.put_entry.Tie as tie
+use Rattle.lines.proofs.line.put_entry.Statement.{statement}
+use Rattle.lines.proofs.line.put_entry.Tie as tie
 
 returns : tie.Need-returns
 unfolding putLast cond

@@ -1,4 +1,4 @@
--- `listing::line::put_text` meets its contract. What is left of the text, put before what is there, is always the whole text put before `end`. Assumes nothing.
+-- `lines::line::put_text` meets its contract. What is left of the text, put before what is there, is always the whole text put before `end`. Assumes nothing.
 use Prim.Native.Nat.{suc, _-_, _≤_}
 use mathlib.Core.List.{[], _∷_, _++_}
 use mathlib.Core.Path.{_≡_, sym, _∙_}
@@ -6,10 +6,10 @@ use native.Mathlib.Omega.{arith}
 use borrow.Author.Needs.{needs}
 use lib.ListN.{length, take, getD, length-set}
 use lib.Seq.{take-length, take-suc, length-take-le}
-use Rattle.listing.specs.Area.{putBefore}
-use Rattle.listing.proofs.Area.{put-none, put-snoc}
-use Rattle.listing.proofs.line.put_text.Statement.{statement}
-use Rattle.listing.proofs.line.put_text.Tie as tie
+use Rattle.lines.specs.Area.{putBefore}
+use Rattle.lines.proofs.Area.{put-none, put-snoc}
+use Rattle.lines.proofs.line.put_text.Statement.{statement}
+use Rattle.lines.proofs.line.put_text.Tie as tie
 
 abbrev Inv-loop : tie.InvT-loop
 Inv-loop area₀ end text at₀ i₀ area at i =

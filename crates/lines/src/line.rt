@@ -3,8 +3,8 @@ ghost use mathlib.Core.Path.{_≡_};
 ghost use mathlib.Core.List.{_++_, _∷_, []};
 ghost use Prim.Native.Nat.{_<_, _≤_};
 ghost use lib.ListN.{length};
-ghost use Rattle.listing.specs.Lines.{decimal, lineOf, numbersOf, closingOf};
-ghost use Rattle.listing.specs.Area.{written, putBefore, putLast, usedPart};
+ghost use Rattle.lines.specs.Lines.{decimal, lineOf, numbersOf, closingOf};
+ghost use Rattle.lines.specs.Area.{written, putBefore, putLast, usedPart};
 
 // A line's area. The longest line has 91 bytes: 20 digits of the position, 3 of the worker, 10 of each other number, and a byte after each.
 const LINE_BYTES: usize = 96;

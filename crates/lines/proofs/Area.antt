@@ -10,7 +10,7 @@ use borrow.Author.Tests.{ltb-false}
 use lib.Dec.{ltb}
 use Rattle.laws.specs.Choice.{cond, cases}
 use lib.Seq.{take-all, drop-length, length-take-le, take-append-le, take-take, drop-at, set-split}
-use Rattle.listing.specs.Area.{Written, written, putBefore, lineBytes, putLast, usedPart}
+use Rattle.lines.specs.Area.{Written, written, putBefore, lineBytes, putLast, usedPart}
 
 module _ (area : List ℕ) (end : ℕ) (text : List ℕ) (room : length text ≤ end) (inside : end ≤ length area) where
   front-length : length (take (end - length text) area) ≡ end - length text

@@ -1,13 +1,13 @@
--- `listing::line::entry_text` meets its contract: what `put_entry` put is the area from its start on. Assumes nothing.
+-- `lines::line::entry_text` meets its contract: what `put_entry` put is the area from its start on. Assumes nothing.
 use Prim.Native.Nat.{_≤_}
 use native.Mathlib.Omega.{arith}
 use lib.ListN.{length}
-use Rattle.listing.specs.Lines.{lineOf, numbersOf}
-use Rattle.listing.proofs.Area.{text-inside, text-used}
-use Rattle.listing.proofs.Lines.{entry-fits}
+use Rattle.lines.specs.Lines.{lineOf, numbersOf}
+use Rattle.lines.proofs.Area.{text-inside, text-used}
+use Rattle.lines.proofs.Lines.{entry-fits}
 use borrow.Author.Needs.{needs}
-use Rattle.listing.proofs.line.entry_text.Statement.{statement}
-use Rattle.listing.proofs.line.entry_text.Tie as tie
+use Rattle.lines.proofs.line.entry_text.Statement.{statement}
+use Rattle.lines.proofs.line.entry_text.Tie as tie
 
 put-entry-requires : tie.Need-put-entry-requires
 put-entry-requires c κs = search needs

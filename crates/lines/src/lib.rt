@@ -1,0 +1,4 @@
+// The lines of a listing, as text.
+mod line;
+
+pub use line::{Entry, closing_text, entry_text};
