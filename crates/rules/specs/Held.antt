@@ -1,5 +1,5 @@
 -- "Distance": held items of all subs with a smaller stamp (queue) or a greater one (stack) just before the take.
-use Prim.Native.Nat.{ℕ, zero, suc, _+_, _-_}
+use Prim.Native.Nat.{ℕ, zero, suc, _+_, _*_, _-_}
 use mathlib.Core.List.{List, [], _∷_, _++_}
 use mathlib.Core.Bool.{Bool}
 use lib.ListN.{getD}
@@ -50,3 +50,8 @@ passedOver kind s x = cond (eqb kind 0) (ltb (x .stamp) s) (ltb s (x .stamp))
 
 unfoldable pub distanceOf : List ℕ → Settings → ℕ → ℕ
 distanceOf ws g s = countItems (passedOver (g .kind) s) (heldItems ws g)
+
+-- the items in the k cells from word `at` on, one after the other
+unfoldable pub cellItems : List ℕ → ℕ → ℕ → List Item
+cellItems ws at zero = []
+cellItems ws at (suc k) = cellItems ws at k ++ (record { value = getD ws (at + 2 * k) 0; stamp = getD ws (at + 2 * k + 1) 0 } ∷ [])

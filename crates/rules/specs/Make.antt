@@ -16,10 +16,14 @@ unfoldable pub zeroed : List ℕ → ℕ → List ℕ
 zeroed ws zero = ws
 zeroed ws (suc i) = set (zeroed ws i) i 0
 
+-- T = d, or version 0
+abbrev pub newMark : Settings → ℕ
+newMark g = cond (eqb (g .kind) 0) (g .depth) 0
+
 -- words 0 to 9 of a new pool
 abbrev pub newHead : Settings → List ℕ
 newHead g =
-    g .kind ∷ g .width ∷ g .depth ∷ g .shift ∷ g .rows ∷ g .workers ∷ 0 ∷ 0 ∷ g .depth ∷ cond (eqb (g .kind) 0) (g .depth) 0 ∷ []
+    g .kind ∷ g .width ∷ g .depth ∷ g .shift ∷ g .rows ∷ g .workers ∷ 0 ∷ 0 ∷ g .depth ∷ newMark g ∷ []
 
 -- each worker below n has its index
 unfoldable pub indexed : List ℕ → Settings → ℕ → List ℕ

@@ -1,0 +1,110 @@
+// The one place that writes a pool's words after a step.
+use crate::cells::cell_at;
+use crate::distance::distance;
+use crate::slot::store;
+use phases::num::plus;
+use rules::Answer;
+use rules::Effect;
+use rules::Outcome;
+use rules::Row;
+use rules::Settings;
+use rules::Stamp;
+ghost use mathlib.Core.Path.{_≡_};
+ghost use Prim.Native.Nat.{_+_, _*_, _≤_, _<_};
+ghost use lib.ListN.{length};
+ghost use Rattle.rules.specs.Answers.{out};
+ghost use Rattle.rules.specs.Fit.{FitPool};
+ghost use Rattle.rules.specs.Layout.{Lent, needed};
+ghost use Rattle.rules.specs.Limits.{Bounds};
+ghost use Rattle.rules.specs.Apply.{putItem, putView, takenOf, applyOf};
+
+// Writes an item into the cell of its row.
+fn put_item(words: &mut [u32], g: Settings, j: u32, value: u32, row: Row, stamp: Stamp)
+    requires { ⌜ Bounds g ⌝ }
+    requires { ⌜ (needed g ≤ length (now words)) × (j < g .width) ⌝ }
+    ensures { λ r. ⌜ now (words .exit) ≡ putItem (now (words .entry)) g j value row stamp ⌝ }
+{
+    let cell = cell_at(g, j, row);
+    words[cell] = value;
+    words[cell + 1] = stamp.0;
+}
+
+// Writes all that a step may read, and counts the step.
+fn put_view(words: &mut [u32], at: usize, j: u32, e: Effect)
+    requires { ⌜ (12 ≤ at) × (at + 8 ≤ length (now words)) ⌝ }
+    requires { ⌜ 12 + 2 * j + 2 ≤ length (now words) ⌝ }
+    ensures { λ r. ⌜ now (words .exit) ≡ putView (now (words .entry)) at j e ⌝ }
+{
+    let sub = 12 + 2 * (j as usize);
+    let steps = plus(words[6], 1);
+    words[6] = steps;
+    words[7] = e.puts;
+    words[8] = e.top;
+    words[9] = e.mark;
+    words[sub] = e.first;
+    words[sub + 1] = e.second;
+    let slot = e.slot;
+    store(words, at, slot);
+}
+
+// The answer of a take: the row's item, and the distance just before.
+fn taken(words: &[u32], g: Settings, j: u32, row: Row) -> Answer
+    requires { ⌜ FitPool g (now words) ⌝ }
+    requires { ⌜ j < g .width ⌝ }
+    ensures { λ r. ⌜ r ≡ takenOf (now (words .entry)) g j row ⌝ }
+{
+    let cell = cell_at(g, j, row);
+    let value = words[cell];
+    let stamp = words[cell + 1];
+    Answer::Taken {
+        value,
+        sub: j,
+        row,
+        stamp: Stamp(stamp),
+        distance: distance(words, g, stamp),
+    }
+}
+
+// Writes an effect of the worker whose words start at `at` and whose sub is `j`.
+pub fn apply(words: &mut [u32], g: Settings, at: usize, j: u32, e: Effect) -> Answer
+    requires { ⌜ FitPool g (now words) ⌝ }
+    requires { ⌜ Lent g (now words) at ⌝ }
+    requires { ⌜ j < g .width ⌝ }
+    ensures { λ r. ⌜ out r (now (words .exit)) ≡ applyOf (now (words .entry)) g at j e ⌝ }
+{
+    let outcome = e.outcome;
+    match outcome {
+        Outcome::Refused(n) => Answer::Refused(n),
+        Outcome::Moving => {
+            put_view(words, at, j, e);
+            Answer::Moving
+        }
+        Outcome::Landed => {
+            let value = e.value;
+            let row = e.row;
+            let stamp = Stamp(e.puts);
+            put_item(words, g, j, value, row, stamp);
+            put_view(words, at, j, e);
+            Answer::Put {
+                value,
+                sub: j,
+                row,
+                stamp,
+            }
+        }
+        Outcome::Removed => {
+            let row = e.row;
+            let answer = taken(words, g, j, row);
+            put_view(words, at, j, e);
+            answer
+        }
+        Outcome::Empty => {
+            put_view(words, at, j, e);
+            Answer::Empty
+        }
+        Outcome::Full => {
+            put_view(words, at, j, e);
+            Answer::Full
+        }
+    }
+}

@@ -1,0 +1,108 @@
+// The functions that C calls: the answer's number is returned, and its five fields are written.
+use crate::begin::begin_put;
+use crate::begin::begin_take;
+use crate::new::make;
+use crate::work::step;
+use rules::Answer;
+ghost use mathlib.Core.Path.{_≡_};
+ghost use Rattle.rules.specs.Answers.{numberOf, fieldsOf};
+ghost use Rattle.rules.specs.Begin.{beginPutOf, beginTakeOf};
+ghost use Rattle.rules.specs.Make.{makeOf};
+ghost use Rattle.rules.specs.Step.{stepOf};
+
+// Writes the five fields of an answer; its number.
+fn answered(a: Answer, fields: &mut [u32; 5]) -> u32
+    ensures { λ r. ⌜ (r ≡ numberOf a) × (now (fields .exit) ≡ fieldsOf a) ⌝ }
+{
+    match a {
+        Answer::Moving => {
+            *fields = [0, 0, 0, 0, 0];
+            0
+        }
+        Answer::Put {
+            value,
+            sub,
+            row,
+            stamp,
+        } => {
+            *fields = [value, sub, row.0, stamp.0, 0];
+            1
+        }
+        Answer::Taken {
+            value,
+            sub,
+            row,
+            stamp,
+            distance,
+        } => {
+            *fields = [value, sub, row.0, stamp.0, distance];
+            2
+        }
+        Answer::Empty => {
+            *fields = [0, 0, 0, 0, 0];
+            3
+        }
+        Answer::Full => {
+            *fields = [0, 0, 0, 0, 0];
+            4
+        }
+        Answer::Refused(n) => {
+            *fields = [0, 0, 0, 0, 0];
+            n
+        }
+    }
+}
+
+#[no_mangle]
+pub extern "C" fn pool_make(
+    words: &mut [u32],
+    kind: u32,
+    width: u32,
+    depth: u32,
+    shift: u32,
+    rows: u32,
+    workers: u32,
+    fields: &mut [u32; 5],
+) -> u32
+    ensures { λ r. ⌜ r ≡ numberOf ((makeOf (now (words .entry)) (record { kind = kind; width = width; depth = depth; shift = shift; rows = rows; workers = workers })) .answer) ⌝ }
+    ensures { λ _. ⌜ now (words .exit) ≡ (makeOf (now (words .entry)) (record { kind = kind; width = width; depth = depth; shift = shift; rows = rows; workers = workers })) .words ⌝ }
+    ensures { λ _. ⌜ now (fields .exit) ≡ fieldsOf ((makeOf (now (words .entry)) (record { kind = kind; width = width; depth = depth; shift = shift; rows = rows; workers = workers })) .answer) ⌝ }
+{
+    let a = make(words, kind, width, depth, shift, rows, workers);
+    answered(a, fields)
+}
+
+#[no_mangle]
+pub extern "C" fn pool_begin_put(
+    words: &mut [u32],
+    worker: u32,
+    value: u32,
+    fields: &mut [u32; 5],
+) -> u32
+    ensures { λ r. ⌜ r ≡ numberOf ((beginPutOf (now (words .entry)) worker value) .answer) ⌝ }
+    ensures { λ _. ⌜ now (words .exit) ≡ (beginPutOf (now (words .entry)) worker value) .words ⌝ }
+    ensures { λ _. ⌜ now (fields .exit) ≡ fieldsOf ((beginPutOf (now (words .entry)) worker value) .answer) ⌝ }
+{
+    let a = begin_put(words, worker, value);
+    answered(a, fields)
+}
+
+#[no_mangle]
+pub extern "C" fn pool_begin_take(words: &mut [u32], worker: u32, fields: &mut [u32; 5]) -> u32
+    ensures { λ r. ⌜ r ≡ numberOf ((beginTakeOf (now (words .entry)) worker) .answer) ⌝ }
+    ensures { λ _. ⌜ now (words .exit) ≡ (beginTakeOf (now (words .entry)) worker) .words ⌝ }
+    ensures { λ _. ⌜ now (fields .exit) ≡ fieldsOf ((beginTakeOf (now (words .entry)) worker) .answer) ⌝ }
+{
+    let a = begin_take(words, worker);
+    answered(a, fields)
+}
+
+#[no_mangle]
+pub extern "C" fn pool_step(words: &mut [u32], worker: u32, fields: &mut [u32; 5]) -> u32
+    ensures { λ r. ⌜ r ≡ numberOf ((stepOf (now (words .entry)) worker) .answer) ⌝ }
+    ensures { λ _. ⌜ now (words .exit) ≡ (stepOf (now (words .entry)) worker) .words ⌝ }
+    ensures { λ _. ⌜ now (fields .exit) ≡ fieldsOf ((stepOf (now (words .entry)) worker) .answer) ⌝ }
+{
+    let a = step(words, worker);
+    answered(a, fields)
+}

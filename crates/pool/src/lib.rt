@@ -1,0 +1,15 @@
+// The pool on lent words: make, begin put, begin take and step, for all words.
+mod apply;
+mod begin;
+mod cells;
+mod distance;
+pub mod export;
+mod new;
+mod slot;
+mod view;
+mod work;
+
+pub use begin::begin_put;
+pub use begin::begin_take;
+pub use new::make;
+pub use work::step;
