@@ -1,7 +1,7 @@
 -- THE LISTING of a run file: its lines as numbers, and as text.
--- "For each answer 1 to 4 and each refusal it prints word position, number, worker, value, sub, row, stamp, distance.
+-- "For each answer 1 to 4 and each refusal it prints word position, number, worker, value, sub, row, stamp, distance. [..]
 -- The lister stops after 22, 28, 29, 30, else ends with held H worst D."
-use Prim.Native.Nat.{ℕ, zero, suc, _+_, _*_, _-_, max}
+use Prim.Native.Nat.{ℕ, _+_, _*_, _-_, max}
 use mathlib.Core.List.{List, [], _∷_, _++_}
 use mathlib.Core.Bool.{Bool, true, false}
 use lib.ListN.{length, replicate}
@@ -29,7 +29,7 @@ pub data Line : Type 0 where
   closing : ℕ → ℕ → Line
 
 -- ---- calls
--- the call that an item makes on the pool's words, with its answer; an opening and an end make none
+-- the call that an item makes on the pool's words, and its answer; the first word and the end word make none
 abbrev pub callOf : List ℕ → Item → Out
 callOf ws (Open opening) = out Moving ws
 callOf ws (Make g) = makeOf ws g
@@ -39,7 +39,7 @@ callOf ws (Step worker) = stepOf ws worker
 callOf ws End = out Moving ws
 callOf ws Bad = out Moving ws
 
--- the worker that is printed; 0 for make's refusal
+-- the worker that is printed: 0 for make's refusal
 abbrev pub workerOf : Item → ℕ
 workerOf (Open opening) = 0
 workerOf (Make g) = 0
@@ -49,20 +49,20 @@ workerOf (Step worker) = worker
 workerOf End = 0
 workerOf Bad = 0
 
--- ---- the distance
--- demand 3's bound on the distance of a take
-unfoldable pub boundOf : Settings → ℕ
-boundOf g = cond (eqb (g .kind) 0) ((g .width - 1) * g .depth) ((g .width - 1) * (2 * g .depth + 2 * g .shift))
+-- ---- distances
+-- demand 3's bound: the most items that a take may pass over
+unfoldable pub mostPassed : Settings → ℕ
+mostPassed g = cond (eqb (g .kind) 0) ((g .width - 1) * g .depth) ((g .width - 1) * (2 * g .depth + 2 * g .shift))
 
--- the bound of the pool that is made, once it is made
-abbrev pub boundAfter : Item → ℕ → ℕ
-boundAfter (Open opening) bound = bound
-boundAfter (Make g) bound = boundOf g
-boundAfter (BeginPut worker value) bound = bound
-boundAfter (BeginTake worker) bound = bound
-boundAfter (Step worker) bound = bound
-boundAfter End bound = bound
-boundAfter Bad bound = bound
+-- the bound after an item: that of the pool that was made last
+abbrev pub boundAfter : ℕ → Item → ℕ
+boundAfter bound (Open opening) = bound
+boundAfter bound (Make g) = mostPassed g
+boundAfter bound (BeginPut worker value) = bound
+boundAfter bound (BeginTake worker) = bound
+boundAfter bound (Step worker) = bound
+boundAfter bound End = bound
+boundAfter bound Bad = bound
 
 abbrev pub distanceIn : Answer → ℕ
 distanceIn Moving = 0
@@ -73,35 +73,45 @@ distanceIn Full = 0
 distanceIn (Refused n) = 0
 
 -- "A 30 is printed in place of that take's answer, its last five fields 0"
-abbrev pub numberIn : ℕ → Answer → ℕ
-numberIn bound a = cond (ltb bound (distanceIn a)) 30 (numberOf a)
-
-abbrev pub fieldsIn : ℕ → Answer → List ℕ
-fieldsIn bound a = cond (ltb bound (distanceIn a)) noFields (fieldsOf a)
+unfoldable pub cappedOf : ℕ → Answer → Answer
+cappedOf bound a = cond (ltb bound (distanceIn a)) (Refused 30) a
 
 -- ---- lines
--- what the lister has beside the file: the pool's words, the bound on a distance and the greatest one listed
+unfoldable pub stops : ℕ → Bool
+stops n = cond (eqb n 22) true (cond (eqb n 28) true (cond (eqb n 29) true (eqb n 30)))
+
+-- a line, and the lines after it unless its number stops the lister
+abbrev pub lineThen : ℕ → ℕ → ℕ → List ℕ → List Line → List Line
+lineThen position number worker fields rest = entry (position ∷ number ∷ worker ∷ fields) ∷ cond (stops number) [] rest
+
+-- the line of an answer, and the lines after it; the answer 0 has none
+abbrev pub answerThen : ℕ → ℕ → Answer → List Line → List Line
+answerThen position worker Moving rest = rest
+answerThen position worker (Put value sub row stamp) rest = lineThen position 1 worker (fieldsOf (Put value sub row stamp)) rest
+answerThen position worker (Taken value sub row stamp distance) rest = lineThen position 2 worker (fieldsOf (Taken value sub row stamp distance)) rest
+answerThen position worker Empty rest = lineThen position 3 worker noFields rest
+answerThen position worker Full rest = lineThen position 4 worker noFields rest
+answerThen position worker (Refused n) rest = lineThen position n worker noFields rest
+
+-- what the lister has beside the file: the pool's words, the bound on a distance, and the greatest distance listed
 pub record Pool : Type 0 where
   pub words : List ℕ
   pub bound : ℕ
   pub worst : ℕ
 
+-- the answer to an item's call, as it is listed
+abbrev pub answerTo : Pool → Item → Answer
+answerTo s item = cappedOf (boundAfter (s .bound) item) ((callOf (s .words) item) .answer)
+
 abbrev pub poolAfter : Pool → Item → Pool
 poolAfter s item =
     record {
       words = (callOf (s .words) item) .words;
-      bound = boundAfter item (s .bound);
-      worst = max (s .worst) (distanceIn ((callOf (s .words) item) .answer));
+      bound = boundAfter (s .bound) item;
+      worst = max (s .worst) (distanceIn (answerTo s item));
     }
 
-abbrev pub stops : ℕ → Bool
-stops n = cond (eqb n 22) true (cond (eqb n 28) true (cond (eqb n 29) true (eqb n 30)))
-
--- a line at position p, and the lines after it unless its number stops the lister; 0 is no line
-unfoldable pub linesBy : ℕ → ℕ → ℕ → List ℕ → List Line → List Line
-linesBy p n worker fields rest = cond (eqb n 0) rest (entry (p ∷ n ∷ worker ∷ fields) ∷ cond (stops n) [] rest)
-
--- the items held by a pool; the lister's words are always a fit pool
+-- the items that a pool holds; the lister's words are a fit pool once it is made
 unfoldable pub heldBy : List ℕ → Checked → ℕ
 heldBy ws (Unfit n) = 0
 heldBy ws (Fit g) = length (heldItems ws g)
@@ -109,25 +119,22 @@ heldBy ws (Fit g) = length (heldItems ws g)
 unfoldable pub heldOf : List ℕ → ℕ
 heldOf ws = heldBy ws (checkedOf ws)
 
--- the lines of a file's items from position p on, and of the fault that ends it, if one does
+-- the lines of a file's items from a position on, and of the fault that ends the file (0: none)
 unfoldable pub linesFrom : ℕ → Pool → List Item → ℕ → List Line
-linesFrom p s [] fault = linesBy p fault 0 noFields (closing (heldOf (s .words)) (s .worst) ∷ [])
-linesFrom p s (item ∷ items) fault =
-    linesBy p
-    (numberIn (boundAfter item (s .bound)) ((callOf (s .words) item) .answer))
-    (workerOf item)
-    (fieldsIn (boundAfter item (s .bound)) ((callOf (s .words) item) .answer))
-    (linesFrom (p + 1) (poolAfter s item) items fault)
+linesFrom position s [] fault =
+    cond (eqb fault 0) (closing (heldOf (s .words)) (s .worst) ∷ []) (lineThen position fault 0 noFields [])
+linesFrom position s (item ∷ items) fault =
+    answerThen position (workerOf item) (answerTo s item) (linesFrom (position + 1) (poolAfter s item) items fault)
 
 -- the words that the lister lends: enough for the largest pool, so that make never answers 21
 abbrev pub lentWords : ℕ
 lentWords = 12 + 2 * 16 + 8 * 32 + 2 * 4096
 
-abbrev pub newPool : Pool
-newPool = record { words = replicate lentWords 0; bound = 0; worst = 0 }
+abbrev pub noPool : Pool
+noPool = record { words = replicate lentWords 0; bound = 0; worst = 0 }
 
 unfoldable pub linesOf : List ℕ → List Line
-linesOf bytes = linesFrom 0 newPool ((fileOf bytes) .items) ((fileOf bytes) .fault)
+linesOf bytes = linesFrom 0 noPool ((fileOf bytes) .items) ((fileOf bytes) .fault)
 
 -- ---- text
 abbrev pub lineText : Line → List ℕ
@@ -138,5 +145,6 @@ unfoldable pub textOf : List Line → List ℕ
 textOf [] = []
 textOf (line ∷ lines) = lineText line ++ textOf lines
 
+-- from the bytes of a file to the bytes of its listing
 unfoldable pub listingOf : List ℕ → List ℕ
 listingOf bytes = textOf (linesOf bytes)

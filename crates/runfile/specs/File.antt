@@ -21,28 +21,27 @@ placeAfter (Step worker) = Later
 placeAfter End = Past
 placeAfter Bad = Past
 
--- a file that ends here: 28 before its end word, and no fault (0) after it
-abbrev pub endFault : Place → ℕ
-endFault First = 28
-endFault (Second opening) = 28
-endFault Later = 28
-endFault Past = 0
-
--- a file that ends in a word here: 28 before its end word, and after it bytes after the end
-abbrev pub cutFault : Place → ℕ
-cutFault First = 28
-cutFault (Second opening) = 28
-cutFault Later = 28
-cutFault Past = 29
+-- the number of the fault where a reader yields no word: 28 for a file that ends, or ends in a word, before its end word;
+-- after it none (0) for a file that ends, and 29 for bytes after the end
+abbrev pub faultOf : Place → Read → ℕ
+faultOf place (Word word) = 0
+faultOf First Cut = 28
+faultOf (Second opening) Cut = 28
+faultOf Later Cut = 28
+faultOf Past Cut = 29
+faultOf First NoMore = 28
+faultOf (Second opening) NoMore = 28
+faultOf Later NoMore = 28
+faultOf Past NoMore = 0
 
 pub record File : Type 0 where
   pub items : List Item
   pub fault : ℕ
 
-abbrev pub ends : ℕ → File
+abbrev ends : ℕ → File
 ends fault = record { items = []; fault = fault }
 
-abbrev pub goesOn : Item → File → File
+abbrev goesOn : Item → File → File
 goesOn item rest = record { items = item ∷ rest .items; fault = rest .fault }
 
 -- a word's item before the rest of the file; a bad one ends it
@@ -57,9 +56,9 @@ joins Bad rest = ends 29
 
 -- what is left of a file says at a place
 unfoldable pub fileFrom : Place → List Read → File
-fileFrom place [] = ends (endFault place)
-fileFrom place (NoMore ∷ reads) = ends (endFault place)
-fileFrom place (Cut ∷ reads) = ends (cutFault place)
+fileFrom place [] = ends (faultOf place NoMore)
+fileFrom place (NoMore ∷ reads) = ends (faultOf place NoMore)
+fileFrom place (Cut ∷ reads) = ends (faultOf place Cut)
 fileFrom place (Word word ∷ reads) = joins (itemOf place word) (fileFrom (placeAfter (itemOf place word)) reads)
 
 unfoldable pub fileOf : List ℕ → File

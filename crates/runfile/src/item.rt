@@ -1,7 +1,9 @@
 // What a word of a run file says at its place.
+use crate::word::Read;
 use rules::Settings;
 ghost use mathlib.Core.Path.{_≡_};
 ghost use Rattle.runfile.specs.Items.{firstOf, secondOf, laterOf, itemOf};
+ghost use Rattle.runfile.specs.File.{faultOf};
 
 // Bit k as a number: dividing by it drops the k bits below, and the remainder keeps them.
 const BIT_1: u32 = 1 << 1;
@@ -134,5 +136,26 @@ pub fn decode(place: Place, word: u32) -> Item
         Place::Second(opening) => second(opening, word),
         Place::Later => later(word),
         Place::Past => Item::Bad,
+    }
+}
+
+// The fault where the reader yields no word: paper 01's 28 or 29, or 0 where the file ends after its end word.
+pub fn fault(place: Place, read: Read) -> u32
+    ensures { λ r. ⌜ r ≡ faultOf place read ⌝ }
+{
+    match read {
+        Read::Word(_) => 0,
+        Read::Cut => match place {
+            Place::First => 28,
+            Place::Second(_) => 28,
+            Place::Later => 28,
+            Place::Past => 29,
+        },
+        Read::End => match place {
+            Place::First => 28,
+            Place::Second(_) => 28,
+            Place::Later => 28,
+            Place::Past => 0,
+        },
     }
 }
