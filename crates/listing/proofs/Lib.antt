@@ -1,1 +1,2 @@
 pub mod HeldRows
+pub mod Whole
