@@ -1,2 +1,3 @@
 pub mod HeldRows
 pub mod Whole
+pub mod Stretches

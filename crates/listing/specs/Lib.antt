@@ -1,3 +1,4 @@
 pub mod Listing
 pub mod Turn
 pub mod Turns
+pub mod Stretch
