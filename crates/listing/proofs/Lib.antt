@@ -1,3 +1,4 @@
 pub mod HeldRows
 pub mod Whole
 pub mod Stretches
+pub mod Pieces

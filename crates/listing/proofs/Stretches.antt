@@ -21,6 +21,14 @@ goes-room s room = go (s .complete)
     go true e = absurd (false≢true e)
     go false e = leb-true _ _ e
 
+pub goes-incomplete : (s : Stretch) (room : ℕ) → goesOn s room ≡ true → s .complete ≡ false
+unfolding goesOn cond
+goes-incomplete s room = go (s .complete)
+  where
+    go : (b : Bool) → cond b false (leb (s .used + lineBytes) room) ≡ true → b ≡ false
+    go true e = absurd (false≢true e)
+    go false e = refl
+
 pub stretch-on : (turns : ℕ) (src : List ℕ) (s next : Stretched) → s .stretch .at < turns → goesOn (s .stretch) (length (s .out)) ≡ true → next ≡ stretchTurn src s
     → stretchFrom (turns - next .stretch .at) src next ≡ stretchFrom (turns - s .stretch .at) src s
 unfolding stretchTurn stretchFrom cond
