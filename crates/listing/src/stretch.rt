@@ -42,7 +42,7 @@ pub fn begin() -> Stretch
 // Puts a text into the output at `used`; where it ends.
 fn append(out: &mut [u8], used: usize, text: &[u8]) -> usize
     requires { ⌜ used + length (now text) ≤ length (now out) ⌝ }
-    ensures { λ r. ⌜ (r ≡ used + length (now (text .entry))) × (now (out .exit) ≡ putAt (now (out .entry)) used (now (text .entry))) ⌝ }
+    ensures { λ r. ⌜ (r ≡ used + length (now (text .entry))) × (now (out .exit) ≡ putAt (now (out .entry)) used (now (text .entry))) × (r ≤ length (now (out .entry))) ⌝ }
 {
     let mut i: usize = 0;
     while i < text.len() {
@@ -54,7 +54,7 @@ fn append(out: &mut [u8], used: usize, text: &[u8]) -> usize
 
 fn append_entry(out: &mut [u8], used: usize, e: Entry) -> usize
     requires { ⌜ used + lineBytes ≤ length (now out) ⌝ }
-    ensures { λ r. ⌜ (r ≡ used + length (lineOf (numbersOf e))) × (now (out .exit) ≡ putAt (now (out .entry)) used (lineOf (numbersOf e))) ⌝ }
+    ensures { λ r. ⌜ (r ≡ used + length (lineOf (numbersOf e))) × (now (out .exit) ≡ putAt (now (out .entry)) used (lineOf (numbersOf e))) × (r ≤ length (now (out .entry))) ⌝ }
 {
     let mut area = [0u8; LINE_BYTES];
     append(out, used, entry_text(&mut area, e))
@@ -62,7 +62,7 @@ fn append_entry(out: &mut [u8], used: usize, e: Entry) -> usize
 
 fn append_closing(out: &mut [u8], used: usize, held: u32, worst: u32) -> usize
     requires { ⌜ used + lineBytes ≤ length (now out) ⌝ }
-    ensures { λ r. ⌜ (r ≡ used + length (closingOf held worst)) × (now (out .exit) ≡ putAt (now (out .entry)) used (closingOf held worst)) ⌝ }
+    ensures { λ r. ⌜ (r ≡ used + length (closingOf held worst)) × (now (out .exit) ≡ putAt (now (out .entry)) used (closingOf held worst)) × (r ≤ length (now (out .entry))) ⌝ }
 {
     let mut area = [0u8; LINE_BYTES];
     append(out, used, closing_text(&mut area, held, worst))
@@ -71,7 +71,7 @@ fn append_closing(out: &mut [u8], used: usize, held: u32, worst: u32) -> usize
 // Puts what a turn prints into the output at `used`; where it ends.
 fn append_listed(out: &mut [u8], used: usize, listed: Listed) -> usize
     requires { ⌜ used + lineBytes ≤ length (now out) ⌝ }
-    ensures { λ r. ⌜ (r ≡ used + length (listedText listed)) × (now (out .exit) ≡ putAt (now (out .entry)) used (listedText listed)) ⌝ }
+    ensures { λ r. ⌜ (r ≡ used + length (listedText listed)) × (now (out .exit) ≡ putAt (now (out .entry)) used (listedText listed)) × (r ≤ length (now (out .entry))) ⌝ }
 {
     match listed {
         Listed::Nothing => used,
@@ -113,6 +113,7 @@ fn turn(words: &mut [u32], s: Stretch, src: &[u8], out: &mut [u8]) -> Stretch
     requires { ⌜ s .at < 2 ^ 63 ⌝ }
     requires { ⌜ s .used + lineBytes ≤ length (now out) ⌝ }
     ensures { λ r. ⌜ stretched r (now (words .exit)) (now (out .exit)) ≡ stretchTurn (now (src .entry)) (stretched s (now (words .entry)) (now (out .entry))) ⌝ }
+    ensures { λ r. ⌜ r .used ≤ length (now (out .entry)) ⌝ }
 {
     let lister = s.lister;
     let t = list_next(words, lister, src, s.at);
@@ -140,6 +141,7 @@ fn turns_in(src: &[u8], last: bool) -> usize
 
 // Lists the words of `src` from the stretch's position on, into the output after what is used of it, until the listing is complete,
 // the output may lack room for a line, or the words end. Where `src` is the last of its file, the file's end is listed too.
+// What is used lies inside the output, so that the caller can write it.
 pub fn list_words(
     words: &mut [u32],
     from: Stretch,
@@ -147,7 +149,8 @@ pub fn list_words(
     last: bool,
     out: &mut [u8],
 ) -> Stretch
-    ensures { λ r. ⌜ stretched r (now (words .exit)) (now (out .exit)) ≡ stretchOf (now (src .entry)) last (stretched from (now (words .entry)) (now (out .entry))) ⌝ }
+    ensures lists { λ r. ⌜ stretched r (now (words .exit)) (now (out .exit)) ≡ stretchOf (now (src .entry)) last (stretched from (now (words .entry)) (now (out .entry))) ⌝ }
+    ensures inside { λ r. ⌜ (from .used ≤ length (now (out .entry)) → r .used ≤ length (now (out .entry))) ⌝ }
 {
     let turns = turns_in(src, last);
     let mut s = from;

@@ -53,7 +53,7 @@ returns c =
     let l = c .before .loop in
     let a = c .before .before .args in
     let all : l .i ≡ length (a .text .now) = omega arith in
-    (omega arith, rw all at (l .inv .2))
+    (omega arith, rw all at (l .inv .2), omega arith)
 
 pub append-spec : {M : Type 1} → statement M
 append-spec =

@@ -27,7 +27,7 @@ append-closing-requires : tie.Need-append-closing-requires
 append-closing-requires c κs = search needs
 
 returns : tie.Need-returns
-returns c = rw (c .enum-told .given .1) (omega arith, paste-zero (c .before .before .before .args .out .now) (c .before .before .before .args .used) [])
+returns c = rw (c .enum-told .given .1) (omega arith, paste-zero (c .before .before .before .args .out .now) (c .before .before .before .args .used) [], omega arith)
 
 same-length : tie.Need-same-length
 same-length c = search needs

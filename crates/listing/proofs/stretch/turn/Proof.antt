@@ -23,7 +23,7 @@ same-length-2 c = search needs
 
 returns : tie.Need-returns
 unfolding stretchTurn
-returns c = simp (← c .before .before .before .before .before .before .before .before .before .list-next .ensures, c .ends .ensures, c .before .before .before .before .append-listed .ensures .0, c .before .before .before .before .append-listed .ensures .1)
+returns c = (simp (← c .before .before .before .before .before .before .before .before .before .list-next .ensures, c .ends .ensures, c .before .before .before .before .append-listed .ensures .0, c .before .before .before .before .append-listed .ensures .1), c .before .before .before .before .append-listed .ensures .2)
 
 pub turn-spec : {M : Type 1} → statement M
 turn-spec =
