@@ -1,23 +1,16 @@
 -- ONE WORD AT A TIME GIVES THE LISTING: the turns over a file, in order, print exactly its lines (`turns-list`).
 -- By induction on the bytes, four at a time. A turn at a word is the first step of `linesFrom` at the word's item: `answer-lines` says so of
 -- every answer, and the items differ in their calls alone. The lister after a turn is that of the next word, since no file has 2^64 words.
-use Prim.Native.Nat.{ℕ, zero, suc, _+_, _/_, _%_, _^_, _<_, _≤_, max, zero-le}
+use Prim.Native.Nat.{ℕ, zero, suc, _+_, _/_, _%_, _^_, _<_, _≤_, max}
 use mathlib.Core.Bool.{Bool, true, false}
 use mathlib.Core.List.{List, [], _∷_}
 use mathlib.Core.Path.{_≡_, refl, sym, ap, _∙_}
 use native.Mathlib.Nat.{max-zero, mod-eq-of-lt}
-use native.Mathlib.Numerals.{add-one}
 use native.Mathlib.Omega.{arith}
-use borrow.Author.Tests.{le-ltb, eq-eqb}
-use lib.Dec.{ltb, eqb}
+use lib.Dec.{eqb}
 use lib.ListN.{length, replicate}
 use Rattle.laws.specs.Choice.{cond}
-use Rattle.rules.specs.Answers.{Out, out, noFields}
-use Rattle.rules.specs.Limits.{settingsFit}
-use Rattle.rules.specs.Make.{makeOf}
-use Rattle.rules.specs.Begin.{beginPutOf, beginTakeOf}
-use Rattle.rules.specs.Step.{stepOf}
-use Rattle.rules.specs.declared.Settings.{Settings}
+use Rattle.rules.specs.Answers.{noFields}
 use Rattle.rules.specs.declared.Answer.{Answer}
 use Rattle.rules.specs.declared.Answer.the-variants.{Moving, Put, Taken, Empty, Full, Refused}
 use Rattle.runfile.specs.Words.{wordOf, readsOf, readAt}
@@ -26,13 +19,12 @@ use Rattle.runfile.specs.File.{File, faultOf, placeAfter, joins, fileFrom, file
 use Rattle.runfile.specs.declared.word.Read.{Read}
 use Rattle.runfile.specs.declared.word.Read.the-variants.{Word, Cut, End as NoMore}
 use Rattle.runfile.specs.declared.item.Place.{Place}
-use Rattle.runfile.specs.declared.item.Place.the-variants.{First, Second, Later, Past}
 use Rattle.runfile.specs.declared.item.Item.{Item}
 use Rattle.runfile.specs.declared.item.Item.the-variants.{Open, Make, BeginPut, BeginTake, Step, End, Bad}
 use Rattle.lines.specs.Lines.{numbersOf}
 use Rattle.lines.specs.declared.line.Entry.{Entry}
-use Rattle.listing.specs.Listing.{Line, entry, closing, Pool, mostPassed, distanceIn, cappedOf, stops, lineThen, answerThen, heldOf, linesFrom, lentWords, linesOf}
-use Rattle.listing.specs.Turn.{Turned, turned, placed, onward, plain, lineTurn, answerTurn, cappedTurn, callTurn, boundIn, makeTurn, itemTurn, wordTurn, endTurn, turnOf, newLister}
+use Rattle.listing.specs.Listing.{Line, entry, closing, callOf, distanceIn, cappedOf, stops, lineThen, answerThen, heldOf, linesFrom, lentWords, linesOf}
+use Rattle.listing.specs.Turn.{Turned, onward, plain, lineTurn, answerTurn, cappedTurn, callTurn, itemTurn, wordTurn, endTurn, turnOf, newLister}
 use Rattle.listing.specs.Turns.{listedThen, turnsFrom, turnsOf}
 use Rattle.listing.specs.declared.answer.Lister.{Lister}
 use Rattle.listing.specs.declared.answer.Listed.the-variants.{Line as OneLine, Last, Closing}
@@ -67,17 +59,6 @@ answer-lines k l worker Empty = line-lines k l _
 answer-lines k l worker Full = line-lines k l _
 answer-lines k l worker (Refused n) = line-lines k l _
 
--- an answer with no distance is listed as it is
-capped-none : (bound : ℕ) (a : Answer) → distanceIn a ≡ 0 → cappedOf bound a ≡ a
-unfolding cappedOf cond
-capped-none bound a e = rw (e, le-ltb bound 0 zero-le)
-
--- settings off limits end the listing: neither a bound nor the lines after it matter
-unmade : (position : ℕ) (g : Settings) (ws : List ℕ) → settingsFit g ≡ false → (b c : ℕ) (x y : List Line)
-    → answerThen position 0 (cappedOf b ((makeOf ws g) .answer)) x ≡ answerThen position 0 (cappedOf c ((makeOf ws g) .answer)) y
-unfolding makeOf stops cond
-unmade position g ws e b c x y = rw (e, capped-none b (Refused 22) refl, capped-none c (Refused 22) refl)
-
 -- ---- an item
 -- what the file's lines are from the lister's place on
 abbrev meant : List ℕ → List ℕ → Lister → List Line
@@ -93,51 +74,35 @@ module _ (n : ℕ) (rest : List ℕ) (ih : (ws : List ℕ) (l : Lister) → l .p
     (ws : List ℕ) (l : Lister) (few : l .position + 4 + length rest < 2 ^ 64) where
   -- the turns after one that goes on at a place, with a bound
   later : (ws′ : List ℕ) (place : Place) (bound worst : ℕ)
-      → turnsFrom n rest 0 ws′ (onward (record { place = place; position = l .position; worst = 0; bound = bound }) worst)
+      → turnsFrom n rest 0 ws′ (onward (record { place = place; position = l .position; worst = l .worst; bound = bound }) worst)
       ≡ linesFrom (l .position + 1) (record { words = ws′; bound = bound; worst = worst }) ((fileFrom place (readsOf rest)) .items) ((fileFrom place (readsOf rest)) .fault)
   later ws′ place bound worst =
       let next : (l .position + 1) % 2 ^ 64 ≡ l .position + 1 = mod-eq-of-lt (omega arith) in
       ih ws′ (record { place = place; position = (l .position + 1) % 2 ^ 64; worst = worst; bound = bound }) (rw next (omega arith)) ∙ rw next
 
-  -- a call by a lister at `place` with `bound`
-  call : (place : Place) (bound worker : ℕ) (o : Out)
-      → turnThen n rest (callTurn (record { place = place; position = l .position; worst = l .worst; bound = bound }) worker o)
-      ≡ answerThen (l .position) worker (cappedOf bound (o .answer))
-      (linesFrom (l .position + 1) (record { words = o .words; bound = bound; worst = max (l .worst) (distanceIn (cappedOf bound (o .answer))) })
-      ((fileFrom place (readsOf rest)) .items) ((fileFrom place (readsOf rest)) .fault))
-  unfolding cappedTurn
-  call place bound worker o =
-      answer-lines (λ l′. turnsFrom n rest 0 (o .words) l′) (record { place = place; position = l .position; worst = l .worst; bound = bound }) worker (cappedOf bound (o .answer))
-      ∙ ap (answerThen (l .position) worker (cappedOf bound (o .answer))) (later (o .words) place bound _)
-
-  -- no call
-  none : (place : Place)
-      → turnsFrom n rest 0 ws (onward (placed l place) (l .worst))
-      ≡ answerThen (l .position) 0 (cappedOf (l .bound) Moving)
-      (linesFrom (l .position + 1) (record { words = ws; bound = l .bound; worst = max (l .worst) (distanceIn (cappedOf (l .bound) Moving)) })
-      ((fileFrom place (readsOf rest)) .items) ((fileFrom place (readsOf rest)) .fault))
-  none place = rw (capped-none (l .bound) Moving refl, max-zero) (later ws place (l .bound) (l .worst))
-
-  made : (g : Settings) (b : Bool) → settingsFit g ≡ b
-      → turnThen n rest (makeTurn ws l g)
-      ≡ answerThen (l .position) 0 (cappedOf (mostPassed g) ((makeOf ws g) .answer))
-      (linesFrom (l .position + 1) (record { words = (makeOf ws g) .words; bound = mostPassed g; worst = max (l .worst) (distanceIn (cappedOf (mostPassed g) ((makeOf ws g) .answer))) })
-      ((fileFrom Later (readsOf rest)) .items) ((fileFrom Later (readsOf rest)) .fault))
-  unfolding makeTurn boundIn cond
-  made g true e = rw e (call Later (mostPassed g) 0 (makeOf ws g))
-  made g false e = rw e (call Later 0 0 (makeOf ws g) ∙ unmade (l .position) g ws e 0 (mostPassed g) _ _)
+  -- the turn of an item that goes on
+  good : (item : Item)
+      → turnThen n rest (callTurn ws l item)
+      ≡ linesFrom (l .position) (record { words = ws; bound = l .bound; worst = l .worst })
+      (item ∷ (fileFrom (placeAfter item) (readsOf rest)) .items) ((fileFrom (placeAfter item) (readsOf rest)) .fault)
+  unfolding cappedTurn linesFrom
+  good item =
+      let c = callOf ws (l .bound) item in
+      let a = cappedOf (c .bound) (c .out .answer) in
+      answer-lines (λ l′. turnsFrom n rest 0 (c .out .words) l′) (record { place = placeAfter item; position = l .position; worst = l .worst; bound = c .bound }) (c .worker) a
+      ∙ ap (answerThen (l .position) (c .worker) a) (later (c .out .words) (placeAfter item) (c .bound) (max (l .worst) (distanceIn a)))
 
   by-item : (item : Item)
       → turnThen n rest (itemTurn ws l item)
       ≡ linesFrom (l .position) (record { words = ws; bound = l .bound; worst = l .worst })
       ((joins item (fileFrom (placeAfter item) (readsOf rest))) .items) ((joins item (fileFrom (placeAfter item) (readsOf rest))) .fault)
   unfolding itemTurn linesFrom stops cond
-  by-item (Open opening) = none (Second opening)
-  by-item (Make g) = made g (settingsFit g) refl
-  by-item (BeginPut worker value) = call Later (l .bound) worker (beginPutOf ws worker value)
-  by-item (BeginTake worker) = call Later (l .bound) worker (beginTakeOf ws worker)
-  by-item (Step worker) = call Later (l .bound) worker (stepOf ws worker)
-  by-item End = none Past
+  by-item (Open opening) = good (Open opening)
+  by-item (Make g) = good (Make g)
+  by-item (BeginPut worker value) = good (BeginPut worker value)
+  by-item (BeginTake worker) = good (BeginTake worker)
+  by-item (Step worker) = good (Step worker)
+  by-item End = good End
   by-item Bad = line-lines (λ l′. turnsFrom n rest 0 ws l′) l (plain (l .position) 29 0)
 
 -- ---- a file

@@ -8,6 +8,7 @@ use lib.ListN.{length, replicate}
 use lib.Dec.{eqb, ltb}
 use Rattle.laws.specs.Choice.{cond}
 use Rattle.rules.specs.Answers.{Out, out, numberOf, fieldsOf, noFields}
+use Rattle.rules.specs.Limits.{settingsFit}
 use Rattle.rules.specs.Fit.{checkedOf}
 use Rattle.rules.specs.Make.{makeOf}
 use Rattle.rules.specs.Begin.{beginPutOf, beginTakeOf}
@@ -29,41 +30,34 @@ pub data Line : Type 0 where
   closing : ℕ → ℕ → Line
 
 -- ---- calls
--- the call that an item makes on the pool's words, and its answer; the first word and the end word make none
-abbrev pub callOf : List ℕ → Item → Out
-callOf ws (Open opening) = out Moving ws
-callOf ws (Make g) = makeOf ws g
-callOf ws (BeginPut worker value) = beginPutOf ws worker value
-callOf ws (BeginTake worker) = beginTakeOf ws worker
-callOf ws (Step worker) = stepOf ws worker
-callOf ws End = out Moving ws
-callOf ws Bad = out Moving ws
-
--- the worker that is printed: 0 for make's refusal
-abbrev pub workerOf : Item → ℕ
-workerOf (Open opening) = 0
-workerOf (Make g) = 0
-workerOf (BeginPut worker value) = worker
-workerOf (BeginTake worker) = worker
-workerOf (Step worker) = worker
-workerOf End = 0
-workerOf Bad = 0
-
--- ---- distances
--- demand 3's bound: the most items that a take may pass over
+-- demand 3's bound on a distance: the most items that a take may pass over
 unfoldable pub mostPassed : Settings → ℕ
 mostPassed g = cond (eqb (g .kind) 0) ((g .width - 1) * g .depth) ((g .width - 1) * (2 * g .depth + 2 * g .shift))
 
--- the bound after an item: that of the pool that was made last
-abbrev pub boundAfter : ℕ → Item → ℕ
-boundAfter bound (Open opening) = bound
-boundAfter bound (Make g) = mostPassed g
-boundAfter bound (BeginPut worker value) = bound
-boundAfter bound (BeginTake worker) = bound
-boundAfter bound (Step worker) = bound
-boundAfter bound End = bound
-boundAfter bound Bad = bound
+-- the bound of the pool of some settings; none is made of settings off limits
+unfoldable pub boundIn : Settings → ℕ
+boundIn g = cond (settingsFit g) (mostPassed g) 0
 
+-- what an item asks of the pool: the worker that is printed, the bound from then on, and the call's answer and words
+pub record Call : Type 0 where
+  pub worker : ℕ
+  pub bound : ℕ
+  pub out : Out
+
+abbrev call : ℕ → ℕ → Out → Call
+call worker bound o = record { worker = worker; bound = bound; out = o }
+
+-- the calls on the pool's words; the first word and the end word make none
+abbrev pub callOf : List ℕ → ℕ → Item → Call
+callOf ws bound (Open opening) = call 0 bound (out Moving ws)
+callOf ws bound (Make g) = call 0 (boundIn g) (makeOf ws g)
+callOf ws bound (BeginPut worker value) = call worker bound (beginPutOf ws worker value)
+callOf ws bound (BeginTake worker) = call worker bound (beginTakeOf ws worker)
+callOf ws bound (Step worker) = call worker bound (stepOf ws worker)
+callOf ws bound End = call 0 bound (out Moving ws)
+callOf ws bound Bad = call 0 bound (out Moving ws)
+
+-- ---- distances
 abbrev pub distanceIn : Answer → ℕ
 distanceIn Moving = 0
 distanceIn (Put value sub row stamp) = 0
@@ -99,18 +93,6 @@ pub record Pool : Type 0 where
   pub bound : ℕ
   pub worst : ℕ
 
--- the answer to an item's call, as it is listed
-abbrev pub answerTo : Pool → Item → Answer
-answerTo s item = cappedOf (boundAfter (s .bound) item) ((callOf (s .words) item) .answer)
-
-abbrev pub poolAfter : Pool → Item → Pool
-poolAfter s item =
-    record {
-      words = (callOf (s .words) item) .words;
-      bound = boundAfter (s .bound) item;
-      worst = max (s .worst) (distanceIn (answerTo s item));
-    }
-
 -- the items that a pool holds; the lister's words are a fit pool once it is made
 unfoldable pub heldBy : List ℕ → Checked → ℕ
 heldBy ws (Unfit n) = 0
@@ -124,7 +106,10 @@ unfoldable pub linesFrom : ℕ → Pool → List Item → ℕ → List Line
 linesFrom position s [] fault =
     cond (eqb fault 0) (closing (heldOf (s .words)) (s .worst) ∷ []) (lineThen position fault 0 noFields [])
 linesFrom position s (item ∷ items) fault =
-    answerThen position (workerOf item) (answerTo s item) (linesFrom (position + 1) (poolAfter s item) items fault)
+    let c = callOf (s .words) (s .bound) item in
+    let a = cappedOf (c .bound) (c .out .answer) in
+    answerThen position (c .worker) a
+    (linesFrom (position + 1) (record { words = c .out .words; bound = c .bound; worst = max (s .worst) (distanceIn a) }) items fault)
 
 -- the words that the lister lends: enough for the largest pool, so that make never answers 21
 abbrev pub lentWords : ℕ

@@ -4,24 +4,18 @@ use Prim.Native.Nat.{ℕ, _+_, _%_, _^_, max}
 use mathlib.Core.List.{List}
 use lib.Dec.{eqb}
 use Rattle.laws.specs.Choice.{cond}
-use Rattle.rules.specs.Answers.{Out}
-use Rattle.rules.specs.Limits.{settingsFit}
-use Rattle.rules.specs.Make.{makeOf}
-use Rattle.rules.specs.Begin.{beginPutOf, beginTakeOf}
-use Rattle.rules.specs.Step.{stepOf}
-use Rattle.rules.specs.declared.Settings.{Settings}
 use Rattle.rules.specs.declared.Answer.{Answer}
 use Rattle.rules.specs.declared.Answer.the-variants.{Moving, Put, Taken, Empty, Full, Refused}
 use Rattle.runfile.specs.Items.{itemOf}
-use Rattle.runfile.specs.File.{faultOf}
+use Rattle.runfile.specs.File.{faultOf, placeAfter}
 use Rattle.runfile.specs.declared.word.Read.{Read}
 use Rattle.runfile.specs.declared.word.Read.the-variants.{Word, Cut, End as NoMore}
 use Rattle.runfile.specs.declared.item.Place.{Place}
-use Rattle.runfile.specs.declared.item.Place.the-variants.{First, Second, Later, Past}
+use Rattle.runfile.specs.declared.item.Place.the-variants.{First}
 use Rattle.runfile.specs.declared.item.Item.{Item}
 use Rattle.runfile.specs.declared.item.Item.the-variants.{Open, Make, BeginPut, BeginTake, Step, End, Bad}
 use Rattle.lines.specs.declared.line.Entry.{Entry}
-use Rattle.listing.specs.Listing.{mostPassed, cappedOf, stops, heldOf}
+use Rattle.listing.specs.Listing.{callOf, cappedOf, stops, heldOf}
 use Rattle.listing.specs.declared.answer.Lister.{Lister}
 use Rattle.listing.specs.declared.answer.Listed.{Listed}
 use Rattle.listing.specs.declared.answer.Listed.the-variants.{Nothing, Line, Last, Closing}
@@ -77,23 +71,20 @@ answerTurn l worker (Refused n) = lineTurn l (plain (l .position) n worker)
 unfoldable pub cappedTurn : Lister → ℕ → Answer → Turn
 cappedTurn l worker a = answerTurn l worker (cappedOf (l .bound) a)
 
-abbrev pub callTurn : Lister → ℕ → Out → Turned
-callTurn l worker o = turned (cappedTurn l worker (o .answer)) (o .words)
+-- the turn of an item: its call is answered, and the lister is at the next place
+abbrev pub callTurn : List ℕ → Lister → Item → Turned
+callTurn ws l item =
+    let c = callOf ws (l .bound) item in
+    turned (cappedTurn (record { place = placeAfter item; position = l .position; worst = l .worst; bound = c .bound }) (c .worker) (c .out .answer)) (c .out .words)
 
--- the bound where a pool can be made
-unfoldable pub boundIn : Settings → ℕ
-boundIn g = cond (settingsFit g) (mostPassed g) 0
-
-unfoldable pub makeTurn : List ℕ → Lister → Settings → Turned
-makeTurn ws l g = callTurn (record { place = Later; position = l .position; worst = l .worst; bound = boundIn g }) 0 (makeOf ws g)
-
+-- a bad item ends the listing
 unfoldable pub itemTurn : List ℕ → Lister → Item → Turned
-itemTurn ws l (Open opening) = turned (quietTurn (placed l (Second opening))) ws
-itemTurn ws l (Make g) = makeTurn ws l g
-itemTurn ws l (BeginPut worker value) = callTurn (placed l Later) worker (beginPutOf ws worker value)
-itemTurn ws l (BeginTake worker) = callTurn (placed l Later) worker (beginTakeOf ws worker)
-itemTurn ws l (Step worker) = callTurn (placed l Later) worker (stepOf ws worker)
-itemTurn ws l End = turned (quietTurn (placed l Past)) ws
+itemTurn ws l (Open opening) = callTurn ws l (Open opening)
+itemTurn ws l (Make g) = callTurn ws l (Make g)
+itemTurn ws l (BeginPut worker value) = callTurn ws l (BeginPut worker value)
+itemTurn ws l (BeginTake worker) = callTurn ws l (BeginTake worker)
+itemTurn ws l (Step worker) = callTurn ws l (Step worker)
+itemTurn ws l End = callTurn ws l End
 itemTurn ws l Bad = turned (lineTurn l (plain (l .position) 29 0)) ws
 
 unfoldable pub wordTurn : List ℕ → Lister → ℕ → Turned

@@ -17,8 +17,8 @@ use runfile::reader::read_word;
 use runfile::word::Read;
 ghost use mathlib.Core.Path.{_≡_};
 ghost use Rattle.rules.specs.Limits.{Bounds};
-ghost use Rattle.listing.specs.Listing.{mostPassed};
-ghost use Rattle.listing.specs.Turn.{turned, newLister, placed, boundIn, makeTurn, wordTurn, endTurn, turnOf};
+ghost use Rattle.listing.specs.Listing.{mostPassed, boundIn};
+ghost use Rattle.listing.specs.Turn.{turned, newLister, placed, callTurn, wordTurn, endTurn, turnOf};
 ghost use Rattle.runfile.specs.Words.{readAt};
 
 // The lister before a file's first word.
@@ -66,7 +66,7 @@ fn bound_in(g: Settings) -> u32
 
 // The second word: the pool is made. The lister lends enough words for the largest pool, so of make's refusals a run file meets 22 alone.
 fn make(words: &mut [u32], l: Lister, g: Settings) -> Turn
-    ensures { λ r. ⌜ turned r (now (words .exit)) ≡ makeTurn (now (words .entry)) l g ⌝ }
+    ensures { λ r. ⌜ turned r (now (words .exit)) ≡ callTurn (now (words .entry)) l (Item.Make g) ⌝ }
 {
     let a = pool::make(words, g.kind, g.width, g.depth, g.shift, g.rows, g.workers);
     let made = Lister {

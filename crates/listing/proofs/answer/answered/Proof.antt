@@ -1,3 +1,4 @@
+-- `listing::answer::answered` meets its contract: a line for each answer but 0. Assumes nothing.
 use mathlib.Core.Path.{_∙_}
 use Rattle.listing.specs.Turn.{answerTurn}
 use borrow.Author.Needs.{needs}

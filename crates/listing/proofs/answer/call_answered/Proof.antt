@@ -1,3 +1,4 @@
+-- `listing::answer::call_answered` meets its contract: the test of the definition is that of the branch. Assumes nothing.
 use mathlib.Core.Path.{_∙_}
 use Rattle.laws.specs.Choice.{cond}
 use borrow.Author.Tests.{lt-ltb, le-ltb}

@@ -1,3 +1,4 @@
+-- `listing::answer::distance_in` meets its contract, case by case. Assumes nothing.
 use borrow.Author.Needs.{needs}
 use Rattle.listing.proofs.answer.distance_in.Statement.{statement}
 use Rattle.listing.proofs.answer.distance_in.Tie as tie

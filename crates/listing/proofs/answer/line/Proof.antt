@@ -1,3 +1,4 @@
+-- `listing::answer::line` meets its contract: the test of the definition is that of the branch. Assumes nothing.
 use Rattle.laws.specs.Choice.{cond}
 use Rattle.listing.specs.Turn.{lineTurn}
 use borrow.Author.Needs.{needs}

@@ -1,3 +1,4 @@
+-- `listing::answer::quiet` meets its contract: the wrapping sum is the next position. Assumes nothing.
 use borrow.Author.Needs.{needs}
 use Rattle.listing.proofs.answer.quiet.Statement.{statement}
 use Rattle.listing.proofs.answer.quiet.Tie as tie

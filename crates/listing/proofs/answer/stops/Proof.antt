@@ -1,3 +1,4 @@
+-- `listing::answer::stops` meets its contract: the tests of the definition are those of the branches. Assumes nothing.
 use Rattle.laws.specs.Tests.{tests}
 use Rattle.laws.specs.Choice.{cond}
 use Rattle.listing.specs.Listing.{stops}

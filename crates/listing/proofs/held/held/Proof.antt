@@ -1,3 +1,4 @@
+-- `listing::held::held` meets its contract: words that are checked fit are a fit pool, and its items are counted; of other words none. Assumes nothing.
 use mathlib.Core.Path.{sym, _∙_}
 use Rattle.rules.proofs.Fitness.{fit-pool}
 use Rattle.listing.specs.Listing.{heldBy, heldOf}

@@ -1,3 +1,4 @@
+-- `listing::held::sub_held` meets its contract: in a queue the rows taken are not held. Assumes nothing.
 use Rattle.laws.specs.Tests.{tests}
 use Rattle.laws.specs.Choice.{cond}
 use borrow.Author.Tests.{ne-eqb}

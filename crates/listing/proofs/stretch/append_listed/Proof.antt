@@ -1,3 +1,4 @@
+-- `listing::stretch::append_listed` meets its contract: each kind of line has a function of its own, and no line is no text. Assumes nothing.
 use mathlib.Core.List.{[]}
 use native.Mathlib.Omega.{arith}
 use lib.Seq.{paste-zero}

@@ -1,3 +1,4 @@
+-- `listing::stretch::begin` meets its contract: the lister is the one of `start`. Assumes nothing.
 use borrow.Author.Needs.{needs}
 use Rattle.listing.proofs.stretch.begin.Statement.{statement}
 use Rattle.listing.proofs.stretch.begin.Tie as tie

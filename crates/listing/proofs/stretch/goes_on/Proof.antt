@@ -1,3 +1,4 @@
+-- `listing::stretch::goes_on` meets its contract: room is compared by a difference, since the sum may pass a usize. Assumes nothing.
 use Prim.Native.Nat.{_+_, _<_, _≤_}
 use lib.ListN.{length}
 use Rattle.lines.specs.Area.{lineBytes}

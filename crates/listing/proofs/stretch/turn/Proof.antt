@@ -1,3 +1,4 @@
+-- `listing::stretch::turn` meets its contract: the turn is that of `list_next`, and its text what `append_listed` puts. Assumes nothing.
 use Rattle.listing.specs.Stretch.{stretchTurn}
 use borrow.Author.Needs.{needs}
 use Rattle.listing.proofs.stretch.turn.Statement.{statement}

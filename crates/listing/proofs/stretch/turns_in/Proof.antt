@@ -1,3 +1,4 @@
+-- `listing::stretch::turns_in` meets its contract: the test of the definition is that of the branch. Assumes nothing.
 use Rattle.laws.specs.Choice.{cond}
 use borrow.Author.Needs.{needs}
 use Rattle.listing.proofs.stretch.turns_in.Statement.{statement}

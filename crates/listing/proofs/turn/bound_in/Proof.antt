@@ -1,7 +1,8 @@
+-- `listing::turn::bound_in` meets its contract: settings within limits have the bounds that `most_passed` asks for. Assumes nothing.
 use Rattle.laws.specs.Choice.{cond}
 use mathlib.Core.Path.{_≡_, refl, sym, _∙_}
 use Rattle.rules.proofs.Fitness.{settings-bounds}
-use Rattle.listing.specs.Turn.{boundIn}
+use Rattle.listing.specs.Listing.{boundIn}
 use borrow.Author.Needs.{needs}
 use Rattle.listing.proofs.turn.bound_in.Statement.{statement}
 use Rattle.listing.proofs.turn.bound_in.Tie as tie

@@ -1,3 +1,4 @@
+-- `listing::turn::ended` meets its contract: the test of the definition is that of the branch. Assumes nothing.
 use mathlib.Core.Path.{_∙_}
 use Rattle.laws.specs.Choice.{cond}
 use borrow.Author.Tests.{eq-eqb, ne-eqb}

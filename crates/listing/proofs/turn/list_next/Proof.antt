@@ -1,3 +1,4 @@
+-- `listing::turn::list_next` meets its contract: the reader yields a word, or what stands there is the end of the file or a piece of a word. Assumes nothing.
 use mathlib.Core.Path.{_≡_, refl, ap, _∙_}
 use mathlib.Core.List.{List, [], _∷_}
 use Prim.Native.Nat.{ℕ}

@@ -1,5 +1,7 @@
+-- `listing::turn::list_word` meets its contract: for each item the call of its arm is that of the definition. Assumes nothing.
 use mathlib.Core.Path.{_∙_}
 use Rattle.listing.specs.Turn.{itemTurn, wordTurn}
+use Rattle.listing.proofs.NoCall.{no-call}
 use borrow.Author.Needs.{needs}
 use Rattle.listing.proofs.turn.list_word.Statement.{statement}
 use Rattle.listing.proofs.turn.list_word.Tie as tie
@@ -87,7 +89,7 @@ line-requires c κs = search needs
 
 returns : tie.Need-returns
 unfolding wordTurn itemTurn
-returns c = simp (c .quiet .ensures, c .before .at-place .ensures, ← c .before .before .before .before .before .decode .ensures, c .before .before .before .item .given .1)
+returns c = simp (c .quiet .ensures, c .before .at-place .ensures, ← c .before .before .before .before .before .decode .ensures, c .before .before .before .item .given .1, no-call)
 
 same-length : tie.Need-same-length
 same-length c = search needs
@@ -119,7 +121,7 @@ returns-5 c = simp (c .call-answered3 .ensures, c .before .at-place4 .ensures, �
 
 returns-6 : tie.Need-returns-6
 unfolding wordTurn itemTurn
-returns-6 c = simp (c .quiet2 .ensures, c .before .at-place5 .ensures, ← c .before .before .before .before .decode .ensures, c .before .before .enum-told .given .1)
+returns-6 c = simp (c .quiet2 .ensures, c .before .at-place5 .ensures, ← c .before .before .before .before .decode .ensures, c .before .before .enum-told .given .1, no-call)
 
 returns-7 : tie.Need-returns-7
 unfolding wordTurn itemTurn

@@ -1,4 +1,4 @@
-use Rattle.listing.specs.Turn.{makeTurn}
+-- `listing::turn::make` meets its contract: the turn of the item that makes the pool. Assumes nothing.
 use borrow.Author.Needs.{needs}
 use Rattle.listing.proofs.turn.make.Statement.{statement}
 use Rattle.listing.proofs.turn.make.Tie as tie
@@ -16,7 +16,6 @@ same-length : tie.Need-same-length
 same-length c = search needs
 
 returns : tie.Need-returns
-unfolding makeTurn
 returns c = simp (c .call-answered .ensures, c .before .bound-in .ensures, ← c .before .before .before .before .make .ensures)
 
 pub make-spec : {M : Type 1} → statement M

@@ -1,3 +1,4 @@
+-- `listing::turn::most_passed` meets its contract: within the limits the products fit. Assumes nothing.
 use native.Mathlib.Omega.{arith}
 use Prim.Native.Nat.{_+_, _*_, _-_, _≤_}
 use native.Mathlib.Nat.{mul-le-mul-right}
