@@ -1,7 +1,7 @@
--- Paper 01's example: its file's listing, computed from the definitions.
+-- Paper 01's example: the lines of its file, computed from the definitions, and the listing.
 use mathlib.Core.List.{List, [], _∷_}
-use mathlib.Core.Path.{_≡_, refl}
-use Prim.Native.Nat.{ℕ}
+use mathlib.Core.Path.{_≡_, refl, ap}
+use Prim.Native.Nat.{ℕ, _/_, _%_}
 use Rattle.laws.specs.Choice.{cond, allBelow}
 use Rattle.rules.specs.Apply.{putItem, putView, takenOf, applyBy, applyOf}
 use Rattle.rules.specs.Begin.{slotBegin, fitBegin, checkedBegin, beginOf}
@@ -22,14 +22,29 @@ use Rattle.runfile.specs.File.{fileFrom, fileOf}
 use Rattle.runfile.specs.Items.{firstOf, secondOf, laterOf, itemOf}
 use Rattle.runfile.specs.Words.{readsOf, readAt}
 use Rattle.lines.specs.Lines.{digitsOf, decimal, lineOf, closingOf}
-use Rattle.listing.specs.Listing.{mostPassed, boundIn, cappedOf, stops, heldBy, heldOf, linesFrom, linesOf, textOf, listingOf}
+use Rattle.listing.specs.Listing.{entry, closing, mostPassed, boundIn, cappedOf, stops, heldBy, heldOf, linesFrom, linesOf, textOf, listingOf}
 
-abbrev pub file : List ℕ
-file = 33 ∷ 16 ∷ 0 ∷ 16 ∷ 2 ∷ 8 ∷ 0 ∷ 32 ∷ 7 ∷ 0 ∷ 0 ∷ 48 ∷ 0 ∷ 0 ∷ 0 ∷ 80 ∷ 0 ∷ 0 ∷ 0 ∷ 80 ∷ 0 ∷ 0 ∷ 0 ∷ 80 ∷ 0 ∷ 0 ∷ 0 ∷ 64 ∷ 0 ∷ 0 ∷ 0 ∷ 80 ∷ 0 ∷ 0 ∷ 0 ∷ 80 ∷ 0 ∷ 0 ∷ 0 ∷ 80 ∷ 0 ∷ 0 ∷ 0 ∷ 96 ∷ []
+-- words, each stored low byte first
+stored : List ℕ → List ℕ
+stored [] = []
+stored (w ∷ ws) = w % 256 ∷ w / 256 % 256 ∷ w / 65536 % 256 ∷ w / 16777216 ∷ stored ws
 
-abbrev pub printed : List ℕ
-printed = 53 ∷ 32 ∷ 49 ∷ 32 ∷ 48 ∷ 32 ∷ 55 ∷ 32 ∷ 48 ∷ 32 ∷ 49 ∷ 32 ∷ 49 ∷ 32 ∷ 48 ∷ 10 ∷ 57 ∷ 32 ∷ 50 ∷ 32 ∷ 48 ∷ 32 ∷ 55 ∷ 32 ∷ 48 ∷ 32 ∷ 49 ∷ 32 ∷ 49 ∷ 32 ∷ 48 ∷ 10 ∷ 104 ∷ 101 ∷ 108 ∷ 100 ∷ 32 ∷ 48 ∷ 32 ∷ 119 ∷ 111 ∷ 114 ∷ 115 ∷ 116 ∷ 32 ∷ 48 ∷ 10 ∷ []
+file : List ℕ
+file =
+    stored
+    (0x10001021 ∷ 0x20000802 ∷ 0x30000007 ∷ 0x50000000 ∷ 0x50000000 ∷ 0x50000000 ∷ 0x40000000 ∷ 0x50000000 ∷ 0x50000000 ∷ 0x50000000 ∷ 0x60000000 ∷ [])
 
-pub example : listingOf file ≡ printed
-unfolding cond allBelow putItem putView takenOf applyBy applyOf slotBegin fitBegin checkedBegin beginOf checkRule commitBy queueCommit stackCommit confirmedOf confirmRule viewOf nextOf headFit subFit subsFit phaseFit wordFit workersFit bodyChecked checkedOf itemsAbove heldSub heldBelow countItems distanceOf cellItems settingsFit zeroed indexed madeWords makeOf missOf queuePutRead queueTakeRead stackRead shiftBy queueShift stackShift ruleBy ruleOf slotStep fitStep checkedStep stepOf windowRule slotAt putSlot queuePhase stackPhase phaseOf decode encodePhase encode fileFrom fileOf firstOf secondOf laterOf itemOf readsOf readAt digitsOf decimal lineOf closingOf mostPassed boundIn cappedOf stops heldBy heldOf linesFrom linesOf textOf listingOf
-example = refl
+lines-are : linesOf file ≡ entry (5 ∷ 1 ∷ 0 ∷ 7 ∷ 0 ∷ 1 ∷ 1 ∷ 0 ∷ []) ∷ entry (9 ∷ 2 ∷ 0 ∷ 7 ∷ 0 ∷ 1 ∷ 1 ∷ 0 ∷ []) ∷ closing 0 0 ∷ []
+unfolding stored file cond allBelow putItem putView takenOf applyBy applyOf slotBegin fitBegin checkedBegin beginOf checkRule commitBy queueCommit stackCommit confirmedOf confirmRule viewOf nextOf headFit subFit subsFit phaseFit wordFit workersFit bodyChecked checkedOf itemsAbove heldSub heldBelow countItems distanceOf cellItems settingsFit zeroed indexed madeWords makeOf missOf queuePutRead queueTakeRead stackRead shiftBy queueShift stackShift ruleBy ruleOf slotStep fitStep checkedStep stepOf windowRule slotAt putSlot queuePhase stackPhase phaseOf decode encodePhase encode fileFrom fileOf firstOf secondOf laterOf itemOf readsOf readAt mostPassed boundIn cappedOf stops heldBy heldOf linesFrom linesOf
+lines-are = refl
+
+-- "5 1 0 7 0 1 1 0", "9 2 0 7 0 1 1 0", "held 0 worst 0", a newline after each
+printed : List ℕ
+printed =
+    53 ∷ 32 ∷ 49 ∷ 32 ∷ 48 ∷ 32 ∷ 55 ∷ 32 ∷ 48 ∷ 32 ∷ 49 ∷ 32 ∷ 49 ∷ 32 ∷ 48 ∷ 10 ∷
+    57 ∷ 32 ∷ 50 ∷ 32 ∷ 48 ∷ 32 ∷ 55 ∷ 32 ∷ 48 ∷ 32 ∷ 49 ∷ 32 ∷ 49 ∷ 32 ∷ 48 ∷ 10 ∷
+    104 ∷ 101 ∷ 108 ∷ 100 ∷ 32 ∷ 48 ∷ 32 ∷ 119 ∷ 111 ∷ 114 ∷ 115 ∷ 116 ∷ 32 ∷ 48 ∷ 10 ∷ []
+
+listing-is : listingOf file ≡ printed
+unfolding printed listingOf textOf lineOf decimal digitsOf closingOf cond
+listing-is = ap textOf lines-are
