@@ -1,0 +1,6 @@
+// The lines of a listing, as text.
+mod line;
+
+pub use line::Entry;
+pub use line::closing_text;
+pub use line::entry_text;

@@ -1,0 +1,64 @@
+-- `lister_cases::show` is safe: what is used of the output lies inside it, since nothing is used at first. Assumes nothing.
+use Prim.Native.Nat.{_≤_}
+use mathlib.Core.Path.{_≡_, sym, ap}
+use native.Mathlib.Omega.{arith}
+use lib.ListN.{length}
+use lib.Seq.{length-take-le}
+use Rattle.listing.specs.declared.stretch.Stretch.{Stretch}
+use borrow.Author.Needs.{needs}
+use Rattle.lister_cases.proofs.show.Statement.{statement}
+use Rattle.lister_cases.proofs.show.Tie as tie
+
+buffer-requires : tie.Need-buffer-requires
+buffer-requires c κs = search needs
+
+slice-aggregate-list-words : tie.Need-slice-aggregate-list-words
+slice-aggregate-list-words c = search needs
+
+begin-requires : tie.Need-begin-requires
+begin-requires c κs = search needs
+
+slice-aggregate-list-words-2 : tie.Need-slice-aggregate-list-words-2
+slice-aggregate-list-words-2 c = search needs
+
+list-words-requires : tie.Need-list-words-requires
+list-words-requires c κs = search needs
+
+used-inside : (c : tie.After-list-words) → c .list-words .result .used ≤ length (c .list-words .last .1 .1 .1 .1 .0)
+used-inside c =
+    let none : c .before .before .begin .result .used ≡ 0 = ap (λ (s : Stretch). s .used) (c .before .before .begin .ensures) in
+    omega (arith, c .list-words .ensures .1 (omega arith), c .list-words .kept .1 .1 .1 .1 .0)
+
+array-share-prefix-out : tie.Need-array-share-prefix-out
+array-share-prefix-out c = used-inside (c .before .before)
+
+slice-aggregate-write-all : tie.Need-slice-aggregate-write-all
+slice-aggregate-write-all c = sym (length-take-le (c .before .before .before .list-words .result .used) (c .before .before .before .list-words .last .1 .1 .1 .1 .0) (used-inside (c .before .before .before)))
+
+write-all-requires : tie.Need-write-all-requires
+write-all-requires c κs = search needs
+
+slice-aggregate-write-all-2 : tie.Need-slice-aggregate-write-all-2
+slice-aggregate-write-all-2 c = search needs
+
+write-all-requires-2 : tie.Need-write-all-requires-2
+write-all-requires-2 c κs = search needs
+
+returns : tie.Need-returns
+returns c = search needs
+
+pub show-spec : {M : Type 1} → statement M
+show-spec =
+    tie.close
+    (tie.spec
+    buffer-requires
+    slice-aggregate-list-words
+    begin-requires
+    slice-aggregate-list-words-2
+    list-words-requires
+    array-share-prefix-out
+    slice-aggregate-write-all
+    write-all-requires
+    slice-aggregate-write-all-2
+    write-all-requires-2
+    returns)

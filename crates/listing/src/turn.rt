@@ -1,0 +1,134 @@
+// One word of a run file.
+use crate::answer::Listed;
+use crate::answer::Lister;
+use crate::answer::Turn;
+use crate::answer::call_answered;
+use crate::answer::line;
+use crate::answer::plain_entry;
+use crate::answer::quiet;
+use crate::held::held;
+use fitness::settings_fit;
+use rules::Settings;
+use runfile::item::Item;
+use runfile::item::Place;
+use runfile::item::decode;
+use runfile::item::fault;
+use runfile::reader::read_word;
+use runfile::word::Read;
+ghost use mathlib.Core.Path.{_≡_};
+ghost use Rattle.rules.specs.Limits.{Bounds};
+ghost use Rattle.listing.specs.Listing.{mostPassed, boundIn};
+ghost use Rattle.listing.specs.Turn.{turned, newLister, placed, callTurn, wordTurn, endTurn, turnOf};
+ghost use Rattle.runfile.specs.Words.{readAt};
+
+// The lister before a file's first word.
+pub fn start() -> Lister
+    ensures { λ r. ⌜ r ≡ newLister ⌝ }
+{
+    Lister {
+        place: Place::First,
+        position: 0,
+        worst: 0,
+        bound: 0,
+    }
+}
+
+fn at_place(l: Lister, place: Place) -> Lister
+    ensures { λ r. ⌜ r ≡ placed l place ⌝ }
+{
+    Lister {
+        place,
+        position: l.position,
+        worst: l.worst,
+        bound: l.bound,
+    }
+}
+
+// Demand 3's bound.
+fn most_passed(g: Settings) -> u32
+    requires { ⌜ Bounds g ⌝ }
+    ensures { λ r. ⌜ r ≡ mostPassed g ⌝ }
+{
+    let width = g.width;
+    let depth = g.depth;
+    if g.kind == 0 {
+        return (width - 1) * depth;
+    }
+    (width - 1) * (2 * depth + 2 * g.shift)
+}
+
+// The bound of a pool that can be made.
+fn bound_in(g: Settings) -> u32
+    ensures { λ r. ⌜ r ≡ boundIn g ⌝ }
+{
+    if settings_fit(g) { most_passed(g) } else { 0 }
+}
+
+// The second word: the pool is made. The lister lends enough words for the largest pool, so of make's refusals a run file meets 22 alone.
+fn make(words: &mut [u32], l: Lister, g: Settings) -> Turn
+    ensures { λ r. ⌜ turned r (now (words .exit)) ≡ callTurn (now (words .entry)) l (Item.Make g) ⌝ }
+{
+    let a = pool::make(words, g.kind, g.width, g.depth, g.shift, g.rows, g.workers);
+    let made = Lister {
+        place: Place::Later,
+        position: l.position,
+        worst: l.worst,
+        bound: bound_in(g),
+    };
+    call_answered(made, 0, a)
+}
+
+// What a word does.
+fn list_word(words: &mut [u32], l: Lister, word: u32) -> Turn
+    ensures { λ r. ⌜ turned r (now (words .exit)) ≡ wordTurn (now (words .entry)) l word ⌝ }
+{
+    let place = l.place;
+    let item = decode(place, word);
+    match item {
+        Item::Open(opening) => quiet(at_place(l, Place::Second(opening))),
+        Item::Make(g) => make(words, l, g),
+        Item::BeginPut { worker, value } => {
+            let a = pool::begin_put(words, worker as u32, value);
+            call_answered(at_place(l, Place::Later), worker, a)
+        }
+        Item::BeginTake { worker } => {
+            let a = pool::begin_take(words, worker as u32);
+            call_answered(at_place(l, Place::Later), worker, a)
+        }
+        Item::Step { worker } => {
+            let a = pool::step(words, worker as u32);
+            call_answered(at_place(l, Place::Later), worker, a)
+        }
+        Item::End => quiet(at_place(l, Place::Past)),
+        Item::Bad => line(l, plain_entry(l.position, 29, 0)),
+    }
+}
+
+// What is printed where there is no word: the fault's line, or the closing line where there is none.
+fn ended(words: &[u32], l: Lister, fault: u32) -> Turn
+    ensures { λ r. ⌜ r ≡ endTurn (now (words .entry)) l fault ⌝ }
+{
+    if fault != 0 {
+        return line(l, plain_entry(l.position, fault, 0));
+    }
+    Turn {
+        lister: l,
+        listed: Listed::Closing {
+            held: held(words),
+            worst: l.worst,
+        },
+    }
+}
+
+// What a reader of `src` at word position `at` has for the lister: either it yields a word, or the lister prints the refusal
+// (after the end word no refusal, but the closing line).
+pub fn list_next(words: &mut [u32], l: Lister, src: &[u8], at: usize) -> Turn
+    ensures { λ r. ⌜ turned r (now (words .exit)) ≡ turnOf (now (words .entry)) l (readAt (now (src .entry)) at) ⌝ }
+{
+    let place = l.place;
+    let read = read_word(src, at);
+    let Read::Word(word) = read else {
+        return ended(words, l, fault(place, read));
+    };
+    list_word(words, l, word)
+}

@@ -1,0 +1,22 @@
+-- The words of a run file's bytes: 32 bits each, low byte first.
+use Prim.Native.Nat.{ℕ, _+_, _*_}
+use mathlib.Core.List.{List, [], _∷_}
+use lib.ListN.{getD}
+use Rattle.runfile.specs.declared.word.Read.{Read}
+use Rattle.runfile.specs.declared.word.Read.the-variants.{Word, Cut, End}
+
+-- the word of four bytes
+abbrev pub wordOf : ℕ → ℕ → ℕ → ℕ → ℕ
+wordOf a b c d = a + 256 * b + 65536 * c + 16777216 * d
+
+-- what a reader finds, word after word: the whole words, and a cut one where one to three bytes are left
+unfoldable pub readsOf : List ℕ → List Read
+readsOf [] = []
+readsOf (a ∷ []) = Cut ∷ []
+readsOf (a ∷ b ∷ []) = Cut ∷ []
+readsOf (a ∷ b ∷ c ∷ []) = Cut ∷ []
+readsOf (a ∷ b ∷ c ∷ d ∷ rest) = Word (wordOf a b c d) ∷ readsOf rest
+
+-- what stands at word position `at`; past all of them the end
+unfoldable pub readAt : List ℕ → ℕ → Read
+readAt bytes at = getD (readsOf bytes) at End
