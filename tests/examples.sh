@@ -1,5 +1,5 @@
 #!/bin/sh
-# tests/examples.sh: packs each text of examples/ into a run file, lists it with target/bin/lister, and compares with the stored listing.
+# tests/examples.sh: packs each text of examples/ and examples/runs/ into a run file, lists it with target/bin/lister, and compares with the stored listing.
 # The lister must have been built: `rt check lister`.
 cd "$(dirname "$0")/.." || exit 2
 lister=target/bin/lister
@@ -8,7 +8,7 @@ work=$(mktemp -d) || exit 2
 trap 'rm -rf "$work"' EXIT
 passed=0
 failed=0
-for text in examples/*.txt; do
+for text in examples/*.txt examples/runs/*.txt; do
     listing=${text%.txt}.listing
     if tools/runfile pack <"$text" >"$work/run" && "$lister" <"$work/run" >"$work/listing" 2>"$work/errors" &&
         cmp -s "$work/listing" "$listing" && [ ! -s "$work/errors" ]; then
