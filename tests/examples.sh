@@ -1,5 +1,5 @@
 #!/bin/sh
-# tests/examples.sh: packs each text of examples/ into a run file, lists it with target/bin/lister, and compares with the stored listing.
+# tests/examples.sh: packs each text of examples/ and examples/runs/ into a run file, lists it with target/bin/lister, and compares with the stored listing.
 # The lister must have been built: `rt check lister`.
 cd "$(dirname "$0")/.." || exit 2
 lister=target/bin/lister

@@ -23,10 +23,10 @@ use Rattle.rules.proofs.counts.Sums.{bit, bit-le}
 use Rattle.rules.proofs.order.Law.{Next}
 use Rattle.rules.proofs.Fitness.{settings-bounds}
 use Rattle.rules.proofs.Cells.{count-append, held-fits}
-use Rattle.rules.proofs.machine.Machine.{State, subIn, viewIn, belowIn, applyIn, applyInBy, stepIn, beginIn, nextIn}
+use Rattle.rules.proofs.machine.Machine.{State, viewIn, belowIn, applyIn, applyInBy, stepIn, beginIn, nextIn}
 use Rattle.rules.proofs.counts.Held.{count-none, held-count}
 use Rattle.rules.proofs.machine.Turns.{Common, Counts, Safe, Kind}
-use Rattle.rules.proofs.machine.Subs.{SubAfter, rule-sub}
+use Rattle.rules.proofs.machine.Does.{SubAfter, rule-in}
 use Rattle.rules.proofs.order.Given.{item-of, item-not}
 use Rattle.rules.proofs.Transfer.{Related, next-related}
 use Rattle.rules.proofs.words.Says.{held-same}
@@ -133,13 +133,11 @@ module _ (g : Settings) (limits : settingsFit g ≡ true) (k : Kind g) where
 
   fine-rule : (s : State) (q : Contents) → Common g s → k .Inv s q → (i : ℕ) → Fine (applyIn g s i (ruleOf g (viewIn s i)))
   unfolding applyIn
-  fine-rule s q common inv i =
-      let counts : Counts g s = k .counts s q inv in
-      let lj : subIn s i < g .width = common .slots i .index in (
-        not-21 s i (ruleOf g (viewIn s i)) (ruleOf g (viewIn s i) .outcome)
-            (rule-sub g (settings-bounds g limits) (viewIn s i) (counts .sub _ lj) (counts .first-few _ lj) (counts .second-few _ lj)),
-        k .safe s q common inv .able i,
-      )
+  fine-rule s q common inv i = (
+    not-21 s i (ruleOf g (viewIn s i)) (ruleOf g (viewIn s i) .outcome)
+        (rule-in g (settings-bounds g limits) s common (k .counts s q inv) i .sub),
+    k .safe s q common inv .able i,
+  )
 
   fine-step : (s : State) (q : Contents) → Common g s → k .Inv s q → (i : ℕ) → Fine (stepIn g s i)
   unfolding stepIn

@@ -18,7 +18,7 @@ use Rattle.rules.proofs.Fitness.{settings-bounds}
 use Rattle.rules.proofs.machine.Machine.{State, nextIn, madeIn}
 use Rattle.rules.proofs.machine.Phases.{statusOf, idle-phase}
 use Rattle.rules.proofs.machine.Turns.{Common, Kind, Turned, statusIn, turn}
-use Rattle.rules.proofs.machine.Slots.{common-next, common-made}
+use Rattle.rules.proofs.machine.Does.{common-next, common-made}
 use Rattle.rules.proofs.order.Given.{Changed, unchanged-by, gives-changed}
 use Rattle.rules.proofs.words.Says.{Says}
 use Rattle.rules.proofs.words.Follows.{Follows, follows}
@@ -55,7 +55,7 @@ module _ (g : Settings) (limits : settingsFit g ≡ true) (k : Kind g) where
   with-common m (wins i op u n l a b w h z) = wins i op u n l a b (rest w) (whole m h) z
 
   whole-turn : (s : State) (q : Contents) → Whole s q → (c : Call) → After s q c (nextIn g s c)
-  whole-turn s q h c = with-common (common-next g width1 s (h .common) c) (turn g k s q (h .common) (h .inv) c)
+  whole-turn s q h c = with-common (common-next g (settings-bounds g limits) s (h .common) (k .counts s q (h .inv)) c) (turn g k s q (h .common) (h .inv) c)
 
   -- ---- the list after a call
   pub record Onward (s : State) (q : Contents) (o : Next State) : Type 0 where

@@ -3,5 +3,5 @@ pub mod Sums
 pub mod Wraps
 pub mod Visits
 pub mod Passes
-pub mod Held
 pub mod Stamps
+pub mod Held

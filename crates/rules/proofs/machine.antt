@@ -4,5 +4,5 @@ pub mod Phases
 pub mod Good
 pub mod Turns
 pub mod Slots
-pub mod Subs
+pub mod Does
 pub mod Ways

@@ -16,6 +16,7 @@ use Rattle.rules.specs.Held.{Item, countItems, passedOver}
 use Rattle.rules.specs.Sequential.{Found, find}
 use Rattle.rules.proofs.Types.{Settings}
 use Rattle.rules.proofs.counts.Sums.{sumN, upTo, upTo-suc, upTo-ext, upTo-true, bit, sum-ext, sum-bump, sum-gap, sum-gap-at, sum-sub, rows-more, rows-flat}
+use Rattle.rules.proofs.counts.Stamps.{Added}
 use Rattle.rules.proofs.machine.Machine.{State, belowIn, distanceIn}
 
 -- ---- counts on a list
@@ -82,23 +83,20 @@ module _ {w : ℕ} {below first : ℕ → ℕ} {item : ℕ → ℕ → Item} {xs
             (λ k l. rows-more (λ r. p (item k r)) (below k) (first k) (o k l) .0),
       )
 
-  -- ---- a put: row `suc (first j)` of sub j is new
-  pub holds-put : {first′ : ℕ → ℕ} {item′ : ℕ → ℕ → Item} (j : ℕ) (new : Item) → j < w
-      → ((k : ℕ) → k < w → below k ≤ first k)
-      → first′ j ≡ suc (first j) → ((k : ℕ) → k ≢ j → first′ k ≡ first k)
-      → item′ j (suc (first j)) ≡ new → ((k r : ℕ) → r ≤ first k → item′ k r ≡ item k r)
-      → Holds w below first′ item′ (new ∷ xs)
-  holds-put {first′} {item′} j new lj o here off it old = record { same = same }
+  -- ---- a put
+  pub holds-put : {first′ : ℕ → ℕ} {item′ : ℕ → ℕ → Item} {j : ℕ} {new : Item} → j < w → ((k : ℕ) → k < w → below k ≤ first k)
+      → Added first item j new first′ item′ → Holds w below first′ item′ (new ∷ xs)
+  holds-put {first′} {item′} {j} {new} lj o put = record { same = same }
     where
       same : (p : Item → Bool) → countItems p (new ∷ xs) + sumN (rowsOf item′ p below) w ≡ sumN (rowsOf item′ p first′) w
       same p =
           let a : sumN (rowsOf item′ p below) w ≡ sumN (rowsOf item p below) w =
-          sum-ext _ _ w (λ k l. upTo-ext _ _ (below k) (λ r u v. ap p (old k r (omega (arith, o k l))))) in
+          sum-ext _ _ w (λ k l. upTo-ext _ _ (below k) (λ r u v. ap p (put .old k r (omega (arith, o k l))))) in
           let b : sumN (rowsOf item′ p first′) w ≡ sumN (rowsOf item p first) w + bit (p new) =
           sum-bump (rowsOf item p first) (rowsOf item′ p first′) w j (bit (p new)) lj
-          (λ k l n. ap (upTo (λ r. p (item′ k r))) (off k n) ∙ upTo-ext _ _ (first k) (λ r u v. ap p (old k r v)))
-          (ap (upTo (λ r. p (item′ j r))) here ∙ upTo-suc (λ r. p (item′ j r)) (first j)
-          ∙ omega (arith, upTo-ext (λ r. p (item′ j r)) (λ r. p (item j r)) (first j) (λ r u v. ap p (old j r v)), ap (λ (y : Item). bit (p y)) it)) in
+          (λ k l n. ap (upTo (λ r. p (item′ k r))) (put .off k n) ∙ upTo-ext _ _ (first k) (λ r u v. ap p (put .old k r v)))
+          (ap (upTo (λ r. p (item′ j r))) (put .here) ∙ upTo-suc (λ r. p (item′ j r)) (first j)
+          ∙ omega (arith, upTo-ext (λ r. p (item′ j r)) (λ r. p (item j r)) (first j) (λ r u v. ap p (put .old j r v)), ap (λ (y : Item). bit (p y)) (put .it))) in
           omega (arith, h .same p, count-cons p new xs)
 
   -- ---- a take: a row of sub j leaves, the lowest held one or the highest, and its item leaves the list

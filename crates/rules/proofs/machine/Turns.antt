@@ -23,6 +23,7 @@
 -- Sums: `add32-is`, `add32-suc`, `sub32-is` (Wraps). Passes: `Summed`, `Pass` (Passes). The list: `Holds` and `find-row`
 -- (Held), with `belowIn g s` as the rows not held: `queue-below`, `stack-below` (Good). Stamps: `Stamped` (Stamps).
 -- What the specification gives: `gives-put`, `gives-taken`, `gives-empty`, `gives-full` (Gives).
+-- How a step may end, for both kinds, with `Snap` as the pass of a worker in confirm: `by-walk`, `by-try` and the others (Ways).
 use mathlib.Core.Path.{_≡_, refl, ap, _∙_}
 use mathlib.Core.Logic.{_≢_}
 use mathlib.Core.Bool.{true}

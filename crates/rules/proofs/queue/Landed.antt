@@ -3,8 +3,8 @@
 -- Where the put count is still the one seen, the row above is in the put window, for the seen one was and the window only
 -- grows; the windows' room leaves it a free cell. It gets the greatest stamp, so the stamps' order can break only below it:
 -- a row above a multiple of the depth is in a window that every sub had to reach first, so no put lands below that multiple.
-use mathlib.Core.Path.{_≡_, refl, sym, ap, _∙_, subst}
-use mathlib.Core.Logic.{_≢_, inl, inr}
+use mathlib.Core.Path.{_≡_, refl, sym, ap, subst}
+use mathlib.Core.Logic.{inl, inr}
 use Prim.Native.Nat.{ℕ, suc, _-_, _*_, _≤_, _<_}
 use native.Mathlib.Nat.{le-refl}
 use native.Mathlib.Decide.{ℕ-discrete}
@@ -20,11 +20,11 @@ use Rattle.rules.specs.Commit.{queueCommit, commitBy, landedOf}
 use Rattle.rules.specs.Sequential.{putting, Contents}
 use Rattle.rules.proofs.Types.{Settings, Putting, Idle, Window, QueueCommit, Effect}
 use Rattle.rules.specs.declared.Answer.the-variants.{Put}
-use Rattle.rules.proofs.counts.Sums.{upd, upd-same, upd-other, upd-self, sum-bump}
+use Rattle.rules.proofs.counts.Sums.{upd, upd-self, sum-bump}
 use Rattle.rules.proofs.machine.Machine.{State, next, subIn, viewIn, phaseIn, applyIn, applyInBy}
 use Rattle.rules.proofs.counts.Wraps.{add32-suc, sub32-is, multiple-lt}
 use Rattle.rules.proofs.counts.Held.{Holds, holds-put}
-use Rattle.rules.proofs.counts.Stamps.{item-new, item-old, Row, row-cases, stamped-put}
+use Rattle.rules.proofs.counts.Stamps.{Added, added, Row, row-cases, stamped-put}
 use Rattle.rules.proofs.order.Gives.{putOn, gives-put, final-put}
 use Rattle.rules.proofs.machine.Good.{Good}
 use Rattle.rules.proofs.machine.Turns.{Common}
@@ -83,20 +83,11 @@ module _ (g : Settings) (good : Good g) (kind : g .kind ≡ 0) (s : State) (q : 
     abbrev new : Item
     new = newItem s i
 
-    put-here : t .first j ≡ suc (s .first j)
-    put-here = upd-same (s .first) j (suc (s .first j))
-
-    put-off : (m : ℕ) → m ≢ j → t .first m ≡ s .first m
-    put-off m n = upd-other (s .first) j (suc (s .first j)) m n
+    put : Added (s .first) (s .item) j new (t .first) (t .item)
+    put = added (s .first) (s .item) j new
 
     put-grown : (m : ℕ) → s .first m ≤ t .first m
-    put-grown m = elim (ℕ-discrete m j) [ yes y ↦ rw y (omega (arith, put-here)) | no n ↦ omega (arith, put-off m n) ]
-
-    item-here : t .item j (suc (s .first j)) ≡ new
-    item-here = item-new (s .item) j (suc (s .first j)) new
-
-    item-off : (m r : ℕ) → r ≤ s .first m → t .item m r ≡ s .item m r
-    item-off m r l = item-old (s .item) j (suc (s .first j)) new m r (λ y u. let l′ : r ≤ s .first j = rw y at l in omega arith)
+    put-grown m = elim (ℕ-discrete m j) [ yes y ↦ rw y (omega (arith, put .here)) | no n ↦ omega (arith, put .off m n) ]
 
     -- the row is in the put window
     windows : Windows g (s .top) (s .mark) (t .first) (s .second)
@@ -108,7 +99,7 @@ module _ (g : Settings) (good : Good g) (kind : g .kind ≡ 0) (s : State) (q : 
           mark-is = o .mark-is;
           order = o .order;
           room = o .room;
-          put-le = λ m l. elim (ℕ-discrete m j) [ yes y ↦ rw y (omega (arith, put-here, below)) | no n ↦ omega (arith, put-off m n, o .put-le m l) ];
+          put-le = λ m l. elim (ℕ-discrete m j) [ yes y ↦ rw y (omega (arith, put .here, below)) | no n ↦ omega (arith, put .off m n, o .put-le m l) ];
           put-ge = λ m l. omega (arith, put-grown m, o .put-ge m l);
           taken-le = o .taken-le;
           taken-ge = o .taken-ge;
@@ -120,10 +111,10 @@ module _ (g : Settings) (good : Good g) (kind : g .kind ≡ 0) (s : State) (q : 
     free = omega (arith, below, o .room, o .taken-ge j index)
 
     abbrev Rows : ℕ → ℕ → Type 0
-    Rows = Row (inv .pool .stamps .each) j new refl put-here put-off item-here item-off
+    Rows = Row (inv .pool .stamps .each) put refl
 
     rows : (m r : ℕ) → r ≤ t .first m → Rows m r
-    rows = row-cases (inv .pool .stamps .each) j new refl put-here put-off item-here item-off
+    rows = row-cases (inv .pool .stamps .each) put refl
 
     -- a row above c * d means that the put window is above c * d, so every sub has reached c * d
     reached : (m c r : ℕ) → m < g .width → c * g .depth < r → r ≤ s .top → c * g .depth ≤ s .first m
@@ -144,14 +135,13 @@ module _ (g : Settings) (good : Good g) (kind : g .kind ≡ 0) (s : State) (q : 
         go (inr y) (inr y′) = rw (y .1, y′ .1) (inv .pool .stamps .order m n r r′ c lm ln a le gt (y .0) (y′ .0))
 
     stamps : Stamps g (t .first) (t .item) (t .puts)
-    stamps = record { each = stamped-put (inv .pool .stamps .each) j new refl put-here put-off item-here item-off; order = order }
+    stamps = record { each = stamped-put (inv .pool .stamps .each) put refl; order = order }
 
     counted : suc (q .count) ≡ suc (s .puts)
     counted = ap suc (inv .pool .count)
 
     holds : Holds (g .width) (s .second) (t .first) (t .item) (putOn g q (s .slot i .value) .items)
-    holds = holds-put (inv .pool .holds) j (record { value = s .slot i .value; stamp = suc (q .count) }) index (o .held)
-        put-here put-off (item-here ∙ ap (λ (n : ℕ). record { value = s .slot i .value; stamp = n }) (sym counted)) item-off
+    holds = rw (inv .pool .count) (holds-put (inv .pool .holds) index (o .held) put)
 
     pool : s .steps < 4000000000 → Pool g t (putOn g q (s .slot i .value))
     pool some-left =
@@ -161,7 +151,7 @@ module _ (g : Settings) (good : Good g) (kind : g .kind ≡ 0) (s : State) (q : 
           total = omega (
             arith,
             inv .pool .total,
-            sum-bump (s .first) (t .first) (g .width) j 1 index (λ m l n. put-off m n) (omega (arith, put-here)),
+            sum-bump (s .first) (t .first) (g .width) j 1 index (λ m l n. put .off m n) (omega (arith, put .here)),
           );
           puts-few = omega (arith, inv .pool .puts-few);
           steps-few = some-left;

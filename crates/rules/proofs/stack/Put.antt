@@ -1,7 +1,7 @@
 -- A put that lands. Its row is new and its stamp the greatest. Every other item lies at most at lo + s, and the new row is above
 -- lo - d, so the pairs hold of it.
 use mathlib.Core.Path.{_≡_, refl, sym, ap}
-use mathlib.Core.Logic.{_≢_, _⊎_, inl, inr}
+use mathlib.Core.Logic.{_⊎_, inl, inr}
 use mathlib.Core.List.{_∷_}
 use Prim.Native.Nat.{ℕ, suc, _+_, _≤_, _<_}
 use native.Mathlib.Nat.{le-refl}
@@ -12,11 +12,11 @@ use Rattle.rules.specs.Commit.{landedOf}
 use Rattle.rules.specs.Sequential.{Contents}
 use Rattle.rules.proofs.Types.{Settings, Putting, StackCommit, Version}
 use Rattle.rules.specs.declared.Answer.the-variants.{Put}
-use Rattle.rules.proofs.counts.Sums.{upd, upd-same, upd-other}
+use Rattle.rules.proofs.counts.Sums.{upd}
 use Rattle.rules.proofs.machine.Machine.{State, next, subIn, viewIn, phaseIn, applyIn, applyInBy}
 use Rattle.rules.proofs.counts.Wraps.{add32-suc}
 use Rattle.rules.proofs.counts.Held.{holds-put}
-use Rattle.rules.proofs.counts.Stamps.{Stamped, item-new, item-old, row-cases, stamped-put}
+use Rattle.rules.proofs.counts.Stamps.{Stamped, Added, added, row-cases, stamped-put}
 use Rattle.rules.proofs.order.Gives.{putOn, gives-put, final-put}
 use Rattle.rules.proofs.machine.Turns.{Holding}
 use Rattle.rules.proofs.stack.Inv.{Pairs, Inv}
@@ -49,27 +49,18 @@ module _ {g : Settings} {s : State} {q : Contents} {i : ℕ} (a : Stepping g s q
   j-lt : j < g .width
   j-lt = a .common .slots i .index
 
-  here : held′ j ≡ suc c
-  here = upd-same (s .first) j (suc c)
-
-  off : (m : ℕ) → m ≢ j → held′ m ≡ s .first m
-  off m n = upd-other (s .first) j (suc c) m n
-
-  it : item′ j (suc c) ≡ new
-  it = item-new (s .item) j (suc c) new
-
-  old : (m r : ℕ) → r ≤ s .first m → item′ m r ≡ s .item m r
-  old m r l = item-old (s .item) j (suc c) new m r (λ y u. let l′ : r ≤ c = rw y at l in omega arith)
+  put : Added (s .first) (s .item) j new held′ item′
+  put = added (s .first) (s .item) j new
 
   abbrev Cases : ℕ → ℕ → Type 0
   Cases m r = ((m ≡ j) × (r ≡ suc c) × (item′ m r ≡ new)) ⊎ ((r ≤ s .first m) × (item′ m r ≡ s .item m r))
 
   new-or-old : (m r : ℕ) → r ≤ held′ m → Cases m r
-  new-or-old = row-cases (a .inv .pool .stamps) j new refl here off it old
+  new-or-old = row-cases (a .inv .pool .stamps) put refl
 
   -- ---- what holds of them
   stamps : Stamped (g .width) held′ item′ (suc (s .puts))
-  stamps = stamped-put (a .inv .pool .stamps) j new refl here off it old
+  stamps = stamped-put (a .inv .pool .stamps) put refl
 
   pairs : Pairs g held′ item′
   pairs = record { near = λ m n r r′ lm ln x y x′ y′ u. near m n r r′ lm ln x x′ u (new-or-old m r y) (new-or-old n r′ y′) }
@@ -93,7 +84,7 @@ module _ {g : Settings} {s : State} {q : Contents} {i : ℕ} (a : Stepping g s q
         held =
             rw (a .inv .pool .holding .count)
             (rows-held g (a .kind) t (new ∷ q .items)
-            (holds-put (held-rows (a .inv .pool) (a .kind)) j new j-lt (λ m l. omega arith) here off it old));
+            (holds-put (held-rows (a .inv .pool) (a .kind)) j-lt (λ m l. omega arith) put));
         count = ap suc (a .inv .pool .holding .count);
       }
 

@@ -17,7 +17,7 @@ use Rattle.rules.proofs.Types.{Settings, Effect}
 use Rattle.rules.proofs.counts.Sums.{upd, upd-same, upd-other}
 use Rattle.rules.proofs.counts.Wraps.{add32-suc}
 use Rattle.rules.proofs.machine.Machine.{State, subIn, viewIn, belowIn, afterIn}
-use Rattle.rules.proofs.machine.Subs.{Keeps}
+use Rattle.rules.proofs.machine.Does.{Keeps}
 use Rattle.rules.proofs.words.Says.{Says}
 use Rattle.rules.proofs.words.Writes.{slot-kept, view-length, view-off, view-steps, view-puts, view-top, view-mark, view-first, view-second, view-slot}
 

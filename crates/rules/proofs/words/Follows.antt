@@ -32,7 +32,7 @@ use Rattle.rules.proofs.Fitness.{settings-bounds}
 use Rattle.rules.proofs.Cells.{held-fits}
 use Rattle.rules.proofs.machine.Machine.{State, next, subIn, viewIn, belowIn, takenIn, applyIn, applyInBy, stepIn, withSlot, beginIn, nextIn}
 use Rattle.rules.proofs.machine.Turns.{Common, Counts}
-use Rattle.rules.proofs.machine.Subs.{SubAfter, rule-sub}
+use Rattle.rules.proofs.machine.Does.{SubAfter, rule-in}
 use Rattle.rules.proofs.words.Says.{Says, distance-same}
 use Rattle.rules.proofs.words.Writes.{slot-length, slot-off, slot-on, slot-kept}
 use Rattle.rules.proofs.words.Fit.{checked-fit}
@@ -115,7 +115,7 @@ module _ (g : Settings) (limits : settingsFit g ≡ true) (ws : List ℕ) (s : S
     follow-rule few =
         rw (view-same, index-same)
         (follow-apply few (ruleOf g (viewIn s i)) (ruleOf g (viewIn s i) .outcome)
-        (rule-sub g bounds (viewIn s i) (counts .sub _ lj) (counts .first-few _ lj) (counts .second-few _ lj)))
+        (rule-in g bounds s common counts i .sub))
 
     follow-step : Follows g (slotStep ws g (workerAt g i))
         (cond (eqb (s .slot i .number) 0) (next (NotDone 26) s)

@@ -16,7 +16,7 @@ use Rattle.rules.proofs.Cells.{rows-pos, cell-lt}
 use Rattle.rules.proofs.counts.Sums.{upd, upd-same, upd-other}
 use Rattle.rules.proofs.counts.Stamps.{item-new, item-old}
 use Rattle.rules.proofs.machine.Machine.{State, subIn, viewIn, belowIn, afterIn, withItem}
-use Rattle.rules.proofs.machine.Subs.{Lands}
+use Rattle.rules.proofs.machine.Does.{Lands}
 use Rattle.rules.proofs.words.Says.{Says}
 use Rattle.rules.proofs.words.Writes.{slot-kept}
 use Rattle.rules.proofs.words.Places.{place, places-apart, item-length, item-off, item-here, item-there}

@@ -1,0 +1,261 @@
+-- What each rule does, read off the rules once: it leaves its worker at its index or the next, with a scan below the width and in
+-- a phase of its kind; and of the rows of its sub, by how it ends, a put adds the row above, where a cell is free, a take removes
+-- a held row, and any other step leaves the held rows as they are. A refusal is a 23 or a 26. So every pool from make has `Common`.
+use mathlib.Core.Path.{_≡_, refl, sym, _∙_}
+use mathlib.Core.Logic.{_≢_, _⊎_, inl, inr}
+use mathlib.Core.Bool.{Bool, true}
+use Prim.Native.Nat.{ℕ, suc, _+_, _-_, _≤_, _<_}
+use native.Mathlib.Nat.{le-refl, mod-lt}
+use native.Mathlib.Decide.{ℕ-discrete}
+use native.Mathlib.Omega.{arith}
+use lib.Dec.{ltb, leb, eqb}
+use borrow.Author.Tests.{ltb-true, leb-false, eqb-true, eqb-false}
+use Rattle.laws.specs.Choice.{cond, cases}
+use Rattle.laws.specs.Wrap.{add32, sub32}
+use Rattle.rules.specs.Limits.{Bounds}
+use Rattle.rules.specs.Fit.{phaseFit, SubFits}
+use Rattle.rules.specs.Held.{rowsBelow}
+use Rattle.rules.specs.Worker.{phaseOf, fresh, zeroSlot}
+use Rattle.rules.specs.Effects.{movedOf, finishedOf, nothingFor, nextOf}
+use Rattle.rules.specs.Window.{windowRule, queueSeen}
+use Rattle.rules.specs.Read.{missOf, queuePutRead, queueTakeMiss, queueTakeRead, stackRead}
+use Rattle.rules.specs.Check.{checkRule}
+use Rattle.rules.specs.Commit.{commitBy, queueCommit, stackCommit}
+use Rattle.rules.specs.Shift.{shiftBy, shiftedOf, queueShift, stackShift}
+use Rattle.rules.specs.Confirm.{counted, confirmRule, confirmedOf}
+use Rattle.rules.specs.Step.{ruleBy, ruleOf}
+use Rattle.rules.specs.Run.{Call, beginPut, beginTake, step}
+use Rattle.rules.proofs.Types.{Settings, Side, Putting, Taking, Phase, Idle, Window, QueuePutRead, QueueTakeRead, StackRead, Check, QueueCommit, StackCommit, QueueShift, StackShift, Confirm, Version, Slot, View, Effect, Outcome}
+use Rattle.rules.specs.declared.Outcome.the-variants.{Refused, Moving, Landed, Removed, Empty, Full}
+use Rattle.rules.proofs.counts.Sums.{upd, upd-all}
+use Rattle.rules.proofs.counts.Wraps.{add32-suc, sub32-is, next-lt}
+use Rattle.rules.proofs.order.Law.{Next}
+use Rattle.rules.proofs.machine.Machine.{State, subIn, viewIn, applyIn, applyInBy, stepIn, beginIn, nextIn, madeIn}
+use Rattle.rules.proofs.machine.Phases.{scanIn}
+use Rattle.rules.proofs.machine.Good.{queue-below, stack-below}
+use Rattle.rules.proofs.machine.Turns.{SlotFits, Common, Counts}
+use Rattle.rules.proofs.machine.Slots.{OfKind, phase-from, of-both, encode-fits}
+
+-- no row is held that was not held
+pub record Keeps (g : Settings) (v : View) (e : Effect) : Type 0 where
+  pub below : rowsBelow g (v .second) ≤ rowsBelow g (e .second)
+  pub first : e .first ≤ v .first
+
+-- the row above is held as well
+pub record Lands (g : Settings) (v : View) (e : Effect) : Type 0 where
+  pub below : rowsBelow g (e .second) ≡ rowsBelow g (v .second)
+  pub first : e .first ≡ suc (v .first)
+  pub row : e .row .0 ≡ suc (v .first)
+  pub free : suc (v .first) ≤ rowsBelow g (v .second) + g .rows
+
+-- the removed row was held
+pub record Removes (g : Settings) (v : View) (e : Effect) : Type 0 where
+  pub keeps : Keeps g v e
+  pub low : rowsBelow g (v .second) < e .row .0
+  pub high : e .row .0 ≤ v .first
+
+abbrev pub SubAfter : Settings → View → Effect → Outcome → Type 0
+SubAfter g v e (Refused n) = (n ≡ 23) ⊎ (n ≡ 26)
+SubAfter g v e Moving = Keeps g v e
+SubAfter g v e Landed = Lands g v e
+SubAfter g v e Removed = Removes g v e
+SubAfter g v e Empty = Keeps g v e
+SubAfter g v e Full = Keeps g v e
+
+pub record Does (g : Settings) (v : View) (e : Effect) : Type 0 where
+  pub slot : SlotFits g (e .slot)
+  pub sub : SubAfter g v e (e .outcome)
+
+module _ (g : Settings) (b : Bounds g) (v : View) (fits : SlotFits g (v .slot)) (sub : SubFits g (v .first) (v .second))
+    (first-few : v .first ≤ 4000000000) (second-few : v .second ≤ 4000000000) where
+  abbrev D : Effect → Type 0
+  D e = Does g v e
+
+  -- the sub's words as they were
+  still : (e : Effect) → e .first ≡ v .first → e .second ≡ v .second → Keeps g v e
+  still e a b = record { below = rw b (le-refl _); first = rw a (le-refl _) }
+
+  -- ---- the ways in which a rule ends
+  moved : (x : ℕ) (p : Phase) (o : Slot) → x < g .width → scanIn p (o .scan) < g .width → OfKind (g .kind) p → D (movedOf v x p o)
+  moved x p o l m t = record { slot = encode-fits g (v .slot .value) x p o l m t; sub = still _ refl refl }
+
+  here : (p : Phase) (o : Slot) → scanIn p (o .scan) < g .width → OfKind (g .kind) p → D (movedOf v (v .slot .index) p o)
+  here p o m t = moved (v .slot .index) p o (fits .index) m t
+
+  on : nextOf g (v .slot .index) < g .width
+  on = next-lt g (v .slot .index) (b .width1)
+
+  again : (x : ℕ) → x < g .width → (side : Side) (o : Slot) → o .scan < g .width → D (movedOf v x (Window side) o)
+  again x l side o m = moved x (Window side) o l m ((λ k. tt), (λ n. tt))
+
+  rested : (x : ℕ) → x < g .width → SlotFits g (fresh 0 x Idle)
+  rested x l = encode-fits g 0 x Idle _ l (b .width1) ((λ k. tt), (λ n. tt))
+
+  finished : (side : Side) (x : ℕ) → x < g .width → D (finishedOf v (nothingFor side) x)
+  finished Putting x l = record { slot = rested x l; sub = still _ refl refl }
+  finished Taking x l = record { slot = rested x l; sub = still _ refl refl }
+
+  miss : (scan : ℕ) (next after : Phase) (kept : Slot) → OfKind (g .kind) next → OfKind (g .kind) after
+      → (add32 scan 1 < g .width → scanIn next (kept .scan) < g .width) → scanIn after (kept .scan) < g .width → D (missOf g v scan next after kept)
+  unfolding missOf
+  miss scan next after kept s t l m =
+      cases D (ltb (add32 scan 1) (g .width)) _ _ (λ e. moved _ next kept on (l (ltb-true _ _ e)) s) (λ e. moved _ after kept on m t)
+
+  take-miss : (window bare scan sum : ℕ) → (g .kind ≢ 0 → ⊥) → D (queueTakeMiss g v window bare scan sum)
+  take-miss window bare scan sum q =
+      miss scan _ _ _ ((λ k. tt), (λ n. absurd (q n))) (cases (OfKind (g .kind)) (eqb bare 0) _ _ (λ e. ((λ k. tt), (λ n. absurd (q n)))) (λ e. ((λ k. tt), (λ n. absurd (q n))))) (λ l. l)
+      (cases (λ (p : Phase). scanIn p 0 < g .width) (eqb bare 0) _ _ (λ e. b .width1) (λ e. b .width1))
+
+  looks : (side : Side) → D (windowRule g v side)
+  unfolding windowRule
+  looks side =
+      cases (λ (p : Phase). D (movedOf v (v .slot .index) p zeroSlot)) (eqb (g .kind) 0) _ _
+      (λ e. queue side (λ n. n (eqb-true _ _ e))) (λ e. here _ _ (b .width1) ((λ k. absurd (eqb-false _ _ e k)), (λ n. tt)))
+    where
+      queue : (side : Side) → (g .kind ≢ 0 → ⊥) → D (movedOf v (v .slot .index) (queueSeen v side) zeroSlot)
+      queue Putting q = here _ _ (b .width1) ((λ k. tt), (λ n. absurd (q n)))
+      queue Taking q = here _ _ (b .width1) ((λ k. tt), (λ n. absurd (q n)))
+
+  shift-by : (side : Side) (same able : Bool) (top mark : ℕ) (stuck : Effect) → D stuck → D (shiftBy v side same able (shiftedOf v side top mark) stuck)
+  unfolding shiftBy
+  shift-by side same able top mark stuck d =
+      cases D same _ _
+      (λ e. cases D able _ _ (λ e. record { slot = again _ (fits .index) side _ (fits .scan) .slot; sub = still _ refl refl }) (λ e. d))
+      (λ e. again _ (fits .index) side _ (fits .scan))
+
+  -- ---- commits
+  commit-by : (side : Side) (matches able : Bool) (done : Effect) → SlotFits g (done .slot) → (able ≡ true → SubAfter g v done (done .outcome))
+      → D (commitBy g v side matches able done)
+  unfolding commitBy
+  commit-by side matches able done l d =
+      cases D matches _ _ (λ e. cases D able _ _ (λ e. record { slot = l; sub = d e }) (λ e. record { slot = fits; sub = inl refl }))
+      (λ e. again _ on side _ (fits .scan))
+
+  queue-does : g .kind ≡ 0 → (side : Side) (seen : ℕ) → D (queueCommit g v side seen)
+  unfolding queueCommit
+  queue-does k Putting seen = commit-by Putting _ _ _ (rested _ (fits .index)) (λ e.
+      let free : sub32 (v .first) (v .second) < g .rows = ltb-true _ _ e in
+      record {
+        below = refl;
+        first = add32-suc (v .first) (omega arith);
+        row = add32-suc (v .first) (omega arith);
+        free = rw (queue-below g k (v .second)) (omega (arith, sub .queue-order k, sub32-is (v .first) (v .second) (sub .queue-order k) (omega arith)));
+      })
+  queue-does k Taking seen = commit-by Taking _ _ _ (rested _ (fits .index)) (λ e.
+      let more : add32 (v .second) 1 ≡ suc (v .second) = add32-suc (v .second) (omega arith) in
+      let some : v .second < v .first = ltb-true _ _ e in
+      record {
+        keeps = record { below = rw (queue-below g k (v .second), queue-below g k (add32 (v .second) 1)) (omega arith); first = le-refl _ };
+        low = rw (queue-below g k (v .second)) (omega arith);
+        high = omega arith;
+      })
+
+  stack-does : g .kind ≡ 1 → (side : Side) (seen : Version) → D (stackCommit g v side seen)
+  unfolding stackCommit
+  stack-does k Putting seen = commit-by Putting _ _ _ (rested _ (fits .index)) (λ e.
+      let free : v .first < g .rows = ltb-true _ _ e in
+      record {
+        below = stack-below g k _ ∙ sym (stack-below g k _);
+        first = add32-suc (v .first) (omega arith);
+        row = add32-suc (v .first) (omega arith);
+        free = rw (stack-below g k (v .second)) (omega arith);
+      })
+  stack-does k Taking seen = commit-by Taking _ _ _ (rested _ (fits .index)) (λ e.
+      let some : 0 < v .first = ltb-true _ _ e in
+      let less : sub32 (v .first) 1 ≡ v .first - 1 = sub32-is (v .first) 1 some (omega arith) in
+      record {
+        keeps = record { below = rw (stack-below g k (v .second), stack-below g k (add32 (v .second) 1)) (le-refl _); first = omega arith };
+        low = rw (stack-below g k (v .second)) some;
+        high = le-refl _;
+      })
+
+  -- ---- each rule
+  queue-kind : (g .kind ≢ 0 → ⊥) → g .kind ≡ 0
+  queue-kind q = elim (ℕ-discrete (g .kind) 0) [ yes e ↦ e | no n ↦ absurd (q n) ]
+
+  stack-kind : (g .kind ≡ 0 → ⊥) → g .kind ≡ 1
+  stack-kind q = elim (ℕ-discrete (g .kind) 0) [ yes e ↦ absurd (q e) | no n ↦ omega (arith, b .kind1) ]
+
+  confirms : (side : Side) (scan sum : ℕ) → OfKind (g .kind) (Confirm side scan sum)
+      → OfKind (g .kind) (Confirm side (add32 scan 1) (sub32 sum (counted g v)))
+  confirms Putting scan sum t = t
+  confirms Taking scan sum t = t
+
+  rule-by-does : (p : Phase) → OfKind (g .kind) p → scanIn p (v .slot .scan) ≡ v .slot .scan → D (ruleBy g v p)
+  unfolding ruleBy queuePutRead queueTakeRead stackRead checkRule queueShift stackShift confirmRule confirmedOf
+  rule-by-does Idle t s = record { slot = fits; sub = inr refl }
+  rule-by-does (Window side) t s = looks side
+  rule-by-does (QueuePutRead window scan) t s =
+      cases D _ _ _ (λ e. here _ _ (fits .scan) ((λ k. tt), (λ n. absurd (t .1 n)))) (λ e. miss scan _ _ _ t ((λ k. tt), (λ n. absurd (t .1 n))) (λ l. l) (b .width1))
+  rule-by-does (QueueTakeRead window bare scan sum) t s =
+      cases D _ _ _ (λ e. take-miss window bare scan _ (t .1))
+      (λ e. cases D _ _ _ (λ e. take-miss window _ scan _ (t .1)) (λ e. here _ _ (rw s (fits .scan)) ((λ k. tt), (λ n. absurd (t .1 n)))))
+  rule-by-does (StackRead side window version scan sum) t s =
+      cases D _ _ _ (λ e. here _ _ (rw s (fits .scan)) ((λ k. absurd (t .0 k)), (λ n. tt)))
+      (λ e. miss scan _ _ _ ((λ k. absurd (t .0 k)), (λ n. tt)) ((λ k. absurd (t .0 k)), (λ n. tt)) (λ l. l) (b .width1))
+  rule-by-does (Check side version seen) t s =
+      cases D _ _ _ (λ e. here _ _ (fits .scan) ((λ k. absurd (t .0 k)), (λ n. tt))) (λ e. again _ (fits .index) side _ (fits .scan))
+  rule-by-does (QueueCommit side seen) t s = queue-does (queue-kind (t .1)) side seen
+  rule-by-does (StackCommit side seen) t s = stack-does (stack-kind (t .0)) side seen
+  rule-by-does (QueueShift Putting window) t s = shift-by Putting _ _ _ _ _ (finished Putting _ (fits .index))
+  rule-by-does (QueueShift Taking window) t s = shift-by Taking _ _ _ _ _ (finished Taking _ (fits .index))
+  rule-by-does (StackShift Putting version scan sum) t s = shift-by Putting _ _ _ _ _ (here _ _ (rw s (fits .scan)) ((λ k. absurd (t .0 k)), (λ n. tt)))
+  rule-by-does (StackShift Taking version scan sum) t s = shift-by Taking _ _ _ _ _ (here _ _ (rw s (fits .scan)) ((λ k. absurd (t .0 k)), (λ n. tt)))
+  rule-by-does (Confirm side scan sum) t s =
+      cases D _ _ _ (λ e. moved _ (Confirm side (add32 scan 1) _) _ on (ltb-true _ _ e) (confirms side scan sum t))
+      (λ e. cases D _ _ _ (λ e. finished side _ on) (λ e. again _ on side _ (b .width1)))
+
+  rule-does : D (ruleOf g v)
+  unfolding ruleOf
+  rule-does = let t = phase-from (g .kind) (v .slot) in rule-by-does (phaseOf (g .kind) (v .slot)) (t .0) (t .1)
+
+-- ---- each call
+module _ (g : Settings) (b : Bounds g) (s : State) (common : Common g s) (counts : Counts g s) where
+  pub rule-in : (i : ℕ) → Does g (viewIn s i) (ruleOf g (viewIn s i))
+  rule-in i =
+      let lj : subIn s i < g .width = common .slots i .index in
+      rule-does g b (viewIn s i) (common .slots i) (counts .sub _ lj) (counts .first-few _ lj) (counts .second-few _ lj)
+
+  slots-upd : (i : ℕ) (x : Slot) → SlotFits g x → (j : ℕ) → SlotFits g (upd (s .slot) i x j)
+  slots-upd i x l j = upd-all (λ m (y : Slot). SlotFits g y) (s .slot) i x j (λ e. l) (λ n. common .slots j)
+
+  abbrev Kept : Next State → Type 0
+  Kept o = Common g (o .state)
+
+  common-apply : (i : ℕ) → s .steps < 4000000000 → (e : Effect) → SlotFits g (e .slot) → (o : Outcome) → Kept (applyInBy g s i e o)
+  unfolding applyInBy
+  common-apply i few e l (Refused n) = common
+  common-apply i few e l Moving = record { slots = slots-upd i (e .slot) l; steps-few = few }
+  common-apply i few e l Landed = record { slots = slots-upd i (e .slot) l; steps-few = few }
+  common-apply i few e l Removed = record { slots = slots-upd i (e .slot) l; steps-few = few }
+  common-apply i few e l Empty = record { slots = slots-upd i (e .slot) l; steps-few = few }
+  common-apply i few e l Full = record { slots = slots-upd i (e .slot) l; steps-few = few }
+
+  common-step : (i : ℕ) → Kept (stepIn g s i)
+  unfolding stepIn applyIn
+  common-step i =
+      cases Kept _ _ _ (λ e. common) (λ e. cases Kept _ _ _ (λ e. common) (λ e. cases Kept (leb 4000000000 (s .steps)) _ _ (λ e. common)
+      (λ e. common-apply i (leb-false _ _ e) (ruleOf g (viewIn s i)) (rule-in i .slot) _)))
+
+  common-begin : (i : ℕ) (side : Side) (v : ℕ) → Kept (beginIn g s i side v)
+  unfolding beginIn
+  common-begin i side v =
+      cases Kept _ _ _ (λ e. common) (λ e. cases Kept _ _ _ (λ e. cases Kept _ _ _ (λ e. common)
+      (λ e. record {
+        slots = slots-upd i _ (encode-fits g v (s .slot i .index) (Window side) _ (common .slots i .index) (b .width1) ((λ k. tt), (λ n. tt)));
+        steps-few = common .steps-few;
+      })) (λ e. common))
+
+  pub common-next : (c : Call) → Common g (nextIn g s c .state)
+  unfolding nextIn
+  common-next (beginPut i v) = common-begin i Putting v
+  common-next (beginTake i) = common-begin i Taking 0
+  common-next (step i) = common-step i
+
+pub common-made : (g : Settings) → 1 ≤ g .width → Common g (madeIn g)
+unfolding madeIn phaseFit cond
+common-made g l =
+    record {
+      slots = λ i. record { index = mod-lt i l; scan = l; number = of-both (g .kind) true (λ k. refl) };
+      steps-few = omega arith;
+    }
