@@ -8,7 +8,7 @@ work=$(mktemp -d) || exit 2
 trap 'rm -rf "$work"' EXIT
 passed=0
 failed=0
-for text in examples/*.txt; do
+for text in examples/*.txt examples/runs/*.txt; do
     listing=${text%.txt}.listing
     if tools/runfile pack <"$text" >"$work/run" && "$lister" <"$work/run" >"$work/listing" 2>"$work/errors" &&
         cmp -s "$work/listing" "$listing" && [ ! -s "$work/errors" ]; then

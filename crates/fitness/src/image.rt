@@ -1,6 +1,6 @@
 // The order of the refusals before a call.
-use crate::settings::settings_fit;
-use crate::settings::words_needed;
+use crate::limits::settings_fit;
+use crate::limits::words_needed;
 use crate::subs::subs_fit;
 use crate::workers::workers_fit;
 use rules::Checked;
@@ -8,7 +8,7 @@ use rules::Settings;
 ghost use mathlib.Core.Path.{_≡_};
 ghost use Prim.Native.Nat.{_≤_};
 ghost use lib.ListN.{length};
-ghost use Rattle.rules.specs.Fit.{headFit, bodyChecked, checkedOf};
+ghost use Rattle.rules.specs.Fit.{headFit, bodyChecked, checkedOf, refusalOf};
 ghost use Rattle.rules.specs.Layout.{settingsOf};
 ghost use Rattle.rules.specs.Limits.{Bounds};
 
@@ -26,38 +26,47 @@ fn head_fit(words: &[u32], g: Settings) -> bool
 }
 
 // The words needed, then the subs and the workers.
-fn body_checked(words: &[u32], g: Settings) -> Checked
+fn body_refusal(words: &[u32], g: Settings) -> u32
     requires { ⌜ Bounds g ⌝ }
-    ensures { λ r. ⌜ r ≡ bodyChecked (now (words .entry)) g ⌝ }
+    ensures { λ r. ⌜ r ≡ refusalOf (bodyChecked (now (words .entry)) g) ⌝ }
 {
     if words.len() < words_needed(g) {
-        return Checked::Unfit(21);
+        return 21;
     }
     if subs_fit(words, g) {
         if workers_fit(words, g) {
-            return Checked::Fit(g);
+            return 0;
         }
     }
-    Checked::Unfit(23)
+    23
 }
 
-// The settings of a fit pool, or the refusal.
-pub fn checked(words: &[u32]) -> Checked
-    ensures { λ r. ⌜ r ≡ checkedOf (now (words .entry)) ⌝ }
+// The settings that the words hold.
+pub fn settings(words: &[u32]) -> Settings
+    requires { ⌜ 12 ≤ length (now words) ⌝ }
+    ensures { λ r. ⌜ r ≡ settingsOf (now (words .entry)) ⌝ }
 {
-    if words.len() < 12 {
-        return Checked::Unfit(21);
-    }
-    let g = Settings {
+    Settings {
         kind: words[0],
         width: words[1],
         depth: words[2],
         shift: words[3],
         rows: words[4],
         workers: words[5],
-    };
-    if head_fit(words, g) {
-        return body_checked(words, g);
     }
-    Checked::Unfit(23)
+}
+
+// The number of the refusal where the words are no fit pool, else 0. A number and not the settings: a struct would go
+// through memory at every call.
+pub fn refusal(words: &[u32]) -> u32
+    ensures { λ r. ⌜ r ≡ refusalOf (checkedOf (now (words .entry))) ⌝ }
+{
+    if words.len() < 12 {
+        return 21;
+    }
+    let g = settings(words);
+    if head_fit(words, g) {
+        return body_refusal(words, g);
+    }
+    23
 }

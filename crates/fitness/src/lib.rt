@@ -1,9 +1,10 @@
 // Which words are a fit pool: the first unfit word ends the check.
 mod image;
-mod settings;
+mod limits;
 mod subs;
 mod workers;
 
-pub use image::checked;
-pub use settings::settings_fit;
-pub use settings::words_needed;
+pub use image::refusal;
+pub use image::settings;
+pub use limits::settings_fit;
+pub use limits::words_needed;

@@ -1,6 +1,6 @@
 // The items held by a pool.
-use fitness::checked;
-use rules::Checked;
+use fitness::refusal;
+use fitness::settings;
 use rules::Settings;
 ghost use mathlib.Core.Path.{_≡_};
 ghost use lib.ListN.{length};
@@ -35,9 +35,9 @@ fn fit_held(words: &[u32], g: Settings) -> u32
 pub fn held(words: &[u32]) -> u32
     ensures { λ r. ⌜ r ≡ heldOf (now (words .entry)) ⌝ }
 {
-    let c = checked(words);
-    match c {
-        Checked::Unfit(_) => 0,
-        Checked::Fit(g) => fit_held(words, g),
+    if refusal(words) != 0 {
+        return 0;
     }
+    let g = settings(words);
+    fit_held(words, g)
 }

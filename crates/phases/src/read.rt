@@ -13,19 +13,7 @@ use rules::Version;
 use rules::View;
 ghost use mathlib.Core.Path.{_≡_};
 ghost use Prim.Native.Nat.{_<_};
-ghost use Rattle.rules.specs.Read.{missOf, queuePutRead, queueTakeMiss, queueTakeRead, stackHit, stackRead, afterTakes};
-
-// A miss: the next index, in the read phase again or, with all subs missed, in the phase after it.
-fn miss(g: Settings, v: View, scan: u32, again: Phase, after: Phase, kept: Slot) -> Effect
-    requires { ⌜ v .slot .index < g .width ⌝ }
-    ensures { λ r. ⌜ r ≡ missOf g v scan again after kept ⌝ }
-{
-    let index = next(g, v.slot.index);
-    if plus(scan, 1) < g.width {
-        return moved(v, index, again, kept);
-    }
-    moved(v, index, after, kept)
-}
+ghost use Rattle.rules.specs.Read.{queuePutRead, queueTakeMiss, queueTakeRead, stackHit, stackRead, afterTakes};
 
 pub fn queue_put_read(g: Settings, v: View, window: u32, scan: u32) -> Effect
     requires { ⌜ v .slot .index < g .width ⌝ }
@@ -43,21 +31,28 @@ pub fn queue_put_read(g: Settings, v: View, window: u32, scan: u32) -> Effect
             slot,
         );
     }
-    let again = Phase::QueuePutRead {
-        window,
-        scan: plus(scan, 1),
-    };
-    let after = Phase::QueueShift {
-        side: Side::Putting,
-        window,
-    };
-    miss(
-        g,
+    let index = next(g, v.slot.index);
+    let kept = with_pass(slot, v.slot.extra, 0, v.slot.sum);
+    let missed = plus(scan, 1);
+    if missed < g.width {
+        return moved(
+            v,
+            index,
+            Phase::QueuePutRead {
+                window,
+                scan: missed,
+            },
+            kept,
+        );
+    }
+    moved(
         v,
-        scan,
-        again,
-        after,
-        with_pass(slot, v.slot.extra, 0, v.slot.sum),
+        index,
+        Phase::QueueShift {
+            side: Side::Putting,
+            window,
+        },
+        kept,
     )
 }
 
@@ -83,20 +78,23 @@ fn queue_take_miss(g: Settings, v: View, window: u32, bare: u32, scan: u32, sum:
     ensures { λ r. ⌜ r ≡ queueTakeMiss g v window bare scan sum ⌝ }
 {
     let slot = v.slot;
-    let again = Phase::QueueTakeRead {
-        window,
-        bare,
-        scan: plus(scan, 1),
-        sum,
-    };
-    miss(
-        g,
-        v,
-        scan,
-        again,
-        after_takes(window, bare, sum),
-        with_pass(slot, bare, 0, sum),
-    )
+    let index = next(g, v.slot.index);
+    let kept = with_pass(slot, bare, 0, sum);
+    let missed = plus(scan, 1);
+    if missed < g.width {
+        return moved(
+            v,
+            index,
+            Phase::QueueTakeRead {
+                window,
+                bare,
+                scan: missed,
+                sum,
+            },
+            kept,
+        );
+    }
+    moved(v, index, after_takes(window, bare, sum), kept)
 }
 
 pub fn queue_take_read(g: Settings, v: View, window: u32, bare: u32, scan: u32, sum: u32) -> Effect
@@ -157,18 +155,31 @@ pub fn stack_read(
             with_pass(slot, version.0, scan, total),
         );
     }
-    let again = Phase::StackRead {
-        side,
-        window,
-        version,
-        scan: plus(scan, 1),
-        sum: total,
-    };
-    let after = Phase::StackShift {
-        side,
-        version,
-        scan: 0,
-        sum: total,
-    };
-    miss(g, v, scan, again, after, slot)
+    let index = next(g, v.slot.index);
+    let missed = plus(scan, 1);
+    if missed < g.width {
+        return moved(
+            v,
+            index,
+            Phase::StackRead {
+                side,
+                window,
+                version,
+                scan: missed,
+                sum: total,
+            },
+            slot,
+        );
+    }
+    moved(
+        v,
+        index,
+        Phase::StackShift {
+            side,
+            version,
+            scan: 0,
+            sum: total,
+        },
+        slot,
+    )
 }

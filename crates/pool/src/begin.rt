@@ -1,6 +1,7 @@
 // Begin put and begin take.
 use crate::slot::store;
-use fitness::checked;
+use fitness::refusal;
+use fitness::settings;
 use phases::worker::fresh_slot;
 use rules::Answer;
 use rules::Checked;
@@ -45,11 +46,12 @@ fn fit_begin(words: &mut [u32], g: Settings, i: u32, side: Side, value: u32) -> 
 fn begin(words: &mut [u32], i: u32, side: Side, value: u32) -> Answer
     ensures { λ r. ⌜ out r (now (words .exit)) ≡ beginOf (now (words .entry)) i side value ⌝ }
 {
-    let c = checked(words);
-    match c {
-        Checked::Unfit(n) => Answer::Refused(n),
-        Checked::Fit(g) => fit_begin(words, g, i, side, value),
+    let n = refusal(words);
+    if n != 0 {
+        return Answer::Refused(n);
     }
+    let g = settings(words);
+    fit_begin(words, g, i, side, value)
 }
 
 // Begins a put of a value by a worker.

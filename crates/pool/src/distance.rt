@@ -7,24 +7,17 @@ ghost use lib.ListN.{length};
 ghost use Rattle.rules.specs.Fit.{SubFits, FitPool};
 ghost use Rattle.rules.specs.Layout.{needed, firstOf, secondOf};
 ghost use Rattle.rules.specs.Limits.{Bounds};
-ghost use Rattle.rules.specs.Held.{passedOver, cellItems, countItems, heldSub, distanceOf, rowsBelow};
+ghost use Rattle.rules.specs.Held.{stampUpTo, passedOver, cellItems, countItems, heldSub, distanceOf};
 
-// Whether a take of stamp `s` passes over an item.
-fn passes(kind: u32, s: u32, stamp: u32) -> bool
-    ensures { λ r. ⌜ r ≡ passedOver kind s (record { value = 0; stamp = stamp }) ⌝ }
-{
-    if kind == 0 { stamp < s } else { s < stamp }
-}
-
-// How many items of `count` cells from word `at` on a take of stamp `s` passes over.
-fn run_distance(words: &[u32], at: usize, count: usize, kind: u32, s: u32) -> u32
-    requires { ⌜ (at + 2 * count ≤ length (now words)) × (count ≤ 1024) ⌝ }
-    ensures { λ r. ⌜ (r ≡ countItems (passedOver kind s) (cellItems (now (words .entry)) at count)) × (r ≤ count) ⌝ }
+// How many of the first `count` cells have a stamp of at most `s`.
+fn stamps_upto(cells: &[u32], count: usize, s: u32) -> u32
+    requires { ⌜ (2 * count ≤ length (now cells)) × (count ≤ 1024) ⌝ }
+    ensures { λ r. ⌜ (r ≡ countItems (stampUpTo s) (cellItems (now (cells .entry)) 0 count)) × (r ≤ count) ⌝ }
 {
     let mut n: u32 = 0;
     let mut k: usize = 0;
     while k < count {
-        if passes(kind, s, words[at + 2 * k + 1]) {
+        if cells[2 * k + 1] <= s {
             n += 1;
         }
         k += 1;
@@ -32,11 +25,53 @@ fn run_distance(words: &[u32], at: usize, count: usize, kind: u32, s: u32) -> u3
     n
 }
 
-// The rows of a sub below its held ones.
-fn rows_below(g: Settings, second: u32) -> u32
-    ensures { λ r. ⌜ r ≡ rowsBelow g second ⌝ }
+// How many of the `count` cells from word `at` on have a stamp below `s`.
+fn older(words: &[u32], at: usize, count: usize, s: u32) -> u32
+    requires { ⌜ (at + 2 * count ≤ length (now words)) × (count ≤ 1024) ⌝ }
+    ensures { λ r. ⌜ (r ≡ countItems (passedOver 0 s) (cellItems (now (words .entry)) at count)) × (r ≤ count) ⌝ }
 {
-    if g.kind == 0 { second } else { 0 }
+    if s == 0 {
+        return 0;
+    }
+    stamps_upto(&words[at..], count, s - 1)
+}
+
+// How many of the `count` cells from word `at` on have a stamp above `s`.
+fn newer(words: &[u32], at: usize, count: usize, s: u32) -> u32
+    requires { ⌜ (at + 2 * count ≤ length (now words)) × (count ≤ 1024) ⌝ }
+    ensures { λ r. ⌜ (r ≡ countItems (passedOver 1 s) (cellItems (now (words .entry)) at count)) × (r ≤ count) ⌝ }
+{
+    (count as u32) - stamps_upto(&words[at..], count, s)
+}
+
+// How many held items of a queue's sub `j` are older than stamp `s`: up to the last cell, and on from the first.
+fn queue_distance(words: &[u32], g: Settings, j: u32, s: u32) -> u32
+    requires { ⌜ (g .kind ≡ 0) × Bounds g ⌝ }
+    requires { ⌜ (needed g ≤ length (now words)) × (j < g .width) ⌝ }
+    requires { ⌜ SubFits g (firstOf (now words) j) (secondOf (now words) j) ⌝ }
+    ensures { λ r. ⌜ (r ≡ countItems (passedOver 0 s) (heldSub (now (words .entry)) g j)) × (r ≤ 1024) ⌝ }
+{
+    let sub = 12 + 2 * (j as usize);
+    let taken = words[sub + 1];
+    let held = (words[sub] - taken) as usize;
+    let base = sub_cells(g, j);
+    let start = (taken % g.rows) as usize;
+    let room = (g.rows as usize) - start;
+    if held <= room {
+        return older(words, base + 2 * start, held, s);
+    }
+    older(words, base + 2 * start, room, s) + older(words, base, held - room, s)
+}
+
+// How many held items of a stack's sub `j` are newer than stamp `s`.
+fn stack_distance(words: &[u32], g: Settings, j: u32, s: u32) -> u32
+    requires { ⌜ (1 ≤ g .kind) × Bounds g ⌝ }
+    requires { ⌜ (needed g ≤ length (now words)) × (j < g .width) ⌝ }
+    requires { ⌜ SubFits g (firstOf (now words) j) (secondOf (now words) j) ⌝ }
+    ensures { λ r. ⌜ (r ≡ countItems (passedOver 1 s) (heldSub (now (words .entry)) g j)) × (r ≤ 1024) ⌝ }
+{
+    let held = words[12 + 2 * (j as usize)] as usize;
+    newer(words, sub_cells(g, j), held, s)
 }
 
 // How many held items of sub `j` a take of stamp `s` passes over.
@@ -46,18 +81,10 @@ fn sub_distance(words: &[u32], g: Settings, j: u32, s: u32) -> u32
     requires { ⌜ SubFits g (firstOf (now words) j) (secondOf (now words) j) ⌝ }
     ensures { λ r. ⌜ (r ≡ countItems (passedOver (g .kind) s) (heldSub (now (words .entry)) g j)) × (r ≤ 1024) ⌝ }
 {
-    let sub = 12 + 2 * (j as usize);
-    let below = rows_below(g, words[sub + 1]);
-    let held = (words[sub] - below) as usize;
-    let rows = g.rows as usize;
-    let base = sub_cells(g, j);
-    let start = (below as usize) % rows;
-    let room = rows - start;
-    if held <= room {
-        return run_distance(words, base + 2 * start, held, g.kind, s);
+    if g.kind == 0 {
+        return queue_distance(words, g, j, s);
     }
-    run_distance(words, base + 2 * start, room, g.kind, s)
-        + run_distance(words, base, held - room, g.kind, s)
+    stack_distance(words, g, j, s)
 }
 
 // How many held items a take of stamp `s` passes over.

@@ -1,7 +1,8 @@
 // One step of a worker.
 use crate::apply::apply;
 use crate::view::view;
-use fitness::checked;
+use fitness::refusal;
+use fitness::settings;
 use phases::rule::rule;
 use rules::Answer;
 use rules::Checked;
@@ -49,9 +50,10 @@ fn fit_step(words: &mut [u32], g: Settings, i: u32) -> Answer
 pub fn step(words: &mut [u32], worker: u32) -> Answer
     ensures { λ r. ⌜ out r (now (words .exit)) ≡ stepOf (now (words .entry)) worker ⌝ }
 {
-    let c = checked(words);
-    match c {
-        Checked::Unfit(n) => Answer::Refused(n),
-        Checked::Fit(g) => fit_step(words, g, worker),
+    let n = refusal(words);
+    if n != 0 {
+        return Answer::Refused(n);
     }
+    let g = settings(words);
+    fit_step(words, g, worker)
 }

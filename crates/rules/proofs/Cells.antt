@@ -7,15 +7,16 @@ use mathlib.Core.Bool.{Bool, true, false}
 use native.Mathlib.Nat.{mod-lt, mod-add-mod, mod-eq-of-lt, mod-self, mul-le-mul-right, suc-mul, add-zero, add-suc}
 use native.Mathlib.Numerals.{add-one}
 use native.Mathlib.Omega.{arith}
-use lib.ListN.{getD}
-use lib.Dec.{eqb}
-use borrow.Author.Tests.{eqb-true, eqb-false}
+use lib.ListN.{getD, length, take, drop, length-append}
+use lib.Seq.{getD-drop, getD-take}
+use lib.Dec.{leb, ltb, eqb}
+use borrow.Author.Tests.{eq-eqb, ne-eqb, eqb-true, eqb-false, leb-true, leb-false, lt-ltb, le-ltb, le-leb, lt-leb}
 use Rattle.laws.specs.Choice.{cond, cond-true, cond-false}
 use Rattle.laws.specs.Wrap.{sub32}
 use Rattle.rules.specs.Layout.{cellsAt, cellAt, firstOf, secondOf}
 use Rattle.rules.specs.Limits.{Bounds}
 use Rattle.rules.specs.Fit.{SubFits}
-use Rattle.rules.specs.Held.{Item, itemAt, rowsBelow, rowsHeld, itemsAbove, heldSub, heldBelow, cellItems, countItems}
+use Rattle.rules.specs.Held.{Item, rowsBelow, rowsHeld, itemsAbove, heldSub, heldBelow, cellItems, countItems, passedOver, stampUpTo}
 use Rattle.rules.specs.declared.Settings.{Settings}
 
 -- ---- cells
@@ -55,6 +56,65 @@ module _ (p : Item → Bool) (ws : List ℕ) (at k : ℕ) where
 
   pub cells-miss : p next ≡ false → countItems p (cellItems ws at (k + 1)) ≡ countItems p (cellItems ws at k)
   cells-miss e = cells-more p ws at k ∙ simp (e, cond-false, add-zero)
+
+-- one cell more from the first word on, whose stamp is at most s, or not
+module _ (ws : List ℕ) (k s : ℕ) where
+  abbrev counted : ℕ → ℕ
+  counted n = countItems (stampUpTo s) (cellItems ws 0 n)
+
+  place : 0 + 2 * k + 1 ≡ 2 * k + 1
+  place = omega arith
+
+  pub stamp-within : getD ws (2 * k + 1) 0 ≤ s → counted (k + 1) ≡ counted k + 1
+  stamp-within h = cells-hit (stampUpTo s) ws 0 k (le-leb (getD ws (0 + 2 * k + 1) 0) s (rw place h))
+
+  pub stamp-above : s < getD ws (2 * k + 1) 0 → counted (k + 1) ≡ counted k
+  stamp-above h = cells-miss (stampUpTo s) ws 0 k (lt-leb (getD ws (0 + 2 * k + 1) 0) s (rw place h))
+
+-- the cells of a part of the words, from its start
+pub cells-part : (ws : List ℕ) (n at k : ℕ) → 2 * k ≤ n → cellItems (take n (drop at ws)) 0 k ≡ cellItems ws at k
+unfolding cellItems
+cells-part ws n at zero h = refl
+cells-part ws n at (suc k) h =
+    let word : (i j : ℕ) → i < n → at + i ≡ j → getD (take n (drop at ws)) i 0 ≡ getD ws j 0 =
+    λ i j l e. getD-take n (drop at ws) i 0 l ∙ getD-drop at ws i 0 ∙ ap (λ (x : ℕ). getD ws x 0) e in
+    rw (
+      cells-part ws n at k (omega arith),
+      word (0 + 2 * k) (at + 2 * k) (omega arith) (omega arith),
+      word (0 + 2 * k + 1) (at + 2 * k + 1) (omega arith) (omega arith),
+    )
+    refl
+
+-- ---- older and newer stamps by those up to a bound
+pub older-none : (xs : List Item) → countItems (passedOver 0 0) xs ≡ 0
+unfolding countItems cond
+older-none [] = refl
+older-none (x ∷ xs) = rw (le-ltb (x .stamp) 0 (omega arith)) (omega (arith, older-none xs))
+
+pub older-upto : (s : ℕ) (xs : List Item) → countItems (passedOver 0 (s + 1)) xs ≡ countItems (stampUpTo s) xs
+unfolding countItems cond
+older-upto s [] = refl
+older-upto s (x ∷ xs) = go (leb (x .stamp) s) refl (older-upto s xs)
+  where
+    go : (b : Bool) → leb (x .stamp) s ≡ b → countItems (passedOver 0 (s + 1)) xs ≡ countItems (stampUpTo s) xs
+        → cond (ltb (x .stamp) (s + 1)) 1 0 + countItems (passedOver 0 (s + 1)) xs ≡ cond (leb (x .stamp) s) 1 0 + countItems (stampUpTo s) xs
+    go true e rest = let h = leb-true (x .stamp) s e in rw (e, lt-ltb (x .stamp) (s + 1) (omega arith)) (omega arith)
+    go false e rest = let h = leb-false (x .stamp) s e in rw (e, le-ltb (x .stamp) (s + 1) (omega arith)) (omega arith)
+
+pub newer-rest : (s : ℕ) (xs : List Item) → countItems (passedOver 1 s) xs + countItems (stampUpTo s) xs ≡ length xs
+unfolding countItems cond
+newer-rest s [] = refl
+newer-rest s (x ∷ xs) = go (leb (x .stamp) s) refl (newer-rest s xs)
+  where
+    go : (b : Bool) → leb (x .stamp) s ≡ b → countItems (passedOver 1 s) xs + countItems (stampUpTo s) xs ≡ length xs
+        → cond (ltb s (x .stamp)) 1 0 + countItems (passedOver 1 s) xs + (cond (leb (x .stamp) s) 1 0 + countItems (stampUpTo s) xs) ≡ length (x ∷ xs)
+    go true e rest = let h = leb-true (x .stamp) s e in rw (e, le-ltb s (x .stamp) h) (omega arith)
+    go false e rest = let h = leb-false (x .stamp) s e in rw (e, lt-ltb s (x .stamp) h) (omega arith)
+
+pub cells-length : (ws : List ℕ) (at k : ℕ) → length (cellItems ws at k) ≡ k
+unfolding cellItems
+cells-length ws at zero = refl
+cells-length ws at (suc k) = rw (length-append (cellItems ws at k) _) (omega (arith, cells-length ws at k))
 
 -- one sub more
 pub subs-none : (p : Item → Bool) (ws : List ℕ) (g : Settings) → countItems p (heldBelow ws g 0) ≡ 0
@@ -131,3 +191,22 @@ module _ (ws : List ℕ) (g : Settings) (j t : ℕ) (is : t ≡ rowsBelow g (sec
       (ap (itemsAbove ws g j t) whole
       ∙ above-split ws g j t room (held - room)
       ∙ rw (above-straight ws g j t room (omega arith) (omega arith), above-straight ws g j (t + room) (held - room) (omega arith) (omega (arith, wraps)), from) refl)
+
+-- ---- by kind
+pub queue-rows-below : (g : Settings) (second : ℕ) → g .kind ≡ 0 → second ≡ rowsBelow g second
+unfolding cond
+queue-rows-below g second e = rw (eq-eqb (g .kind) 0 e) refl
+
+stack-rows-below : (g : Settings) (second : ℕ) → 1 ≤ g .kind → 0 ≡ rowsBelow g second
+unfolding cond
+stack-rows-below g second k = rw (ne-eqb (g .kind) 0 (λ e. omega arith)) refl
+
+-- a stack's held rows are its first cells
+pub stack-one-run : (ws : List ℕ) (g : Settings) (j : ℕ) → Bounds g → 1 ≤ g .kind → firstOf ws j ≤ g .rows
+    → heldSub ws g j ≡ cellItems ws (cellsAt g + 2 * (j * g .rows)) (firstOf ws j)
+stack-one-run ws g j b k h =
+    let zero-start : 0 % g .rows ≡ 0 = mod-eq-of-lt {n = 0} (rows-pos g b) in
+    let from : cellsAt g + 2 * (j * g .rows) + 2 * (0 % g .rows) ≡ cellsAt g + 2 * (j * g .rows) = omega (arith, zero-start) in
+    let all : firstOf ws j - 0 ≡ firstOf ws j = omega arith in
+    held-one-run ws g j 0 (stack-rows-below g (secondOf ws j) k) (omega (arith, b .rows1024)) (omega arith) (omega (arith, zero-start, rows-pos g b)) (omega (arith, zero-start))
+    ∙ rw (from, all) refl

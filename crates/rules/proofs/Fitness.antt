@@ -1,17 +1,17 @@
 -- What the tests of settings and fitness say where they hold: settings within limits have the limits as orders, and a
 -- pool that is checked fit has each field of `FitPool`. Each test is read off the choice that it stands in.
-use Prim.Native.Nat.{ℕ, _+_, _*_, _-_, _%_, _<_, _≤_}
-use mathlib.Core.Path.{_≡_, refl, sym, subst, _∙_}
+use Prim.Native.Nat.{ℕ, _+_, _-_, _%_, _<_, _≤_}
+use mathlib.Core.Path.{_≡_, refl, subst}
 use mathlib.Core.List.{List}
 use mathlib.Core.Bool.{Bool, true, false}
 use native.Mathlib.Omega.{arith}
 use lib.ListN.{getD, length}
-use lib.Dec.{ltb, leb, eqb, lit<}
+use lib.Dec.{ltb, leb, lit<}
 use borrow.Author.Tests.{ltb-true, ltb-false, leb-true, eq-eqb, ne-eqb, eqb-true}
-use Rattle.laws.specs.Choice.{cond, both, both-true, all, all-holds, allBelow, allBelow-at}
-use Rattle.rules.specs.Layout.{headWords, workerWords, workerAt, needed, settingsOf, firstOf, secondOf}
+use Rattle.laws.specs.Choice.{cond, cases, both-true, all, all-holds, allBelow-at}
+use Rattle.rules.specs.Layout.{headWords, workerWords, workerAt, needed, settingsOf}
 use Rattle.rules.specs.Limits.{limits, queueLimits, settingsFit, Bounds}
-use Rattle.rules.specs.Fit.{headFit, subFit, subsFit, wordFit, workersFit, bodyChecked, checkedOf, SubFits, FitPool}
+use Rattle.rules.specs.Fit.{headFit, subFit, subsFit, wordFit, workersFit, bodyChecked, checkedOf, refusalOf, SubFits, FitPool}
 use Rattle.rules.specs.declared.Settings.{Settings}
 use Rattle.rules.specs.declared.Checked.{Checked}
 use Rattle.rules.specs.declared.Checked.the-variants.{Unfit, Fit}
@@ -108,3 +108,35 @@ fit-pool ws g e =
     let head = passed (headFit ws) 23 _ g (passed-not (ltb (length ws) headWords) 21 _ g e .1) in
     let p = body-fit ws (settingsOf ws) g refl (both-true _ _ (head .0) .0) (head .1) in
     subst (λ (h : Settings). FitPool h ws) (p .1) (p .0)
+
+-- a refusal's number is not 0, so 0 means that the pool is fit, and any other number is the refusal
+Numbered : Settings → Checked → Type 0
+Numbered h (Unfit n) = 1 ≤ n
+Numbered h (Fit g) = h ≡ g
+
+body-numbered : (ws : List ℕ) (g : Settings) → Numbered g (bodyChecked ws g)
+unfolding bodyChecked Numbered
+body-numbered ws g =
+    cases (Numbered g) (ltb (length ws) (needed g)) _ _ (λ e. omega arith)
+    (λ e. cases (Numbered g) (subsFit ws g) _ _ (λ f. cases (Numbered g) (workersFit ws g) _ _ (λ h. refl) (λ h. omega arith)) (λ f. omega arith))
+
+numbered : (ws : List ℕ) → Numbered (settingsOf ws) (checkedOf ws)
+unfolding checkedOf Numbered
+numbered ws =
+    cases (Numbered (settingsOf ws)) (ltb (length ws) headWords) _ _ (λ e. omega arith)
+    (λ e. cases (Numbered (settingsOf ws)) (headFit ws) _ _ (λ f. body-numbered ws (settingsOf ws)) (λ f. omega arith))
+
+pub refusal-none : (ws : List ℕ) → refusalOf (checkedOf ws) ≡ 0 → checkedOf ws ≡ Fit (settingsOf ws)
+unfolding Numbered
+refusal-none ws = go (checkedOf ws) (numbered ws)
+  where
+    go : (c : Checked) → Numbered (settingsOf ws) c → refusalOf c ≡ 0 → c ≡ Fit (settingsOf ws)
+    go (Unfit n) h e = absurd (omega arith)
+    go (Fit g) h e = rw h refl
+
+pub refusal-some : (ws : List ℕ) → ¬ (refusalOf (checkedOf ws) ≡ 0) → checkedOf ws ≡ Unfit (refusalOf (checkedOf ws))
+refusal-some ws = go (checkedOf ws)
+  where
+    go : (c : Checked) → ¬ (refusalOf c ≡ 0) → c ≡ Unfit (refusalOf c)
+    go (Unfit n) h = refl
+    go (Fit g) h = absurd (h refl)

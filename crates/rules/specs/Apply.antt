@@ -6,7 +6,7 @@ use Rattle.laws.specs.Wrap.{add32}
 use Rattle.rules.specs.Answers.{Out, out, refuse}
 use Rattle.rules.specs.Layout.{stepsAt, putsAt, topAt, markAt, subAt, cellAt}
 use Rattle.rules.specs.Worker.{putSlot}
-use Rattle.rules.specs.Held.{Item, itemAt, distanceOf}
+use Rattle.rules.specs.Held.{itemAt, distanceOf}
 use Rattle.rules.specs.declared.Settings.{Settings}
 use Rattle.rules.specs.declared.Row.{Row}
 use Rattle.rules.specs.declared.Stamp.{Stamp}

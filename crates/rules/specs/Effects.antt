@@ -2,9 +2,6 @@
 use Prim.Native.Nat.{ℕ, _+_, _%_}
 use mathlib.Core.List.{List}
 use lib.ListN.{getD}
-use lib.Dec.{ltb}
-use Rattle.laws.specs.Choice.{cond}
-use Rattle.laws.specs.Wrap.{add32}
 use Rattle.rules.specs.Layout.{putsAt, topAt, markAt, firstOf, secondOf}
 use Rattle.rules.specs.Worker.{slotAt, encode, fresh}
 use Rattle.rules.specs.declared.Settings.{Settings}
@@ -16,7 +13,7 @@ use Rattle.rules.specs.declared.Slot.{Slot}
 use Rattle.rules.specs.declared.View.{View}
 use Rattle.rules.specs.declared.Effect.{Effect}
 use Rattle.rules.specs.declared.Outcome.{Outcome}
-use Rattle.rules.specs.declared.Outcome.the-variants.{Refused, Moving, Landed, Removed, Empty, Full}
+use Rattle.rules.specs.declared.Outcome.the-variants.{Refused, Moving, Empty, Full}
 
 -- what the worker whose words start at `at` reads
 unfoldable pub viewOf : List ℕ → ℕ → View

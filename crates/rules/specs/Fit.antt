@@ -1,12 +1,12 @@
 -- "Fit", and the order of the refusals before it.
-use Prim.Native.Nat.{ℕ, _+_, _*_, _-_, _<_, _≤_}
+use Prim.Native.Nat.{ℕ, _+_, _-_, _<_, _≤_}
 use mathlib.Core.Path.{_≡_}
 use mathlib.Core.List.{List}
 use mathlib.Core.Bool.{Bool, true, false}
 use lib.ListN.{getD, length}
 use lib.Dec.{ltb, leb, eqb}
 use Rattle.laws.specs.Choice.{cond, both, allBelow}
-use Rattle.rules.specs.Layout.{headWords, workerWords, workersAt, workerAt, needed, settingsOf, firstOf, secondOf}
+use Rattle.rules.specs.Layout.{headWords, workerWords, workerAt, needed, settingsOf, firstOf, secondOf}
 use Rattle.rules.specs.Limits.{settingsFit, Bounds}
 use Rattle.rules.specs.declared.Settings.{Settings}
 use Rattle.rules.specs.declared.Checked.{Checked}
@@ -47,6 +47,11 @@ bodyChecked ws g =
 -- 21 for 12 words, 23 for the settings and words 10, 11, then the above
 unfoldable pub checkedOf : List ℕ → Checked
 checkedOf ws = cond (ltb (length ws) headWords) (Unfit 21) (cond (headFit ws) (bodyChecked ws (settingsOf ws)) (Unfit 23))
+
+-- the number of a refusal; 0 for a fit pool
+abbrev pub refusalOf : Checked → ℕ
+refusalOf (Unfit n) = n
+refusalOf (Fit g) = 0
 
 -- what a sub that fits has
 pub record SubFits (g : Settings) (first second : ℕ) : Type 0 where

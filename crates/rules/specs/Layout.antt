@@ -1,5 +1,5 @@
 -- "The pool's words": where each part lies. Nothing else knows a place.
-use Prim.Native.Nat.{ℕ, _+_, _*_, _%_, _≤_, _<_}
+use Prim.Native.Nat.{ℕ, _+_, _*_, _%_, _≤_}
 use mathlib.Core.List.{List}
 use lib.ListN.{getD, length}
 use Rattle.laws.specs.Wrap.{sub32}

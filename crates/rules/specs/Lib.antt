@@ -1,4 +1,4 @@
--- Paper 01's rules as definitions, a file for each paragraph, in its order.
+-- Paper 01's rules as definitions, a file for each paragraph, in its order; then the sequential specification and the statement.
 pub mod Answers
 pub mod Layout
 pub mod Limits
@@ -16,3 +16,8 @@ pub mod Confirm
 pub mod Held
 pub mod Apply
 pub mod Step
+pub mod Untouched
+pub mod Sequential
+pub mod Run
+pub mod Statement
+pub mod Consequences

@@ -1,5 +1,5 @@
 -- "Make": P = T = d, or G = d; worker i has index i mod w; all other needed words but the settings are zero.
-use Prim.Native.Nat.{ℕ, zero, suc, _+_, _*_, _%_}
+use Prim.Native.Nat.{ℕ, zero, suc, _+_, _%_}
 use mathlib.Core.List.{List, [], _∷_}
 use lib.ListN.{set, length}
 use lib.Seq.{sets}

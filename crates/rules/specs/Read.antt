@@ -1,5 +1,5 @@
 -- "Read", of the sub at the index. The sum grows by items put (queue take) or by the version (stack), hit or miss.
-use Prim.Native.Nat.{ℕ, _+_}
+use Prim.Native.Nat.{ℕ}
 use mathlib.Core.Bool.{Bool}
 use lib.Dec.{ltb, leb, eqb}
 use Rattle.laws.specs.Choice.{cond}

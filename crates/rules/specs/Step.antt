@@ -4,7 +4,7 @@ use mathlib.Core.List.{List}
 use lib.ListN.{getD}
 use lib.Dec.{leb, eqb}
 use Rattle.laws.specs.Choice.{cond}
-use Rattle.rules.specs.Answers.{Out, out, refuse}
+use Rattle.rules.specs.Answers.{Out, refuse}
 use Rattle.rules.specs.Layout.{workerAt}
 use Rattle.rules.specs.Worker.{phaseOf}
 use Rattle.rules.specs.Fit.{checkedOf}

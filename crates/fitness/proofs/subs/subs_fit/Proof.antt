@@ -1,17 +1,14 @@
+-- `fitness::subs::subs_fit` meets its contract: the loop's invariant is that every sub passed is fit; the first that is not decides the whole.
 use borrow.Author.Needs.{needs}
 use native.Mathlib.Omega.{arith}
 use Prim.Native.Nat.{_-_, _≤_}
-use mathlib.Core.Path.{_≡_, sym, _∙_}
+use mathlib.Core.Path.{sym, _∙_, _≡_}
 use mathlib.Core.Bool.{true}
-use borrow.Author.Tests.{not-true, not-false}
-use Rattle.laws.specs.Choice.{allBelow, allBelow-none, allBelow-more, allBelow-fails}
+use Rattle.laws.specs.Choice.{allBelow, allBelow-fails, allBelow-more, allBelow-none}
 use Rattle.rules.specs.Layout.{firstOf, secondOf}
 use Rattle.rules.specs.Fit.{subFit, subsFit}
 use Rattle.fitness.proofs.subs.subs_fit.Statement.{statement}
 use Rattle.fitness.proofs.subs.subs_fit.Tie as tie
-use Rattle.fitness.proofs.subs.subs_fit.Reads as reads
-use Rattle.fitness.proofs.subs.subs_fit.Lts as lts
-use Rattle.fitness.proofs.subs.sub_fit.Reads as sub-fit-reads
 
 abbrev Inv-loop : tie.InvT-loop
 Inv-loop words g width j₀ j = (j ≤ g .width) × (allBelow j (λ k. subFit g (firstOf words k) (secondOf words k)) ≡ true)
@@ -19,64 +16,49 @@ Inv-loop words g width j₀ j = (j ≤ g .width) × (allBelow j (λ k. subFit g 
 abbrev μ-loop : tie.MeasureT-loop
 μ-loop words g width j₀ j = g .width - j
 
--- src/subs.rt:29:5
 loop-holds : tie.Need-loop-holds Inv-loop μ-loop
 loop-holds c = (search needs, allBelow-none _)
 
--- src/subs.rt:30:29
 cast-sub : tie.Need-cast-sub Inv-loop μ-loop
 cast-sub c = search needs
 
--- src/subs.rt:30:24
 mul-sub : tie.Need-mul-sub Inv-loop μ-loop
 mul-sub c = search needs
 
--- src/subs.rt:30:19
 add-sub : tie.Need-add-sub Inv-loop μ-loop
 add-sub c = search needs
 
--- src/subs.rt:31:23
 mul-sub-fit : tie.Need-mul-sub-fit Inv-loop μ-loop
 mul-sub-fit c = search needs
 
--- src/subs.rt:31:23
 shared-slice-read-sub-fit : tie.Need-shared-slice-read-sub-fit Inv-loop μ-loop
 shared-slice-read-sub-fit c = search needs
 
--- src/subs.rt:31:41
 add-sub-fit : tie.Need-add-sub-fit Inv-loop μ-loop
 add-sub-fit c = search needs
 
--- src/subs.rt:31:35
 mul-sub-fit-2 : tie.Need-mul-sub-fit-2 Inv-loop μ-loop
 mul-sub-fit-2 c = search needs
 
--- src/subs.rt:31:35
 shared-slice-read-sub-fit-2 : tie.Need-shared-slice-read-sub-fit-2 Inv-loop μ-loop
 shared-slice-read-sub-fit-2 c = search needs
 
--- src/subs.rt:31:12
 sub-fit-requires : tie.Need-sub-fit-requires Inv-loop μ-loop
 sub-fit-requires c κs = search needs
 
--- src/subs.rt:32:13
 add-j : tie.Need-add-j Inv-loop μ-loop
 add-j c = search needs
 
--- src/subs.rt:29:5
 loop-less : tie.Need-loop-less Inv-loop μ-loop
 loop-less c = search needs
 
--- src/subs.rt:29:5
 loop-again : tie.Need-loop-again Inv-loop μ-loop
 loop-again c = (omega arith, allBelow-more _ _ (c .before .before .before .before .before .loop .inv .1) (sym (c .before .sub-fit .ensures) ∙ c .if1 .taken))
 
--- src/subs.rt:34:13
 returns : tie.Need-returns Inv-loop μ-loop
 unfolding subsFit
 returns c = sym (allBelow-fails _ _ (c .before .before .before .before .before .loop .j) (omega arith) (sym (c .before .sub-fit .ensures) ∙ c .if1 .left))
 
--- src/subs.rt:23:1
 returns-2 : tie.Need-returns-2 Inv-loop μ-loop
 unfolding subsFit
 returns-2 c =

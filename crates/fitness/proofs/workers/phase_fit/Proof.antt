@@ -1,47 +1,38 @@
+-- `fitness::workers::phase_fit` meets its contract: at each return the tests that led there pick the same branch of `phaseFit`, and each call stands for what it ensures.
 use Rattle.laws.specs.Choice.{cond}
 use Rattle.laws.specs.Tests.{tests}
 use Rattle.rules.specs.Fit.{phaseFit}
 use Rattle.fitness.proofs.workers.phase_fit.Statement.{statement}
 use Rattle.fitness.proofs.workers.phase_fit.Tie as tie
-use Rattle.fitness.proofs.workers.phase_fit.Reads as reads
-use Rattle.fitness.proofs.workers.phase_fit.Lts as lts
 
--- src/workers.rt:14:9
 returns : tie.Need-returns
 unfolding phaseFit cond
 returns c = search tests
 
--- src/workers.rt:17:9
 returns-2 : tie.Need-returns-2
 unfolding phaseFit cond
 returns-2 c = search tests
 
--- src/workers.rt:20:9
 returns-3 : tie.Need-returns-3
 unfolding phaseFit cond
 returns-3 c = search tests
 
--- src/workers.rt:24:13
 returns-4 : tie.Need-returns-4
 unfolding phaseFit cond
 returns-4 c = search tests
 
--- src/workers.rt:27:13
 returns-5 : tie.Need-returns-5
 unfolding phaseFit cond
 returns-5 c = search tests
 
--- src/workers.rt:30:13
 returns-6 : tie.Need-returns-6
 unfolding phaseFit cond
 returns-6 c = search tests
 
--- src/workers.rt:32:9
 returns-7 : tie.Need-returns-7
 unfolding phaseFit cond
 returns-7 c = search tests
 
--- src/workers.rt:10:1
 returns-8 : tie.Need-returns-8
 unfolding phaseFit cond
 returns-8 c = search tests

@@ -1,16 +1,13 @@
-use Rattle.laws.specs.Choice.{cond}
+-- `phases::confirm::count` meets its contract: at each return the tests that led there pick the same branch of the definition.
 use borrow.Author.Tests.{eq-eqb, ne-eqb}
+use Rattle.laws.specs.Choice.{cond}
 use Rattle.phases.proofs.confirm.count.Statement.{statement}
 use Rattle.phases.proofs.confirm.count.Tie as tie
-use Rattle.phases.proofs.confirm.count.Reads as reads
-use Rattle.phases.proofs.confirm.count.Lts as lts
 
--- src/confirm.rt:11:1
 returns : tie.Need-returns
 unfolding cond
 returns c = simp (eq-eqb _ _ (c .if1 .taken))
 
--- src/confirm.rt:11:1
 returns-2 : tie.Need-returns-2
 unfolding cond
 returns-2 c = simp (ne-eqb _ _ (c .if1 .left))

@@ -1,28 +1,23 @@
+-- `phases::effects::next` meets its contract: an index below the width is followed by the next one, or by 0 where that is the width: the remainder in both cases.
 use native.Mathlib.Omega.{arith}
 use native.Mathlib.Nat.{mod-eq-of-lt, mod-self}
 use Prim.Native.Nat.{_+_}
-use mathlib.Core.Path.{_≡_, sym}
-use Rattle.rules.specs.Effects.{nextOf}
+use mathlib.Core.Path.{sym, _≡_}
 use borrow.Author.Needs.{needs}
+use Rattle.rules.specs.Effects.{nextOf}
 use Rattle.phases.proofs.effects.next.Statement.{statement}
 use Rattle.phases.proofs.effects.next.Tie as tie
-use Rattle.phases.proofs.effects.next.Reads as reads
-use Rattle.phases.proofs.effects.next.Lts as lts
 
--- src/effects.rt:14:8
 add-if1 : tie.Need-add-if1
 add-if1 c = search needs
 
--- src/effects.rt:14:26
 add-result : tie.Need-add-result
 add-result c = search needs
 
--- src/effects.rt:10:1
 returns : tie.Need-returns
 unfolding nextOf
 returns c = sym (mod-eq-of-lt (c .if1 .taken))
 
--- src/effects.rt:10:1
 returns-2 : tie.Need-returns-2
 unfolding nextOf
 returns-2 c =

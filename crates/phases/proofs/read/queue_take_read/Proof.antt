@@ -1,52 +1,38 @@
-use Rattle.laws.specs.Choice.{cond}
-use Rattle.rules.specs.Read.{queueTakeRead}
+-- `phases::read::queue_take_read` meets its contract: at each return the tests that led there pick the same branch of `queueTakeRead`, and each call stands for what it ensures.
 use mathlib.Core.Path.{_∙_}
 use borrow.Author.Tests.{eq-eqb, le-leb, le-ltb, lt-leb, lt-ltb, ne-eqb}
 use borrow.Author.Needs.{needs}
+use Rattle.laws.specs.Choice.{cond}
+use Rattle.rules.specs.Read.{queueTakeRead}
 use Rattle.phases.proofs.read.queue_take_read.Statement.{statement}
 use Rattle.phases.proofs.read.queue_take_read.Tie as tie
-use Rattle.phases.proofs.read.queue_take_read.Reads as reads
-use Rattle.phases.proofs.read.queue_take_read.Lts as lts
-use Rattle.phases.proofs.effects.moved.Reads as moved-reads
-use Rattle.phases.proofs.effects.with_pass.Reads as with-pass-reads
-use Rattle.phases.proofs.num.plus.Reads as plus-reads
-use Rattle.phases.proofs.read.queue_take_miss.Reads as queue-take-miss-reads
 
--- src/read.rt:84:9
 plus-requires : tie.Need-plus-requires
 plus-requires c κs = search needs
 
--- src/read.rt:86:9
 queue-take-miss-requires : tie.Need-queue-take-miss-requires
 queue-take-miss-requires c κs = search needs
 
--- src/read.rt:86:9
 returns : tie.Need-returns
 unfolding queueTakeRead cond
 returns c = c .queue-take-miss .ensures ∙ simp (le-leb _ _ (c .before .if1 .taken), le-ltb _ _ (c .before .if1 .taken), ← c .before .before .before .plus .ensures)
 
--- src/read.rt:89:46
 plus-requires-2 : tie.Need-plus-requires-2
 plus-requires-2 c κs = search needs
 
--- src/read.rt:89:9
 queue-take-miss-requires-2 : tie.Need-queue-take-miss-requires-2
 queue-take-miss-requires-2 c κs = search needs
 
--- src/read.rt:89:9
 returns-2 : tie.Need-returns-2
 unfolding queueTakeRead cond
 returns-2 c = c .queue-take-miss2 .ensures ∙ simp (eq-eqb _ _ (c .before .before .if2 .taken), lt-ltb _ _ (c .before .before .before .before .if1 .left), lt-leb _ _ (c .before .before .before .before .if1 .left), ← c .before .plus2 .ensures, ← c .before .before .before .before .before .before .plus .ensures)
 
--- src/read.rt:99:9
 with-pass-requires : tie.Need-with-pass-requires
 with-pass-requires c κs = search needs
 
--- src/read.rt:92:5
 moved-requires : tie.Need-moved-requires
 moved-requires c κs = search needs
 
--- src/read.rt:80:1
 returns-3 : tie.Need-returns-3
 unfolding queueTakeRead cond
 returns-3 c = c .moved .ensures ∙ simp (ne-eqb _ _ (c .before .before .before .if2 .left), lt-ltb _ _ (c .before .before .before .before .before .if1 .left), lt-leb _ _ (c .before .before .before .before .before .if1 .left), ← c .before .with-pass .ensures, ← c .before .before .before .before .before .before .before .plus .ensures)

@@ -1,50 +1,47 @@
-use Rattle.laws.specs.Choice.{cond}
-use Rattle.rules.specs.Read.{stackRead}
+-- `phases::read::stack_read` meets its contract: at each return the tests that led there pick the same branch of `stackRead`, and each call stands for what it ensures.
 use mathlib.Core.Path.{_∙_}
+use borrow.Author.Tests.{le-leb, le-ltb, lt-leb, lt-ltb}
 use borrow.Author.Needs.{needs}
+use Rattle.laws.specs.Choice.{cond}
+use Rattle.rules.specs.Read.{missOf, stackRead}
 use Rattle.phases.proofs.read.stack_read.Statement.{statement}
 use Rattle.phases.proofs.read.stack_read.Tie as tie
-use Rattle.phases.proofs.read.stack_read.Reads as reads
-use Rattle.phases.proofs.read.stack_read.Lts as lts
-use Rattle.phases.proofs.effects.moved.Reads as moved-reads
-use Rattle.phases.proofs.effects.with_pass.Reads as with-pass-reads
-use Rattle.phases.proofs.num.plus.Reads as plus-reads
-use Rattle.phases.proofs.read.miss.Reads as miss-reads
-use Rattle.phases.proofs.read.stack_hit.Reads as stack-hit-reads
 
--- src/read.rt:117:9
 plus-requires : tie.Need-plus-requires
 plus-requires c κs = search needs
 
--- src/read.rt:118:8
 stack-hit-requires : tie.Need-stack-hit-requires
 stack-hit-requires c κs = search needs
 
--- src/read.rt:127:13
 with-pass-requires : tie.Need-with-pass-requires
 with-pass-requires c κs = search needs
 
--- src/read.rt:119:9
 moved-requires : tie.Need-moved-requires
 moved-requires c κs = search needs
 
--- src/read.rt:119:9
 returns : tie.Need-returns
-unfolding stackRead cond
+unfolding stackRead missOf cond
 returns c = c .moved .ensures ∙ simp (c .before .before .if1 .taken, ← c .before .with-pass .ensures, ← c .before .before .before .stack-hit .ensures, ← c .before .before .before .before .plus .ensures)
 
--- src/read.rt:134:15
+next-requires : tie.Need-next-requires
+next-requires c κs = search needs
+
 plus-requires-2 : tie.Need-plus-requires-2
 plus-requires-2 c κs = search needs
 
--- src/read.rt:143:5
-miss-requires : tie.Need-miss-requires
-miss-requires c κs = search needs
+moved-requires-2 : tie.Need-moved-requires-2
+moved-requires-2 c κs = search needs
 
--- src/read.rt:112:1
 returns-2 : tie.Need-returns-2
-unfolding stackRead cond
-returns-2 c = c .miss .ensures ∙ simp (c .before .before .if1 .left, ← c .before .plus2 .ensures, ← c .before .before .before .stack-hit .ensures, ← c .before .before .before .before .plus .ensures)
+unfolding stackRead missOf cond
+returns-2 c = c .moved2 .ensures ∙ simp (lt-ltb _ _ (c .before .if2 .taken), lt-leb _ _ (c .before .if2 .taken), c .before .before .before .before .before .if1 .left, ← c .before .before .before .plus2 .ensures, ← c .before .before .before .before .next .ensures, ← c .before .before .before .before .before .before .stack-hit .ensures, ← c .before .before .before .before .before .before .before .plus .ensures)
+
+moved-requires-3 : tie.Need-moved-requires-3
+moved-requires-3 c κs = search needs
+
+returns-3 : tie.Need-returns-3
+unfolding stackRead missOf cond
+returns-3 c = c .moved3 .ensures ∙ simp (le-leb _ _ (c .before .if2 .left), le-ltb _ _ (c .before .if2 .left), c .before .before .before .before .before .if1 .left, ← c .before .before .before .plus2 .ensures, ← c .before .before .before .before .next .ensures, ← c .before .before .before .before .before .before .stack-hit .ensures, ← c .before .before .before .before .before .before .before .plus .ensures)
 
 pub stack-read-spec : {M : Type 1} → statement M
 stack-read-spec =
@@ -55,6 +52,9 @@ stack-read-spec =
     with-pass-requires
     moved-requires
     returns
+    next-requires
     plus-requires-2
-    miss-requires
-    returns-2)
+    moved-requires-2
+    returns-2
+    moved-requires-3
+    returns-3)

@@ -1,168 +1,121 @@
-use Rattle.rules.specs.declared.Worker.{Worker}
-use Rattle.rules.specs.Worker.{decode}
-use Rattle.rules.specs.Step.{ruleOf, ruleBy}
+-- `phases::rule::rule` meets its contract: at each return the tests that led there pick the same branch of `ruleOf`, and each call stands for what it ensures.
 use mathlib.Core.Path.{ap, _∙_}
 use borrow.Author.Needs.{needs}
+use Rattle.rules.specs.declared.Worker.{Worker}
+use Rattle.rules.specs.Worker.{decode}
+use Rattle.rules.specs.Step.{ruleBy, ruleOf}
 use Rattle.phases.proofs.rule.rule.Statement.{statement}
 use Rattle.phases.proofs.rule.rule.Tie as tie
-use Rattle.phases.proofs.rule.rule.Reads as reads
-use Rattle.phases.proofs.rule.rule.Lts as lts
-use Rattle.phases.proofs.check.check.Reads as check-reads
-use Rattle.phases.proofs.commit.queue_commit.Reads as queue-commit-reads
-use Rattle.phases.proofs.commit.stack_commit.Reads as stack-commit-reads
-use Rattle.phases.proofs.confirm.confirm.Reads as confirm-reads
-use Rattle.phases.proofs.effects.refused.Reads as refused-reads
-use Rattle.phases.proofs.read.queue_put_read.Reads as queue-put-read-reads
-use Rattle.phases.proofs.read.queue_take_read.Reads as queue-take-read-reads
-use Rattle.phases.proofs.read.stack_read.Reads as stack-read-reads
-use Rattle.phases.proofs.shift.queue_shift.Reads as queue-shift-reads
-use Rattle.phases.proofs.shift.stack_shift.Reads as stack-shift-reads
-use Rattle.phases.proofs.window.window.Reads as window-reads
-use Rattle.phases.proofs.worker.worker_of.Reads as worker-of-reads
 
--- src/rule.rt:22:9
 worker-of-requires : tie.Need-worker-of-requires
 worker-of-requires c κs = search needs
 
--- src/rule.rt:25:24
 enum-told : tie.Need-enum-told
 enum-told c = search needs
 
--- src/rule.rt:25:24
 refused-requires : tie.Need-refused-requires
 refused-requires c κs = search needs
 
--- src/rule.rt:26:23
 enum-known-phase : tie.Need-enum-known-phase
 enum-known-phase c = search needs
 
--- src/rule.rt:26:32
 window-requires : tie.Need-window-requires
 window-requires c κs = search needs
 
--- src/rule.rt:27:31
 enum-known-phase-2 : tie.Need-enum-known-phase-2
 enum-known-phase-2 c = search needs
 
--- src/rule.rt:27:49
 queue-put-read-requires : tie.Need-queue-put-read-requires
 queue-put-read-requires c κs = search needs
 
--- src/rule.rt:29:13
 enum-known-phase-3 : tie.Need-enum-known-phase-3
 enum-known-phase-3 c = search needs
 
--- src/rule.rt:33:14
 queue-take-read-requires : tie.Need-queue-take-read-requires
 queue-take-read-requires c κs = search needs
 
--- src/rule.rt:35:13
 enum-known-phase-4 : tie.Need-enum-known-phase-4
 enum-known-phase-4 c = search needs
 
--- src/rule.rt:40:14
 stack-read-requires : tie.Need-stack-read-requires
 stack-read-requires c κs = search needs
 
--- src/rule.rt:42:13
 enum-known-phase-5 : tie.Need-enum-known-phase-5
 enum-known-phase-5 c = search needs
 
--- src/rule.rt:45:14
 check-requires : tie.Need-check-requires
 check-requires c κs = search needs
 
--- src/rule.rt:46:30
 enum-known-phase-6 : tie.Need-enum-known-phase-6
 enum-known-phase-6 c = search needs
 
--- src/rule.rt:46:46
 queue-commit-requires : tie.Need-queue-commit-requires
 queue-commit-requires c κs = search needs
 
--- src/rule.rt:47:30
 enum-known-phase-7 : tie.Need-enum-known-phase-7
 enum-known-phase-7 c = search needs
 
--- src/rule.rt:47:46
 stack-commit-requires : tie.Need-stack-commit-requires
 stack-commit-requires c κs = search needs
 
--- src/rule.rt:48:29
 enum-known-phase-8 : tie.Need-enum-known-phase-8
 enum-known-phase-8 c = search needs
 
--- src/rule.rt:48:47
 queue-shift-requires : tie.Need-queue-shift-requires
 queue-shift-requires c κs = search needs
 
--- src/rule.rt:50:13
 enum-known-phase-9 : tie.Need-enum-known-phase-9
 enum-known-phase-9 c = search needs
 
--- src/rule.rt:54:14
 stack-shift-requires : tie.Need-stack-shift-requires
 stack-shift-requires c κs = search needs
 
--- src/rule.rt:55:26
 enum-known-phase-10 : tie.Need-enum-known-phase-10
 enum-known-phase-10 c = search needs
 
--- src/rule.rt:55:47
 confirm-requires : tie.Need-confirm-requires
 confirm-requires c κs = search needs
 
--- src/rule.rt:16:1
 returns : tie.Need-returns
 unfolding ruleOf ruleBy decode
 returns c = c .refused .ensures ∙ simp (c .before .enum-told .given .1, ← ap (λ (k : Worker). k .phase) (c .before .before .before .worker-of .ensures))
 
--- src/rule.rt:16:1
 returns-2 : tie.Need-returns-2
 unfolding ruleOf ruleBy decode
 returns-2 c = c .window .ensures ∙ simp (c .before .before .phase .given .1, ← ap (λ (k : Worker). k .phase) (c .before .before .before .before .worker-of .ensures))
 
--- src/rule.rt:16:1
 returns-3 : tie.Need-returns-3
 unfolding ruleOf ruleBy decode
 returns-3 c = c .queue-put-read .ensures ∙ simp (c .before .before .phase2 .given .1, ← ap (λ (k : Worker). k .phase) (c .before .before .before .before .worker-of .ensures))
 
--- src/rule.rt:16:1
 returns-4 : tie.Need-returns-4
 unfolding ruleOf ruleBy decode
 returns-4 c = c .queue-take-read .ensures ∙ simp (c .before .before .phase3 .given .1, ← ap (λ (k : Worker). k .phase) (c .before .before .before .before .worker-of .ensures))
 
--- src/rule.rt:16:1
 returns-5 : tie.Need-returns-5
 unfolding ruleOf ruleBy decode
 returns-5 c = c .stack-read .ensures ∙ simp (c .before .before .phase4 .given .1, ← ap (λ (k : Worker). k .phase) (c .before .before .before .before .worker-of .ensures))
 
--- src/rule.rt:16:1
 returns-6 : tie.Need-returns-6
 unfolding ruleOf ruleBy decode
 returns-6 c = c .check .ensures ∙ simp (c .before .before .phase5 .given .1, ← ap (λ (k : Worker). k .phase) (c .before .before .before .before .worker-of .ensures))
 
--- src/rule.rt:16:1
 returns-7 : tie.Need-returns-7
 unfolding ruleOf ruleBy decode
 returns-7 c = c .queue-commit .ensures ∙ simp (c .before .before .phase6 .given .1, ← ap (λ (k : Worker). k .phase) (c .before .before .before .before .worker-of .ensures))
 
--- src/rule.rt:16:1
 returns-8 : tie.Need-returns-8
 unfolding ruleOf ruleBy decode
 returns-8 c = c .stack-commit .ensures ∙ simp (c .before .before .phase7 .given .1, ← ap (λ (k : Worker). k .phase) (c .before .before .before .before .worker-of .ensures))
 
--- src/rule.rt:16:1
 returns-9 : tie.Need-returns-9
 unfolding ruleOf ruleBy decode
 returns-9 c = c .queue-shift .ensures ∙ simp (c .before .before .phase8 .given .1, ← ap (λ (k : Worker). k .phase) (c .before .before .before .before .worker-of .ensures))
 
--- src/rule.rt:16:1
 returns-10 : tie.Need-returns-10
 unfolding ruleOf ruleBy decode
 returns-10 c = c .stack-shift .ensures ∙ simp (c .before .before .phase9 .given .1, ← ap (λ (k : Worker). k .phase) (c .before .before .before .before .worker-of .ensures))
 
--- src/rule.rt:16:1
 returns-11 : tie.Need-returns-11
 unfolding ruleOf ruleBy decode
 returns-11 c = c .confirm .ensures ∙ simp (c .before .before .phase10 .given .1, ← ap (λ (k : Worker). k .phase) (c .before .before .before .before .worker-of .ensures))

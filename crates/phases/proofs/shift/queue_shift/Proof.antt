@@ -1,33 +1,24 @@
+-- `phases::shift::queue_shift` meets its contract: at each return the tests that led there pick the same branch of the definition.
 use mathlib.Core.Path.{_∙_}
 use borrow.Author.Needs.{needs}
 use Rattle.phases.proofs.shift.queue_shift.Statement.{statement}
 use Rattle.phases.proofs.shift.queue_shift.Tie as tie
-use Rattle.phases.proofs.shift.queue_shift.Reads as reads
-use Rattle.phases.proofs.shift.queue_shift.Lts as lts
-use Rattle.phases.proofs.shift.queue_put_shift.Reads as queue-put-shift-reads
-use Rattle.phases.proofs.shift.queue_take_shift.Reads as queue-take-shift-reads
 
--- src/shift.rt:67:26
 enum-told : tie.Need-enum-told
 enum-told c = search needs
 
--- src/shift.rt:67:26
 queue-put-shift-requires : tie.Need-queue-put-shift-requires
 queue-put-shift-requires c κs = search needs
 
--- src/shift.rt:68:25
 enum-told-2 : tie.Need-enum-told-2
 enum-told-2 c = search needs
 
--- src/shift.rt:68:25
 queue-take-shift-requires : tie.Need-queue-take-shift-requires
 queue-take-shift-requires c κs = search needs
 
--- src/shift.rt:62:1
 returns : tie.Need-returns
 returns c = c .queue-put-shift .ensures ∙ simp (c .before .enum-told .given .1)
 
--- src/shift.rt:62:1
 returns-2 : tie.Need-returns-2
 returns-2 c = c .queue-take-shift .ensures ∙ simp (c .before .enum-told2 .given .1)
 

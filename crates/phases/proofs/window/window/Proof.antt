@@ -1,47 +1,34 @@
-use Rattle.laws.specs.Choice.{cond}
-use Rattle.rules.specs.Window.{windowRule}
+-- `phases::window::window` meets its contract: at each return the tests that led there pick the same branch of `windowRule`, and each call stands for what it ensures.
 use mathlib.Core.Path.{_∙_}
 use borrow.Author.Tests.{eq-eqb, ne-eqb}
 use borrow.Author.Needs.{needs}
+use Rattle.laws.specs.Choice.{cond}
+use Rattle.rules.specs.Window.{windowRule}
 use Rattle.phases.proofs.window.window.Statement.{statement}
 use Rattle.phases.proofs.window.window.Tie as tie
-use Rattle.phases.proofs.window.window.Reads as reads
-use Rattle.phases.proofs.window.window.Lts as lts
-use Rattle.phases.proofs.effects.keep.Reads as keep-reads
-use Rattle.phases.proofs.window.queue_seen.Reads as queue-seen-reads
-use Rattle.phases.proofs.window.stack_seen.Reads as stack-seen-reads
-use Rattle.phases.proofs.worker.fresh_slot.Reads as fresh-slot-reads
 
--- src/window.rt:44:66
 queue-seen-requires : tie.Need-queue-seen-requires
 queue-seen-requires c κs = search needs
 
--- src/window.rt:44:41
 fresh-slot-requires : tie.Need-fresh-slot-requires
 fresh-slot-requires c κs = search needs
 
--- src/window.rt:44:9
 keep-requires : tie.Need-keep-requires
 keep-requires c κs = search needs
 
--- src/window.rt:44:9
 returns : tie.Need-returns
 unfolding windowRule cond
 returns c = c .keep .ensures ∙ simp (eq-eqb _ _ (c .before .before .before .if1 .taken), ← c .before .fresh-slot .ensures, ← c .before .before .queue-seen .ensures)
 
--- src/window.rt:46:55
 stack-seen-requires : tie.Need-stack-seen-requires
 stack-seen-requires c κs = search needs
 
--- src/window.rt:46:30
 fresh-slot-requires-2 : tie.Need-fresh-slot-requires-2
 fresh-slot-requires-2 c κs = search needs
 
--- src/window.rt:46:5
 keep-requires-2 : tie.Need-keep-requires-2
 keep-requires-2 c κs = search needs
 
--- src/window.rt:38:1
 returns-2 : tie.Need-returns-2
 unfolding windowRule cond
 returns-2 c = c .keep2 .ensures ∙ simp (ne-eqb _ _ (c .before .before .before .if1 .left), ← c .before .fresh-slot2 .ensures, ← c .before .before .stack-seen .ensures)

@@ -1,16 +1,12 @@
-use Rattle.rules.specs.Worker.{decode}
+-- `phases::worker::worker_of` meets its contract: the calls' promises put together are `decode`.
 use borrow.Author.Needs.{needs}
+use Rattle.rules.specs.Worker.{decode}
 use Rattle.phases.proofs.worker.worker_of.Statement.{statement}
 use Rattle.phases.proofs.worker.worker_of.Tie as tie
-use Rattle.phases.proofs.worker.worker_of.Reads as reads
-use Rattle.phases.proofs.worker.worker_of.Lts as lts
-use Rattle.phases.proofs.worker.phase_of.Reads as phase-of-reads
 
--- src/worker.rt:131:16
 phase-of-requires : tie.Need-phase-of-requires
 phase-of-requires c κs = search needs
 
--- src/worker.rt:125:1
 returns : tie.Need-returns
 unfolding decode
 returns c = simp (← c .phase-of .ensures)

@@ -1,111 +1,83 @@
-use Rattle.rules.specs.Apply.{applyOf, applyBy}
+-- `pool::apply::apply` meets its contract: at each return the tests that led there pick the same branch of `applyOf`, and each call stands for what it ensures.
 use borrow.Author.Needs.{needs}
+use Rattle.rules.specs.Apply.{applyBy, applyOf}
 use Rattle.pool.proofs.apply.apply.Statement.{statement}
 use Rattle.pool.proofs.apply.apply.Tie as tie
-use Rattle.pool.proofs.apply.apply.Reads as reads
-use Rattle.pool.proofs.apply.apply.Lts as lts
-use Rattle.pool.proofs.apply.put_item.Reads as put-item-reads
-use Rattle.pool.proofs.apply.put_view.Reads as put-view-reads
-use Rattle.pool.proofs.apply.taken.Reads as taken-reads
 
--- src/apply.rt:73:26
 enum-known-outcome : tie.Need-enum-known-outcome
 enum-known-outcome c = search needs
 
--- src/apply.rt:75:22
 enum-told : tie.Need-enum-told
 enum-told c = search needs
 
--- src/apply.rt:75:13
 put-view-requires : tie.Need-put-view-requires
 put-view-requires c κs = search needs
 
--- src/apply.rt:79:17
 enum-told-2 : tie.Need-enum-told-2
 enum-told-2 c = search needs
 
--- src/apply.rt:82:13
 put-item-requires : tie.Need-put-item-requires
 put-item-requires c κs = search needs
 
--- src/apply.rt:83:13
 put-view-requires-2 : tie.Need-put-view-requires-2
 put-view-requires-2 c κs = search needs
 
--- src/apply.rt:92:17
 enum-told-3 : tie.Need-enum-told-3
 enum-told-3 c = search needs
 
--- src/apply.rt:93:17
 taken-requires : tie.Need-taken-requires
 taken-requires c κs = search needs
 
--- src/apply.rt:94:13
 put-view-requires-3 : tie.Need-put-view-requires-3
 put-view-requires-3 c κs = search needs
 
--- src/apply.rt:98:22
 enum-told-4 : tie.Need-enum-told-4
 enum-told-4 c = search needs
 
--- src/apply.rt:98:13
 put-view-requires-4 : tie.Need-put-view-requires-4
 put-view-requires-4 c κs = search needs
 
--- src/apply.rt:102:22
 enum-told-5 : tie.Need-enum-told-5
 enum-told-5 c = search needs
 
--- src/apply.rt:102:13
 put-view-requires-5 : tie.Need-put-view-requires-5
 put-view-requires-5 c κs = search needs
 
--- src/apply.rt:65:1
 returns : tie.Need-returns
 unfolding applyOf applyBy
 returns c = simp (c .before .outcome .given .1)
 
--- src/apply.rt:65:1
 same-length : tie.Need-same-length
 same-length c = search needs
 
--- src/apply.rt:65:1
 returns-2 : tie.Need-returns-2
 unfolding applyOf applyBy
 returns-2 c = simp (c .before .before .put-view .ensures, c .before .before .before .before .enum-told .given .1)
 
--- src/apply.rt:65:1
 same-length-2 : tie.Need-same-length-2
 same-length-2 c = search needs
 
--- src/apply.rt:65:1
 returns-3 : tie.Need-returns-3
 unfolding applyOf applyBy
 returns-3 c = simp (c .before .before .put-view2 .ensures, c .before .before .before .before .before .before .put-item .ensures, c .before .before .before .before .before .before .before .before .before .enum-told2 .given .1)
 
--- src/apply.rt:65:1
 same-length-3 : tie.Need-same-length-3
 same-length-3 c = search needs
 
--- src/apply.rt:65:1
 returns-4 : tie.Need-returns-4
 unfolding applyOf applyBy
 returns-4 c = simp (c .before .before .put-view3 .ensures, c .before .before .before .before .taken .ensures, c .before .before .before .before .before .before .before .enum-told3 .given .1)
 
--- src/apply.rt:65:1
 same-length-4 : tie.Need-same-length-4
 same-length-4 c = search needs
 
--- src/apply.rt:65:1
 returns-5 : tie.Need-returns-5
 unfolding applyOf applyBy
 returns-5 c = simp (c .before .before .put-view4 .ensures, c .before .before .before .before .enum-told4 .given .1)
 
--- src/apply.rt:65:1
 same-length-5 : tie.Need-same-length-5
 same-length-5 c = search needs
 
--- src/apply.rt:65:1
 returns-6 : tie.Need-returns-6
 unfolding applyOf applyBy
 returns-6 c = simp (c .before .before .put-view5 .ensures, c .before .before .before .before .enum-told5 .given .1)

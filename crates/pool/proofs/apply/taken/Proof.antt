@@ -1,16 +1,13 @@
-use Rattle.rules.proofs.Cells.{cell-lt}
-use Rattle.rules.specs.Apply.{takenOf}
-use Rattle.laws.specs.Wrap.{sub32}
+-- `pool::apply::taken` meets its contract: the cell's two words are among the pool's.
 use lib.ListN.{length}
 use Prim.Native.Nat.{_+_, _≤_}
 use native.Mathlib.Omega.{arith}
 use borrow.Author.Needs.{needs}
+use Rattle.rules.proofs.Cells.{cell-lt}
+use Rattle.rules.specs.Apply.{takenOf}
+use Rattle.laws.specs.Wrap.{sub32}
 use Rattle.pool.proofs.apply.taken.Statement.{statement}
 use Rattle.pool.proofs.apply.taken.Tie as tie
-use Rattle.pool.proofs.apply.taken.Reads as reads
-use Rattle.pool.proofs.apply.taken.Lts as lts
-use Rattle.pool.proofs.cells.cell_at.Reads as cell-at-reads
-use Rattle.pool.proofs.distance.distance.Reads as distance-reads
 
 -- the cell's two words are among the pool's
 cell-in : (c : tie.After-cell-at) → c .cell-at .result + 2 ≤ length (c .before .before .args .words .now)
@@ -18,35 +15,27 @@ cell-in c =
     let s = c .before .before in
     omega (arith, c .cell-at .ensures, cell-lt (s .args .g) (s .args .j) (sub32 (s .args .row .0) 1) (s .pre .0 .bounds) (s .pre .1), s .pre .0 .enough)
 
--- src/apply.rt:52:9
 cell-at-requires : tie.Need-cell-at-requires
 cell-at-requires c κs = search needs
 
--- src/apply.rt:53:17
 mul-value : tie.Need-mul-value
 mul-value c = omega (arith, cell-in c, c .before .before .good)
 
--- src/apply.rt:53:17
 shared-slice-read-value : tie.Need-shared-slice-read-value
 shared-slice-read-value c = omega (arith, cell-in (c .before))
 
--- src/apply.rt:54:23
 add-stamp : tie.Need-add-stamp
 add-stamp c = search needs
 
--- src/apply.rt:54:17
 mul-stamp : tie.Need-mul-stamp
 mul-stamp c = omega (arith, cell-in (c .before), c .before .before .before .good)
 
--- src/apply.rt:54:17
 shared-slice-read-stamp : tie.Need-shared-slice-read-stamp
 shared-slice-read-stamp c = omega (arith, cell-in (c .before .before))
 
--- src/apply.rt:60:19
 distance-requires : tie.Need-distance-requires
 distance-requires c κs = search needs
 
--- src/apply.rt:47:1
 returns : tie.Need-returns
 unfolding takenOf
 returns c = simp (c .distance .ensures, c .before .before .before .cell-at .ensures)

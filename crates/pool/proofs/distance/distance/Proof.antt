@@ -1,14 +1,12 @@
-use Rattle.rules.proofs.Cells.{subs-none, subs-more}
-use Rattle.rules.specs.Held.{passedOver, heldBelow, countItems, distanceOf}
-use mathlib.Core.Path.{_≡_, sym, _∙_}
+-- `pool::distance::distance` meets its contract: the loop's invariant is the count over the subs passed.
+use mathlib.Core.Path.{sym, _≡_}
 use Prim.Native.Nat.{_*_, _-_, _≤_}
 use borrow.Author.Needs.{needs}
 use native.Mathlib.Omega.{arith}
+use Rattle.rules.proofs.Cells.{subs-more, subs-none}
+use Rattle.rules.specs.Held.{countItems, distanceOf, heldBelow, passedOver}
 use Rattle.pool.proofs.distance.distance.Statement.{statement}
 use Rattle.pool.proofs.distance.distance.Tie as tie
-use Rattle.pool.proofs.distance.distance.Reads as reads
-use Rattle.pool.proofs.distance.distance.Lts as lts
-use Rattle.pool.proofs.distance.sub_distance.Reads as sub-distance-reads
 
 abbrev Inv-loop : tie.InvT-loop
 Inv-loop words g s width n₀ j₀ n j = (j ≤ g .width) × (n ≤ 1024 * j) × (n ≡ countItems (passedOver (g .kind) s) (heldBelow words g j))
@@ -16,33 +14,26 @@ Inv-loop words g s width n₀ j₀ n j = (j ≤ g .width) × (n ≤ 1024 * j) ×
 abbrev μ-loop : tie.MeasureT-loop
 μ-loop words g s width n₀ j₀ n j = g .width - j
 
--- src/distance.rt:71:5
 loop-holds : tie.Need-loop-holds Inv-loop μ-loop
 loop-holds c = (search needs, search needs, sym (subs-none _ _ _))
 
--- src/distance.rt:72:14
 sub-distance-requires : tie.Need-sub-distance-requires Inv-loop μ-loop
 sub-distance-requires c κs = let p = c .before .before .before .pre in (p .bounds, ((p .enough, c .loop-test .taken), p .sub _ (c .loop-test .taken)))
 
--- src/distance.rt:72:9
 add-n : tie.Need-add-n Inv-loop μ-loop
 add-n c = search needs
 
--- src/distance.rt:73:9
 add-j : tie.Need-add-j Inv-loop μ-loop
 add-j c = search needs
 
--- src/distance.rt:71:5
 loop-less : tie.Need-loop-less Inv-loop μ-loop
 loop-less c = search needs
 
--- src/distance.rt:71:5
 loop-again : tie.Need-loop-again Inv-loop μ-loop
 loop-again c =
     let a = c .before .before .before .before .args in
     omega (arith, subs-more (passedOver (a .g .kind) (a .s)) (a .words .now) (a .g) (c .before .before .loop .j))
 
--- src/distance.rt:64:1
 returns : tie.Need-returns Inv-loop μ-loop
 unfolding distanceOf
 returns c =

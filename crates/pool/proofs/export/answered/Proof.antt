@@ -1,56 +1,43 @@
-use Rattle.rules.specs.Answers.{numberOf, fieldsOf}
-use mathlib.Core.Path.{sym, ap}
+-- `pool::export::answered` meets its contract: at each return the tests that led there pick the same branch of the definition.
+use mathlib.Core.Path.{ap, sym}
 use borrow.Author.Needs.{needs}
+use Rattle.rules.specs.Answers.{fieldsOf, numberOf}
 use Rattle.pool.proofs.export.answered.Statement.{statement}
 use Rattle.pool.proofs.export.answered.Tie as tie
-use Rattle.pool.proofs.export.answered.Reads as reads
-use Rattle.pool.proofs.export.answered.Lts as lts
 
--- src/export.rt:19:13
 enum-told : tie.Need-enum-told
 enum-told c = search needs
 
--- src/export.rt:23:13
 enum-known-a : tie.Need-enum-known-a
 enum-known-a c = search needs
 
--- src/export.rt:32:13
 enum-known-a-2 : tie.Need-enum-known-a-2
 enum-known-a-2 c = search needs
 
--- src/export.rt:42:13
 enum-told-2 : tie.Need-enum-told-2
 enum-told-2 c = search needs
 
--- src/export.rt:46:13
 enum-told-3 : tie.Need-enum-told-3
 enum-told-3 c = search needs
 
--- src/export.rt:49:25
 enum-known-a-3 : tie.Need-enum-known-a-3
 enum-known-a-3 c = search needs
 
--- src/export.rt:14:1
 returns : tie.Need-returns
 returns c = search needs
 
--- src/export.rt:14:1
 returns-2 : tie.Need-returns-2
 returns-2 c = (ap numberOf (sym (c .before .before .a .given .1)), ap fieldsOf (sym (c .before .before .a .given .1)))
 
--- src/export.rt:14:1
 returns-3 : tie.Need-returns-3
 returns-3 c = (ap numberOf (sym (c .before .before .a2 .given .1)), ap fieldsOf (sym (c .before .before .a2 .given .1)))
 
--- src/export.rt:14:1
 returns-4 : tie.Need-returns-4
 returns-4 c = search needs
 
--- src/export.rt:14:1
 returns-5 : tie.Need-returns-5
 returns-5 c = search needs
 
--- src/export.rt:14:1
 returns-6 : tie.Need-returns-6
 returns-6 c = search needs
 

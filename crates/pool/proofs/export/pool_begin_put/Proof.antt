@@ -1,26 +1,19 @@
-use Rattle.rules.specs.Answers.{Out, numberOf, fieldsOf}
+-- `pool::export::pool_begin_put` meets its contract: the calls' promises put together are the definition.
 use mathlib.Core.Path.{ap, _∙_}
 use borrow.Author.Needs.{needs}
+use Rattle.rules.specs.Answers.{Out, fieldsOf, numberOf}
 use Rattle.pool.proofs.export.pool_begin_put.Statement.{statement}
 use Rattle.pool.proofs.export.pool_begin_put.Tie as tie
-use Rattle.pool.proofs.export.pool_begin_put.Reads as reads
-use Rattle.pool.proofs.export.pool_begin_put.Lts as lts
-use Rattle.pool.proofs.begin.begin_put.Reads as begin-put-reads
-use Rattle.pool.proofs.export.answered.Reads as answered-reads
 
--- src/export.rt:72:9
 begin-put-requires : tie.Need-begin-put-requires
 begin-put-requires c κs = search needs
 
--- src/export.rt:73:5
 answered-requires : tie.Need-answered-requires
 answered-requires c κs = search needs
 
--- src/export.rt:66:1
 same-length : tie.Need-same-length
 same-length c = search needs
 
--- src/export.rt:66:1
 returns : tie.Need-returns
 returns c =
     let e = c .before .before .before .before .begin-put .ensures in

@@ -1,26 +1,19 @@
-use Rattle.rules.specs.Answers.{Out, numberOf, fieldsOf}
+-- `pool::export::pool_make` meets its contract: the calls' promises put together are the definition.
 use mathlib.Core.Path.{ap, _∙_}
 use borrow.Author.Needs.{needs}
+use Rattle.rules.specs.Answers.{Out, fieldsOf, numberOf}
 use Rattle.pool.proofs.export.pool_make.Statement.{statement}
 use Rattle.pool.proofs.export.pool_make.Tie as tie
-use Rattle.pool.proofs.export.pool_make.Reads as reads
-use Rattle.pool.proofs.export.pool_make.Lts as lts
-use Rattle.pool.proofs.export.answered.Reads as answered-reads
-use Rattle.pool.proofs.new.make.Reads as make-reads
 
--- src/export.rt:62:9
 make-requires : tie.Need-make-requires
 make-requires c κs = search needs
 
--- src/export.rt:63:5
 answered-requires : tie.Need-answered-requires
 answered-requires c κs = search needs
 
--- src/export.rt:56:1
 same-length : tie.Need-same-length
 same-length c = search needs
 
--- src/export.rt:56:1
 returns : tie.Need-returns
 returns c =
     let e = c .before .before .before .before .make .ensures in

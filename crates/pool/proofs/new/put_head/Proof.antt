@@ -1,61 +1,45 @@
-use native.Mathlib.Numerals.{towards-suc}
+-- `pool::new::put_head` meets its contract: the calls' promises put together are the definition.
 use lib.ListN.{length-set}
 use borrow.Author.Needs.{needs}
 use Rattle.pool.proofs.new.put_head.Statement.{statement}
 use Rattle.pool.proofs.new.put_head.Tie as tie
-use Rattle.pool.proofs.new.put_head.Reads as reads
-use Rattle.pool.proofs.new.put_head.Lts as lts
-use Rattle.pool.proofs.new.new_mark.Reads as new-mark-reads
 
--- src/new.rt:39:9
 new-mark-requires : tie.Need-new-mark-requires
 new-mark-requires c κs = search needs
 
--- src/new.rt:40:5
 slice-write-words : tie.Need-slice-write-words
 slice-write-words c = search needs
 
--- src/new.rt:41:5
 slice-write-words-2 : tie.Need-slice-write-words-2
 slice-write-words-2 c = simp length-set (search needs)
 
--- src/new.rt:42:5
 slice-write-words-3 : tie.Need-slice-write-words-3
 slice-write-words-3 c = simp length-set (search needs)
 
--- src/new.rt:43:5
 slice-write-words-4 : tie.Need-slice-write-words-4
 slice-write-words-4 c = simp length-set (search needs)
 
--- src/new.rt:44:5
 slice-write-words-5 : tie.Need-slice-write-words-5
 slice-write-words-5 c = simp length-set (search needs)
 
--- src/new.rt:45:5
 slice-write-words-6 : tie.Need-slice-write-words-6
 slice-write-words-6 c = simp length-set (search needs)
 
--- src/new.rt:46:5
 slice-write-words-7 : tie.Need-slice-write-words-7
 slice-write-words-7 c = simp length-set (search needs)
 
--- src/new.rt:47:5
 slice-write-words-8 : tie.Need-slice-write-words-8
 slice-write-words-8 c = simp length-set (search needs)
 
--- src/new.rt:48:5
 slice-write-words-9 : tie.Need-slice-write-words-9
 slice-write-words-9 c = simp length-set (search needs)
 
--- src/new.rt:49:5
 slice-write-words-10 : tie.Need-slice-write-words-10
 slice-write-words-10 c = simp length-set (search needs)
 
--- src/new.rt:35:1
 same-length : tie.Need-same-length
 same-length c = search needs
 
--- src/new.rt:35:1
 returns : tie.Need-returns
 returns c = simp (c .new-mark .ensures)
 

@@ -1,17 +1,15 @@
-use Rattle.rules.proofs.Making.{indexed-none, indexed-more}
-use Rattle.rules.specs.Make.{indexed}
-use Rattle.rules.specs.Layout.{workerAt}
-use lib.ListN.{length, set}
-use mathlib.Core.Path.{_≡_, sym, ap, _∙_}
+-- `pool::new::put_indices` meets its contract: the loop's invariant is that the workers passed have their index.
+use lib.ListN.{length, length-set, set}
+use mathlib.Core.Path.{ap, sym, _∙_, _≡_}
 use mathlib.Core.List.{List}
-use Prim.Native.Nat.{ℕ, _+_, _*_, _%_, _-_, _≤_}
-use lib.ListN.{length-set}
+use Prim.Native.Nat.{ℕ, _%_, _+_, _-_, _≤_}
 use borrow.Author.Needs.{needs}
 use native.Mathlib.Omega.{arith}
+use Rattle.rules.proofs.Making.{indexed-more, indexed-none}
+use Rattle.rules.specs.Make.{indexed}
+use Rattle.rules.specs.Layout.{workerAt}
 use Rattle.pool.proofs.new.put_indices.Statement.{statement}
 use Rattle.pool.proofs.new.put_indices.Tie as tie
-use Rattle.pool.proofs.new.put_indices.Reads as reads
-use Rattle.pool.proofs.new.put_indices.Lts as lts
 
 abbrev Inv-loop : tie.InvT-loop
 Inv-loop words₀ g base i₀ words i = (length words ≡ length words₀) × (words ≡ indexed words₀ g i) × (i ≤ g .workers)
@@ -19,59 +17,45 @@ Inv-loop words₀ g base i₀ words i = (length words ≡ length words₀) × (w
 abbrev μ-loop : tie.MeasureT-loop
 μ-loop words₀ g base i₀ words i = g .workers - i
 
--- src/new.rt:58:26
 cast-base : tie.Need-cast-base Inv-loop μ-loop
 cast-base c = search needs
 
--- src/new.rt:58:21
 mul-base : tie.Need-mul-base Inv-loop μ-loop
 mul-base c = search needs
 
--- src/new.rt:58:16
 add-base : tie.Need-add-base Inv-loop μ-loop
 add-base c = search needs
 
--- src/new.rt:60:5
 loop-holds : tie.Need-loop-holds Inv-loop μ-loop
 loop-holds c = (search needs, sym (indexed-none _ _), search needs)
 
--- src/new.rt:61:46
 rem-words : tie.Need-rem-words Inv-loop μ-loop
 rem-words c = search needs
 
--- src/new.rt:61:27
 cast-words : tie.Need-cast-words Inv-loop μ-loop
 cast-words c = search needs
 
--- src/new.rt:61:22
 mul-words : tie.Need-mul-words Inv-loop μ-loop
 mul-words c = search needs
 
--- src/new.rt:61:15
 add-words : tie.Need-add-words Inv-loop μ-loop
 add-words c = search needs
 
--- src/new.rt:61:15
 add-words-2 : tie.Need-add-words-2 Inv-loop μ-loop
 add-words-2 c = search needs
 
--- src/new.rt:61:9
 mul-words-2 : tie.Need-mul-words-2 Inv-loop μ-loop
 mul-words-2 c = search needs
 
--- src/new.rt:61:9
 slice-write-words : tie.Need-slice-write-words Inv-loop μ-loop
 slice-write-words c = search needs
 
--- src/new.rt:62:9
 add-i : tie.Need-add-i Inv-loop μ-loop
 add-i c = search needs
 
--- src/new.rt:60:5
 loop-less : tie.Need-loop-less Inv-loop μ-loop
 loop-less c = search needs
 
--- src/new.rt:60:5
 loop-again : tie.Need-loop-again Inv-loop μ-loop
 loop-again c =
     let l = c .before .before .before .loop in
@@ -82,11 +66,9 @@ loop-again c =
       omega arith,
     )
 
--- src/new.rt:53:1
 same-length : tie.Need-same-length Inv-loop μ-loop
 same-length c = search needs
 
--- src/new.rt:53:1
 returns : tie.Need-returns Inv-loop μ-loop
 returns c =
     let all : c .before .before .loop .i ≡ c .before .before .before .before .args .g .workers = omega arith in

@@ -1,103 +1,78 @@
-use Rattle.rules.specs.Worker.{slotAt}
+-- `pool::slot::load` meets its contract: the eight reads are the slot's eight words.
 use borrow.Author.Needs.{needs}
+use Rattle.rules.specs.Worker.{slotAt}
 use Rattle.pool.proofs.slot.load.Statement.{statement}
 use Rattle.pool.proofs.slot.load.Tie as tie
-use Rattle.pool.proofs.slot.load.Reads as reads
-use Rattle.pool.proofs.slot.load.Lts as lts
 
--- src/slot.rt:15:17
 mul-t3 : tie.Need-mul-t3
 mul-t3 c = search needs
 
--- src/slot.rt:15:17
 shared-slice-read-t5 : tie.Need-shared-slice-read-t5
 shared-slice-read-t5 c = search needs
 
--- src/slot.rt:16:22
 add-t6 : tie.Need-add-t6
 add-t6 c = search needs
 
--- src/slot.rt:16:16
 mul-t7 : tie.Need-mul-t7
 mul-t7 c = search needs
 
--- src/slot.rt:16:16
 shared-slice-read-t9 : tie.Need-shared-slice-read-t9
 shared-slice-read-t9 c = search needs
 
--- src/slot.rt:17:22
 add-t10 : tie.Need-add-t10
 add-t10 c = search needs
 
--- src/slot.rt:17:16
 mul-t11 : tie.Need-mul-t11
 mul-t11 c = search needs
 
--- src/slot.rt:17:16
 shared-slice-read-t13 : tie.Need-shared-slice-read-t13
 shared-slice-read-t13 c = search needs
 
--- src/slot.rt:18:23
 add-t14 : tie.Need-add-t14
 add-t14 c = search needs
 
--- src/slot.rt:18:17
 mul-t15 : tie.Need-mul-t15
 mul-t15 c = search needs
 
--- src/slot.rt:18:17
 shared-slice-read-t17 : tie.Need-shared-slice-read-t17
 shared-slice-read-t17 c = search needs
 
--- src/slot.rt:19:22
 add-t18 : tie.Need-add-t18
 add-t18 c = search needs
 
--- src/slot.rt:19:16
 mul-t19 : tie.Need-mul-t19
 mul-t19 c = search needs
 
--- src/slot.rt:19:16
 shared-slice-read-t21 : tie.Need-shared-slice-read-t21
 shared-slice-read-t21 c = search needs
 
--- src/slot.rt:20:21
 add-t22 : tie.Need-add-t22
 add-t22 c = search needs
 
--- src/slot.rt:20:15
 mul-t23 : tie.Need-mul-t23
 mul-t23 c = search needs
 
--- src/slot.rt:20:15
 shared-slice-read-t25 : tie.Need-shared-slice-read-t25
 shared-slice-read-t25 c = search needs
 
--- src/slot.rt:21:21
 add-t26 : tie.Need-add-t26
 add-t26 c = search needs
 
--- src/slot.rt:21:15
 mul-t27 : tie.Need-mul-t27
 mul-t27 c = search needs
 
--- src/slot.rt:21:15
 shared-slice-read-t29 : tie.Need-shared-slice-read-t29
 shared-slice-read-t29 c = search needs
 
--- src/slot.rt:22:20
 add-t30 : tie.Need-add-t30
 add-t30 c = search needs
 
--- src/slot.rt:22:14
 mul-t31 : tie.Need-mul-t31
 mul-t31 c = search needs
 
--- src/slot.rt:22:14
 shared-slice-read-t33 : tie.Need-shared-slice-read-t33
 shared-slice-read-t33 c = search needs
 
--- src/slot.rt:10:1
 returns : tie.Need-returns
 unfolding slotAt
 returns c = search needs

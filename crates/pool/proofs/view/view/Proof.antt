@@ -1,72 +1,54 @@
-use Rattle.rules.specs.Effects.{viewOf}
+-- `pool::view::view` meets its contract: the reads are the view's words.
 use borrow.Author.Needs.{needs}
+use Rattle.rules.specs.Effects.{viewOf}
 use Rattle.pool.proofs.view.view.Statement.{statement}
 use Rattle.pool.proofs.view.view.Tie as tie
-use Rattle.pool.proofs.view.view.Reads as reads
-use Rattle.pool.proofs.view.view.Lts as lts
-use Rattle.pool.proofs.slot.load.Reads as load-reads
 
--- src/view.rt:16:9
 load-requires : tie.Need-load-requires
 load-requires c κs = search needs
 
--- src/view.rt:17:31
 add-sub : tie.Need-add-sub
 add-sub c = search needs
 
--- src/view.rt:17:25
 mul-sub : tie.Need-mul-sub
 mul-sub c = search needs
 
--- src/view.rt:17:25
 shared-slice-read-sub : tie.Need-shared-slice-read-sub
 shared-slice-read-sub c = search needs
 
--- src/view.rt:17:25
 cast-sub : tie.Need-cast-sub
 cast-sub c = search needs
 
--- src/view.rt:17:20
 mul-sub-2 : tie.Need-mul-sub-2
 mul-sub-2 c = search needs
 
--- src/view.rt:17:15
 add-sub-2 : tie.Need-add-sub-2
 add-sub-2 c = search needs
 
--- src/view.rt:19:14
 shared-slice-read-t8 : tie.Need-shared-slice-read-t8
 shared-slice-read-t8 c = search needs
 
--- src/view.rt:20:15
 shared-slice-read-t13 : tie.Need-shared-slice-read-t13
 shared-slice-read-t13 c = search needs
 
--- src/view.rt:21:15
 shared-slice-read-t15 : tie.Need-shared-slice-read-t15
 shared-slice-read-t15 c = search needs
 
--- src/view.rt:22:16
 mul-t5 : tie.Need-mul-t5
 mul-t5 c = search needs
 
--- src/view.rt:22:16
 shared-slice-read-t17 : tie.Need-shared-slice-read-t17
 shared-slice-read-t17 c = search needs
 
--- src/view.rt:23:23
 add-t9 : tie.Need-add-t9
 add-t9 c = search needs
 
--- src/view.rt:23:17
 mul-t10 : tie.Need-mul-t10
 mul-t10 c = search needs
 
--- src/view.rt:23:17
 shared-slice-read-t19 : tie.Need-shared-slice-read-t19
 shared-slice-read-t19 c = search needs
 
--- src/view.rt:11:1
 returns : tie.Need-returns
 unfolding viewOf
 returns c = simp (c .before .before .before .before .before .before .load .ensures)

@@ -1,63 +1,60 @@
-use Rattle.rules.proofs.Fitness.{fit-pool}
-use Rattle.rules.specs.declared.Checked.{Checked}
-use Rattle.rules.specs.Step.{stepOf, checkedStep}
-use mathlib.Core.Path.{sym, ap, _∙_}
+-- `pool::work::step` meets its contract: at each return the tests that led there pick the same branch of `stepOf`, and each call stands for what it ensures.
+use mathlib.Core.Path.{ap, sym, _∙_}
+use Prim.Native.Nat.{ℕ}
+use native.Mathlib.Omega.{arith}
 use borrow.Author.Needs.{needs}
+use Rattle.rules.specs.Step.{checkedStep, fitStep, stepOf}
+use Rattle.rules.proofs.Fitness.{fit-pool, refusal-none, refusal-some}
+use Rattle.rules.specs.declared.Settings.{Settings}
+use Rattle.rules.specs.declared.Checked.{Checked}
+use Rattle.rules.specs.Layout.{settingsOf}
+use Rattle.rules.specs.Answers.{refuse}
 use Rattle.pool.proofs.work.step.Statement.{statement}
 use Rattle.pool.proofs.work.step.Tie as tie
-use Rattle.pool.proofs.work.step.Reads as reads
-use Rattle.pool.proofs.work.step.Lts as lts
-use Rattle.fitness.proofs.checked.Reads as checked-reads
-use Rattle.pool.proofs.work.fit_step.Reads as fit-step-reads
 
--- src/work.rt:51:9
-checked-requires : tie.Need-checked-requires
-checked-requires c κs = search needs
+refusal-requires : tie.Need-refusal-requires
+refusal-requires c κs = search needs
 
--- src/work.rt:53:24
-enum-known-c : tie.Need-enum-known-c
-enum-known-c c = search needs
-
--- src/work.rt:54:22
-enum-known-c-2 : tie.Need-enum-known-c-2
-enum-known-c-2 c = search needs
-
--- src/work.rt:54:28
-fit-step-requires : tie.Need-fit-step-requires
-fit-step-requires c κs = fit-pool _ _ (sym (c .before .before .before .before .checked .ensures) ∙ c .before .before .c2 .given .1)
-
--- src/work.rt:48:1
 same-length : tie.Need-same-length
 same-length c = search needs
 
--- src/work.rt:48:1
 returns : tie.Need-returns
 unfolding stepOf checkedStep
 returns c =
-    let a = c .before .before .before .before .before .before .args in
-    ap (λ (k : Checked). checkedStep (a .words .now) k (a .worker)) (sym (c .before .c .given .1) ∙ c .before .before .before .checked .ensures)
+    let a = c .before .before .before .before .args in
+    let e = c .before .refusal .ensures in
+    ap (λ (m : ℕ). refuse m (a .words .now)) e
+    ∙ ap (λ (k : Checked). checkedStep (a .words .now) k (a .worker)) (sym (refusal-some (a .words .now) (λ z. c .if1 .taken (e ∙ z))))
 
--- src/work.rt:48:1
+settings-requires : tie.Need-settings-requires
+settings-requires c κs =
+    let ws = c .before .before .before .before .before .args .words .now in
+    omega (arith, fit-pool ws (settingsOf ws) (refusal-none ws (sym (c .before .before .refusal .ensures) ∙ c .before .if1 .left)) .enough)
+
+fit-step-requires : tie.Need-fit-step-requires
+fit-step-requires c κs =
+    let ws = c .before .before .before .before .before .before .before .args .words .now in
+    rw (c .before .settings .ensures) (fit-pool ws (settingsOf ws) (refusal-none ws (sym (c .before .before .before .before .refusal .ensures) ∙ c .before .before .before .if1 .left)))
+
 same-length-2 : tie.Need-same-length-2
 same-length-2 c = search needs
 
--- src/work.rt:48:1
 returns-2 : tie.Need-returns-2
 unfolding stepOf checkedStep
 returns-2 c =
     let a = c .before .before .before .before .before .before .before .before .before .before .args in
     c .before .before .fit-step .ensures
-    ∙ ap (λ (k : Checked). checkedStep (a .words .now) k (a .worker)) (sym (c .before .before .before .before .before .c2 .given .1) ∙ c .before .before .before .before .before .before .before .checked .ensures)
+    ∙ ap (λ (g : Settings). fitStep (a .words .now) g (a .worker)) (c .before .before .before .before .settings .ensures)
+    ∙ ap (λ (k : Checked). checkedStep (a .words .now) k (a .worker)) (sym (refusal-none (a .words .now) (sym (c .before .before .before .before .before .before .before .refusal .ensures) ∙ c .before .before .before .before .before .before .if1 .left)))
 
 pub step-spec : {M : Type 1} → statement M
 step-spec =
     tie.close
     (tie.spec
-    checked-requires
-    enum-known-c
-    enum-known-c-2
-    fit-step-requires
+    refusal-requires
     same-length
     returns
+    settings-requires
+    fit-step-requires
     same-length-2
     returns-2)

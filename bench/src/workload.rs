@@ -1,0 +1,89 @@
+//! The calls to be timed: recorded once on the second implementation, so that
+//! every side makes exactly the same calls on exactly the same words.
+
+use second::{Settings, FULL, MOVING};
+use sides::{Call, SECOND};
+
+#[derive(Clone, Copy)]
+enum Operation {
+    Put,
+    Take,
+}
+
+/// Words to start from, then puts, then takes that lead back to about as many
+/// items.
+pub struct Workload {
+    pub start: Vec<u32>,
+    pub puts: Vec<Call>,
+    pub takes: Vec<Call>,
+    /// The words after both, to see that all sides did the same.
+    pub end: Vec<u32>,
+}
+
+/// How many items the pool holds at the start.
+#[derive(Clone, Copy)]
+pub enum Fill {
+    Items(u32),
+    /// As many as it takes until a put is answered "full", less as many as the
+    /// puts to be timed.
+    Full,
+}
+
+pub fn workload(settings: &Settings, fill: Fill) -> Workload {
+    let mut words = vec![0; settings.needed_words()];
+    SECOND.call(&mut words, Call::Make(*settings));
+    // Two windows' worth, so that windows move.
+    let operations = (2 * settings.width * settings.depth).max(2 * settings.workers);
+    match fill {
+        Fill::Items(items) => {
+            record(&mut words, settings, Operation::Put, items);
+        }
+        Fill::Full => {
+            record(
+                &mut words,
+                settings,
+                Operation::Put,
+                settings.width * settings.rows + 1,
+            );
+            record(&mut words, settings, Operation::Take, operations);
+        }
+    }
+    let start = words.clone();
+    let puts = record(&mut words, settings, Operation::Put, operations);
+    let takes = record(&mut words, settings, Operation::Take, operations);
+    Workload {
+        start,
+        puts,
+        takes,
+        end: words,
+    }
+}
+
+/// Operations of the workers in turn, each from its begin to its answer; the
+/// first "full" is the last.
+fn record(
+    words: &mut [u32],
+    settings: &Settings,
+    operation: Operation,
+    operations: u32,
+) -> Vec<Call> {
+    let mut calls = Vec::new();
+    for value in 0..operations {
+        let worker = value % settings.workers;
+        let mut call = match operation {
+            Operation::Put => Call::BeginPut { worker, value },
+            Operation::Take => Call::BeginTake { worker },
+        };
+        loop {
+            let number = SECOND.call(words, call).number;
+            calls.push(call);
+            call = Call::Step { worker };
+            match number {
+                MOVING => {}
+                FULL => return calls,
+                _ => break,
+            }
+        }
+    }
+    calls
+}

@@ -1,0 +1,171 @@
+-- Along a run from make, by induction over its calls: the specification's list and the answers so far account for every item,
+-- stamps are handed out in order, and every state is safe.
+use mathlib.Core.Path.{_≡_, refl, sym, ap, _∙_}
+use mathlib.Core.Logic.{_≢_, inl, inr}
+use mathlib.Core.Bool.{Bool, true, false}
+use mathlib.Core.List.{List, [], _∷_}
+use Prim.Native.Nat.{ℕ, zero, suc, _+_, _≤_, _<_}
+use native.Mathlib.Decide.{ℕ-discrete}
+use native.Mathlib.Omega.{arith}
+use lib.Dec.{leb, eqb}
+use borrow.Author.Tests.{leb-true, leb-false, eqb-true}
+use Rattle.laws.specs.Choice.{cases}
+use Rattle.rules.specs.Answers.{numberOf}
+use Rattle.rules.specs.Limits.{settingsFit}
+use Rattle.rules.specs.Held.{Item, heldItems, countItems}
+use Rattle.rules.specs.Step.{ruleOf}
+use Rattle.rules.specs.Sequential.{Contents}
+use Rattle.rules.specs.Run.{Call, beginPut, beginTake, step, callOf, run, at}
+use Rattle.rules.specs.Consequences.{wordsAfter, itemIn, itemsIn, hasStamp, NoSumWraps}
+use Rattle.rules.proofs.Types.{Settings, Side, Putting, Taking, Effect, Outcome}
+use Rattle.rules.specs.declared.Outcome.the-variants.{Refused, Moving, Landed, Removed, Empty, Full}
+use Rattle.rules.proofs.counts.Sums.{bit, bit-le}
+use Rattle.rules.proofs.order.Law.{Next}
+use Rattle.rules.proofs.Fitness.{settings-bounds}
+use Rattle.rules.proofs.Cells.{count-append, held-fits}
+use Rattle.rules.proofs.machine.Machine.{State, subIn, viewIn, belowIn, applyIn, applyInBy, stepIn, beginIn, nextIn}
+use Rattle.rules.proofs.counts.Held.{count-none, held-count}
+use Rattle.rules.proofs.machine.Turns.{Common, Counts, Safe, Kind}
+use Rattle.rules.proofs.machine.Subs.{SubAfter, rule-sub}
+use Rattle.rules.proofs.order.Given.{item-of, item-not}
+use Rattle.rules.proofs.Transfer.{Related, next-related}
+use Rattle.rules.proofs.words.Says.{held-same}
+use Rattle.rules.proofs.words.Follows.{view-same}
+
+-- a stamp up to the next one is that one, or is up to the last
+next-stamp : (c stamp : ℕ) → bit (eqb (suc c) stamp) + bit (leb stamp c) ≤ bit (leb stamp (suc c))
+next-stamp c stamp = by (eqb (suc c) stamp) (leb stamp c) (leb stamp (suc c)) refl refl refl
+  where
+    by : (x y z : Bool) → eqb (suc c) stamp ≡ x → leb stamp c ≡ y → leb stamp (suc c) ≡ z → bit x + bit y ≤ bit z
+    by false false z a b d = omega arith
+    by true true z a b d = absurd (omega (arith, eqb-true (suc c) stamp a, leb-true stamp c b))
+    by true false true a b d = omega arith
+    by false true true a b d = omega arith
+    by true false false a b d = absurd (omega (arith, eqb-true (suc c) stamp a, leb-false stamp (suc c) d))
+    by false true false a b d = absurd (omega (arith, leb-true stamp c b, leb-false stamp (suc c) d))
+
+module _ (g : Settings) (limits : settingsFit g ≡ true) (k : Kind g) where
+  abbrev Rel : List ℕ → State → Type 0
+  Rel ws s = Related g limits k ws s
+
+  -- ---- no item is lost or invented
+  held-listed : {ws : List ℕ} {s : State} (r : Rel ws s) (p : Item → Bool) → countItems p (heldItems ws g) ≡ countItems p (r .list .items)
+  held-listed {ws} {s} r p =
+      let order : (j : ℕ) → j < g .width → belowIn g s j ≤ s .first j =
+      λ j l. held-fits g (s .first j) (s .second j) (k .counts s (r .list) (r .whole .inv) .sub j l) .0 in
+      held-same g ws s (r .says) order p ∙ sym (held-count (k .holding s (r .list) (r .whole .inv) .held) order p)
+
+  pub accounted : {ws : List ℕ} {s : State} (r : Rel ws s) (cs : List Call) (p : Item → Bool)
+      → countItems p (heldItems (wordsAfter ws cs) g) + countItems p (itemsIn 2 (run ws cs))
+      ≡ countItems p (r .list .items) + countItems p (itemsIn 1 (run ws cs))
+  unfolding wordsAfter run itemsIn
+  accounted r [] p = omega (arith, held-listed r p, count-none p)
+  accounted {ws} r (c ∷ cs) p =
+      let n = next-related g limits k r c in
+      omega (
+        arith,
+        accounted (n .related) cs p,
+        n .changed .counts p,
+        count-append p (itemIn 1 (callOf ws c .answer)) (itemsIn 1 (run (callOf ws c .words) cs)),
+        count-append p (itemIn 2 (callOf ws c .answer)) (itemsIn 2 (run (callOf ws c .words) cs)),
+      )
+
+  -- ---- a put hands out a stamp above all before
+  pub stamped-once : {ws : List ℕ} {s : State} (r : Rel ws s) (cs : List Call) (stamp : ℕ)
+      → countItems (hasStamp stamp) (itemsIn 1 (run ws cs)) + bit (leb stamp (r .list .count)) ≤ 1
+  unfolding run itemsIn
+  stamped-once r [] stamp = omega (arith, count-none (hasStamp stamp), bit-le (leb stamp (r .list .count)))
+  stamped-once {ws} r (c ∷ cs) stamp =
+      let n = next-related g limits k r c in
+      let a = callOf ws c .answer in
+      let ih = stamped-once (n .related) cs stamp in
+      let both = count-append (hasStamp stamp) (itemIn 1 a) (itemsIn 1 (run (callOf ws c .words) cs)) in
+      elim (ℕ-discrete (numberOf a) 1) [
+        | yes e ↦
+            let t = n .changed .put e in
+            omega (
+              arith,
+              ih,
+              both,
+              item-of 1 a (hasStamp stamp) e,
+              next-stamp (r .list .count) stamp,
+              ap (λ (x : ℕ). bit (eqb x stamp)) (t .0),
+              ap (λ (x : ℕ). bit (leb stamp x)) (t .1),
+            )
+        | no ne ↦
+            omega (arith, ih, both, item-not 1 a (hasStamp stamp) ne, ap (λ (x : ℕ). bit (leb stamp x)) (n .changed .other ne))
+      ]
+
+  -- ---- every state is safe
+  safe-words : {ws : List ℕ} {s : State} → Rel ws s → NoSumWraps g ws
+  safe-words {ws} {s} r =
+      let says = r .says in
+      let safe : Safe g s = k .safe s (r .list) (r .whole .common) (r .whole .inv) in
+      let counts : Counts g s = k .counts s (r .list) (r .whole .inv) in
+      record {
+        steps = rw (says .steps) (omega (arith, r .whole .common .steps-few));
+        puts = rw (says .puts) (safe .puts);
+        top = rw (says .top) (safe .top);
+        mark = rw (says .mark) (safe .mark);
+        first = λ j l. rw (says .first j l) (safe .first j l);
+        second = λ j l. rw (says .second j l) (safe .second j l);
+        rule = λ i l. rw (says .slot i l, view-same g limits ws s says (r .whole .common) counts i l) (safe .rule i);
+      }
+
+  pub safe-after : {ws : List ℕ} {s : State} → Rel ws s → (cs : List Call) → NoSumWraps g (wordsAfter ws cs)
+  unfolding wordsAfter
+  safe-after r [] = safe-words r
+  safe-after r (c ∷ cs) = safe-after (next-related g limits k r c .related) cs
+
+  -- ---- no call finds the pool unfit
+  abbrev Fine : Next State → Type 0
+  Fine o = (numberOf (o .answer) ≢ 21) × (numberOf (o .answer) ≢ 23)
+
+  not-21 : (s : State) (i : ℕ) (e : Effect) (o : Outcome) → SubAfter g (viewIn s i) e o → numberOf (applyInBy g s i e o .answer) ≢ 21
+  unfolding applyInBy
+  not-21 s i e (Refused n) (inl h) u = omega arith
+  not-21 s i e (Refused n) (inr h) u = omega arith
+  not-21 s i e Moving h u = omega arith
+  not-21 s i e Landed h u = omega arith
+  not-21 s i e Removed h u = omega arith
+  not-21 s i e Empty h u = omega arith
+  not-21 s i e Full h u = omega arith
+
+  fine-rule : (s : State) (q : Contents) → Common g s → k .Inv s q → (i : ℕ) → Fine (applyIn g s i (ruleOf g (viewIn s i)))
+  unfolding applyIn
+  fine-rule s q common inv i =
+      let counts : Counts g s = k .counts s q inv in
+      let lj : subIn s i < g .width = common .slots i .index in (
+        not-21 s i (ruleOf g (viewIn s i)) (ruleOf g (viewIn s i) .outcome)
+            (rule-sub g (settings-bounds g limits) (viewIn s i) (counts .sub _ lj) (counts .first-few _ lj) (counts .second-few _ lj)),
+        k .safe s q common inv .able i,
+      )
+
+  fine-step : (s : State) (q : Contents) → Common g s → k .Inv s q → (i : ℕ) → Fine (stepIn g s i)
+  unfolding stepIn
+  fine-step s q common inv i =
+      cases Fine _ _ _ (λ a. ((λ u. omega arith), (λ u. omega arith)))
+      (λ a. cases Fine _ _ _ (λ b. ((λ u. omega arith), (λ u. omega arith)))
+      (λ b. cases Fine _ _ _ (λ c. ((λ u. omega arith), (λ u. omega arith))) (λ c. fine-rule s q common inv i)))
+
+  fine-begin : (s : State) (i : ℕ) (side : Side) (v : ℕ) → Fine (beginIn g s i side v)
+  unfolding beginIn
+  fine-begin s i side v =
+      cases Fine _ _ _ (λ a. ((λ u. omega arith), (λ u. omega arith)))
+      (λ a. cases Fine _ _ _
+      (λ b. cases Fine _ _ _ (λ c. ((λ u. omega arith), (λ u. omega arith))) (λ c. ((λ u. omega arith), (λ u. omega arith))))
+      (λ b. ((λ u. omega arith), (λ u. omega arith))))
+
+  fine-call : (s : State) (q : Contents) → Common g s → k .Inv s q → (c : Call) → Fine (nextIn g s c)
+  unfolding nextIn
+  fine-call s q common inv (beginPut i v) = fine-begin s i Putting v
+  fine-call s q common inv (beginTake i) = fine-begin s i Taking 0
+  fine-call s q common inv (step i) = fine-step s q common inv i
+
+  pub fine-at : {ws : List ℕ} {s : State} → Rel ws s → (cs : List Call) (f : ℕ)
+      → (numberOf (at (run ws cs) f .answer) ≢ 21) × (numberOf (at (run ws cs) f .answer) ≢ 23)
+  unfolding run
+  fine-at r [] f = ((λ u. omega arith), (λ u. omega arith))
+  fine-at {s = s} r (c ∷ cs) zero =
+      rw (next-related g limits k r c .answer) (fine-call s (r .list) (r .whole .common) (r .whole .inv) c)
+  fine-at r (c ∷ cs) (suc f) = fine-at (next-related g limits k r c .related) cs f

@@ -1,0 +1,131 @@
+-- From a kind's law of one step to demand 3 over the words: the machine's run has its order (Order), and the run over the
+-- words has the same events, since the words follow the machine from make on.
+use mathlib.Core.Path.{_≡_, refl, sym, ap, subst}
+use mathlib.Core.Bool.{true}
+use mathlib.Core.List.{List, [], _∷_}
+use Prim.Native.Nat.{ℕ, _≤_}
+use native.Mathlib.Omega.{arith}
+use Rattle.rules.specs.Answers.{numberOf}
+use Rattle.rules.specs.Limits.{settingsFit}
+use Rattle.rules.specs.Make.{makeOf}
+use Rattle.rules.specs.Sequential.{Contents, noItems}
+use Rattle.rules.specs.Run.{Call, callOf, run}
+use Rattle.rules.specs.Statement.{OneAtATime}
+use Rattle.rules.proofs.Types.{Settings, Answer}
+use Rattle.rules.proofs.order.Law.{Next, events, idle, refused, opened, walks, tries, stays, loses, ends, wins, Others}
+use Rattle.rules.proofs.order.Order.{one-at-a-time}
+use Rattle.rules.proofs.Fitness.{settings-bounds}
+use Rattle.rules.proofs.machine.Machine.{State, nextIn, madeIn}
+use Rattle.rules.proofs.machine.Phases.{statusOf, idle-phase}
+use Rattle.rules.proofs.machine.Turns.{Common, Kind, Turned, statusIn, turn}
+use Rattle.rules.proofs.machine.Slots.{common-next, common-made}
+use Rattle.rules.proofs.order.Given.{Changed, unchanged-by, gives-changed}
+use Rattle.rules.proofs.words.Says.{Says}
+use Rattle.rules.proofs.words.Follows.{Follows, follows}
+use Rattle.rules.proofs.words.Made.{Accepted, made-says}
+
+module _ (g : Settings) (limits : settingsFit g ≡ true) (k : Kind g) where
+  width1 : 1 ≤ g .width
+  width1 = settings-bounds g limits .width1
+
+  -- ---- the machine
+  -- what is common to both kinds, and the kind's invariant
+  pub record Whole (s : State) (q : Contents) : Type 0 where
+    pub common : Common g s
+    pub inv : k .Inv s q
+
+  abbrev After : State → Contents → Call → Next State → Type 0
+  After s q c o = Turned g Whole (k .Snap) s q c o
+
+  -- with what is common added to a kind's law
+  rest : {s t : State} {i : ℕ} → Others g (nextIn g) (statusIn g) (k .Inv) (k .Snap) s i t → Others g (nextIn g) (statusIn g) Whole (k .Snap) s i t
+  rest w = record { same = w .same; kept = w .kept }
+
+  whole : {s : State} {q : Contents} → Common g s → k .Inv s q → Whole s q
+  whole common inv = record { common = common; inv = inv }
+
+  with-common : {s : State} {q : Contents} {c : Call} {o : Next State} → Common g (o .state) → Turned g (k .Inv) (k .Snap) s q c o → After s q c o
+  with-common m (refused n e) = refused n e
+  with-common m (opened i op u n a b w h) = opened i op u n a b (rest w) (whole m h)
+  with-common m (walks i op u n a b w h) = walks i op u n a b (rest w) (whole m h)
+  with-common m (tries i op u n a b w h z) = tries i op u n a b (rest w) (whole m h) z
+  with-common m (stays i op u n a b w h z) = stays i op u n a b (rest w) (whole m h) z
+  with-common m (loses i op u n a b w h) = loses i op u n a b (rest w) (whole m h)
+  with-common m (ends i op u n a b w q′ give h) = ends i op u n a b (rest w) q′ give (whole m h)
+  with-common m (wins i op u n l a b w h z) = wins i op u n l a b (rest w) (whole m h) z
+
+  whole-turn : (s : State) (q : Contents) → Whole s q → (c : Call) → After s q c (nextIn g s c)
+  whole-turn s q h c = with-common (common-next g width1 s (h .common) c) (turn g k s q (h .common) (h .inv) c)
+
+  -- ---- the list after a call
+  pub record Onward (s : State) (q : Contents) (o : Next State) : Type 0 where
+    pub list : Contents
+    pub whole : Whole (o .state) list
+    pub changed : Changed g q (o .answer) list
+
+  idle-by : {s : State} {q : Contents} {o : Next State} → numberOf (o .answer) ≡ 0 → Whole (o .state) q → Onward s q o
+  idle-by {q = q} {o = o} n h =
+      record { list = q; whole = h; changed = unchanged-by g q (o .answer) (λ e. omega arith) (λ e. omega arith) }
+
+  onward-by : (s : State) (q : Contents) (c : Call) → Whole s q → After s q c (nextIn g s c) → Onward s q (nextIn g s c)
+  onward-by s q c h (refused n e) =
+      record { list = q; whole = rw e h; changed = unchanged-by g q _ (λ u. omega arith) (λ u. omega arith) }
+  onward-by s q c h (opened i op u n a b w h′) = idle-by n h′
+  onward-by s q c h (walks i op u n a b w h′) = idle-by n h′
+  onward-by s q c h (tries i op u n a b w h′ z) = idle-by n h′
+  onward-by s q c h (stays i op u n a b w h′ z) = idle-by n h′
+  onward-by s q c h (loses i op u n a b w h′) = idle-by n h′
+  onward-by s q c h (ends i op u n a b w q′ give h′) = record { list = q′; whole = h′; changed = gives-changed g q _ q′ op give }
+  onward-by s q c h (wins i op u n l a b w h′ z) =
+      record { list = q; whole = h′; changed = unchanged-by g q _ (λ e. omega arith) (λ e. omega arith) }
+
+  pub onward : (s : State) (q : Contents) → Whole s q → (c : Call) → Onward s q (nextIn g s c)
+  onward s q h c = onward-by s q c h (whole-turn s q h c)
+
+  pub made-whole : Whole (madeIn g) noItems
+  made-whole = record { common = common-made g width1; inv = k .at-first }
+
+  made-idle : (i : ℕ) → statusIn g (madeIn g) i ≡ idle
+  unfolding madeIn
+  made-idle i = ap (statusOf 0) (idle-phase (g .kind) _ refl)
+
+  machine-order : (cs : List Call) → OneAtATime g (events (nextIn g) (madeIn g) cs)
+  machine-order cs = one-at-a-time g (nextIn g) (statusIn g) Whole (k .Snap) whole-turn (madeIn g) made-whole made-idle cs
+
+  -- ---- the words
+  pub record Related (ws : List ℕ) (s : State) : Type 0 where
+    pub says : Says g ws s
+    pub list : Contents
+    pub whole : Whole s list
+
+  -- the words after a call, with the list after it
+  pub record Next-related (ws : List ℕ) (s : State) (q : Contents) (c : Call) : Type 0 where
+    pub answer : callOf ws c .answer ≡ nextIn g s c .answer
+    pub related : Related (callOf ws c .words) (nextIn g s c .state)
+    pub changed : Changed g q (callOf ws c .answer) (related .list)
+
+  pub next-related : {ws : List ℕ} {s : State} (r : Related ws s) (c : Call) → Next-related ws s (r .list) c
+  next-related {ws} {s} r c =
+      let h = r .whole in
+      let f : Follows g (callOf ws c) (nextIn g s c) = follows g limits ws s (r .says) (h .common) (k .counts s (r .list) (h .inv)) c in
+      let n = onward s (r .list) h c in
+      record {
+        answer = f .answer;
+        related = record { says = f .says; list = n .list; whole = n .whole };
+        changed = subst (λ (a : Answer). Changed g (r .list) a (n .list)) (sym (f .answer)) (n .changed);
+      }
+
+  events-same : {ws : List ℕ} {s : State} → Related ws s → (cs : List Call) → run ws cs ≡ events (nextIn g) s cs
+  unfolding run events
+  events-same r [] = refl
+  events-same r (c ∷ cs) =
+      let n = next-related r c in
+      let rest = events-same (n .related) cs in
+      λ u. record { call = c; answer = n .answer u } ∷ rest u
+
+  unfoldable pub made-related : (ws : List ℕ) → Accepted ws g → Related (makeOf ws g .words) (madeIn g)
+  made-related ws a =
+      record { says = rw (a .words) (made-says ws g (a .enough)); list = noItems; whole = made-whole }
+
+  pub words-order : (ws : List ℕ) → Accepted ws g → (cs : List Call) → OneAtATime g (run (makeOf ws g .words) cs)
+  words-order ws a cs = rw (events-same (made-related ws a) cs) (machine-order cs)

@@ -1,0 +1,8 @@
+-- The abstract machine, what holds of it whatever the kind, and what a kind has to show.
+pub mod Machine
+pub mod Phases
+pub mod Good
+pub mod Turns
+pub mod Slots
+pub mod Subs
+pub mod Ways

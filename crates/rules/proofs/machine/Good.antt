@@ -1,0 +1,49 @@
+-- What settings within limits give to a proof.
+use mathlib.Core.Path.{_≡_}
+use mathlib.Core.Bool.{true}
+use Prim.Native.Nat.{ℕ, _+_, _-_, _*_, _/_, _≤_}
+use native.Mathlib.Nat.{div-add-mod'}
+use native.Mathlib.Omega.{arith}
+use Rattle.laws.specs.Choice.{cond, cond-true, cond-false}
+use Rattle.rules.specs.Limits.{settingsFit, Bounds}
+use Rattle.rules.specs.Held.{rowsBelow}
+use Rattle.rules.specs.Sequential.{mostPassed, leastFull}
+use Rattle.rules.proofs.Types.{Settings}
+use Rattle.rules.proofs.Fitness.{settings-bounds, queue-limits}
+
+-- the bounds; and of a queue s = d, and R a multiple of d
+pub record Good (g : Settings) : Type 0 where
+  pub bounds : Bounds g
+  pub queue-shift : g .kind ≡ 0 → g .shift ≡ g .depth
+  pub times : ℕ
+  pub queue-rows : g .kind ≡ 0 → g .rows ≡ times * g .depth
+
+pub good : (g : Settings) → settingsFit g ≡ true → Good g
+good g e =
+    record {
+      bounds = settings-bounds g e;
+      queue-shift = λ k. queue-limits g e k .0;
+      times = g .rows / g .depth;
+      queue-rows = λ k. omega (arith, queue-limits g e k .1, div-add-mod' (g .rows) (g .depth));
+    }
+
+-- ---- what a definition says of a kind
+module _ (g : Settings) where
+  pub queue-below : g .kind ≡ 0 → (x : ℕ) → rowsBelow g x ≡ x
+  queue-below k x = rw k (cond-true x 0)
+
+  pub stack-below : g .kind ≡ 1 → (x : ℕ) → rowsBelow g x ≡ 0
+  stack-below k x = rw k (cond-false x 0)
+
+  -- demand 3's numbers against what a kind shows
+  pub queue-most : g .kind ≡ 0 → (g .width - 1) * g .depth ≤ mostPassed g
+  unfolding mostPassed cond
+  queue-most k = rw k (omega arith)
+
+  pub queue-full : g .kind ≡ 0 → leastFull g ≤ g .width * (g .rows - g .depth)
+  unfolding leastFull cond
+  queue-full k = rw k (omega arith)
+
+  pub stack-full : g .kind ≡ 1 → leastFull g ≤ g .width * (g .rows - g .shift + 1)
+  unfolding leastFull cond
+  stack-full k = rw k (omega arith)

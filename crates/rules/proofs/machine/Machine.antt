@@ -1,0 +1,210 @@
+-- The abstract machine, for both kinds: a pool as functions in place of words, so that a proof meets no offset and no length.
+-- It goes by the same `ruleOf` as the words do. An item stays at its sub and row for good, taken or not; the words forget it
+-- when its cell is used again, which is why words and machine are joined over the held rows alone.
+use mathlib.Core.Path.{_≡_, refl, ap}
+use mathlib.Core.Bool.{Bool}
+use Prim.Native.Nat.{ℕ, suc, _-_, _%_}
+use lib.Dec.{leb, eqb}
+use Rattle.laws.specs.Choice.{cond}
+use Rattle.rules.specs.Held.{Item, rowsBelow, passedOver}
+use Rattle.rules.specs.Make.{newMark}
+use Rattle.rules.specs.Worker.{fresh, phaseOf, encode}
+use Rattle.rules.specs.Effects.{movedOf, finishedOf}
+use Rattle.rules.specs.Shift.{shiftedOf}
+use Rattle.rules.specs.Step.{ruleOf}
+use Rattle.rules.specs.Apply.{stampOf}
+use Rattle.rules.specs.Run.{Call, beginPut, beginTake, step}
+use Rattle.rules.proofs.Types.{Settings, Side, Putting, Taking, Phase, Idle, Window, Slot, View, Effect, Outcome, Answer}
+use Rattle.rules.specs.declared.Outcome.the-variants.{Refused as Stays, Moving as Moves, Landed, Removed, Empty as NoItem, Full as NoRoom}
+use Rattle.rules.specs.declared.Answer.the-variants.{Moving, Put, Taken, Empty, Full, Refused}
+use Rattle.rules.proofs.counts.Sums.{upd, upd-self, sumN, upTo}
+use Rattle.rules.proofs.order.Law.{Next}
+
+-- the words of a pool, the settings apart; `item` by sub and row
+pub record State : Type 0 where
+  pub steps : ℕ
+  pub puts : ℕ
+  pub top : ℕ
+  pub mark : ℕ
+  pub first : ℕ → ℕ
+  pub second : ℕ → ℕ
+  pub item : ℕ → ℕ → Item
+  pub slot : ℕ → Slot
+
+abbrev pub next : Answer → State → Next State
+next a s = record { answer = a; state = s }
+
+-- the sub that worker i is at
+abbrev pub subIn : State → ℕ → ℕ
+subIn s i = s .slot i .index
+
+abbrev pub viewIn : State → ℕ → View
+viewIn s i =
+    record {
+      top = s .top;
+      mark = s .mark;
+      puts = s .puts;
+      first = s .first (subIn s i);
+      second = s .second (subIn s i);
+      slot = s .slot i;
+    }
+
+abbrev pub phaseIn : Settings → State → ℕ → Phase
+phaseIn g s i = phaseOf (g .kind) (s .slot i)
+
+-- the row up to which the rows of sub j are not held
+abbrev pub belowIn : Settings → State → ℕ → ℕ
+belowIn g s j = rowsBelow g (s .second j)
+
+-- the held rows of sub j that pass a test
+abbrev pub countIn : Settings → State → (Item → Bool) → ℕ → ℕ
+countIn g s p j = upTo (λ r. p (s .item j r)) (s .first j) - upTo (λ r. p (s .item j r)) (belowIn g s j)
+
+-- the held items that a take of a stamp passes over
+unfoldable pub distanceIn : Settings → State → ℕ → ℕ
+distanceIn g s stamp = sumN (countIn g s (passedOver (g .kind) stamp)) (g .width)
+
+-- all that worker i's step read, as it is afterwards, and the step counted
+abbrev pub afterIn : State → ℕ → Effect → State
+afterIn s i e =
+    record {
+      steps = suc (s .steps);
+      puts = e .puts;
+      top = e .top;
+      mark = e .mark;
+      first = upd (s .first) (subIn s i) (e .first);
+      second = upd (s .second) (subIn s i) (e .second);
+      item = s .item;
+      slot = upd (s .slot) i (e .slot);
+    }
+
+-- an item at its sub and row
+abbrev pub withItem : State → ℕ → ℕ → Item → State
+withItem s j row x =
+    record {
+      steps = s .steps;
+      puts = s .puts;
+      top = s .top;
+      mark = s .mark;
+      first = s .first;
+      second = s .second;
+      item = upd (s .item) j (upd (s .item j) row x);
+      slot = s .slot;
+    }
+
+abbrev pub takenIn : Settings → State → ℕ → ℕ → Answer
+takenIn g s j row =
+    Taken (s .item j row .value) j (record { 0 = row }) (record { 0 = s .item j row .stamp }) (distanceIn g s (s .item j row .stamp))
+
+unfoldable pub applyInBy : Settings → State → ℕ → Effect → Outcome → Next State
+applyInBy g s i e (Stays n) = next (Refused n) s
+applyInBy g s i e Moves = next Moving (afterIn s i e)
+applyInBy g s i e Landed =
+    next (Put (e .value) (subIn s i) (e .row) (stampOf e))
+    (afterIn (withItem s (subIn s i) (e .row .0) (record { value = e .value; stamp = e .puts })) i e)
+applyInBy g s i e Removed = next (takenIn g s (subIn s i) (e .row .0)) (afterIn s i e)
+applyInBy g s i e NoItem = next Empty (afterIn s i e)
+applyInBy g s i e NoRoom = next Full (afterIn s i e)
+
+unfoldable pub applyIn : Settings → State → ℕ → Effect → Next State
+applyIn g s i e = applyInBy g s i e (e .outcome)
+
+-- ---- one call
+unfoldable pub stepIn : Settings → State → ℕ → Next State
+stepIn g s i =
+    cond (leb (g .workers) i) (next (Refused 24) s)
+    (cond (eqb (s .slot i .number) 0) (next (Refused 26) s)
+    (cond (leb 4000000000 (s .steps)) (next (Refused 27) s)
+    (applyIn g s i (ruleOf g (viewIn s i)))))
+
+-- worker i in another slot, and nothing else changed
+abbrev pub withSlot : State → ℕ → Slot → State
+withSlot s i x =
+    record {
+      steps = s .steps;
+      puts = s .puts;
+      top = s .top;
+      mark = s .mark;
+      first = s .first;
+      second = s .second;
+      item = s .item;
+      slot = upd (s .slot) i x;
+    }
+
+unfoldable pub beginIn : Settings → State → ℕ → Side → ℕ → Next State
+beginIn g s i side value =
+    cond (leb (g .workers) i) (next (Refused 24) s)
+    (cond (eqb (s .slot i .number) 0)
+    (cond (leb 4000000000 (s .steps)) (next (Refused 27) s)
+    (next Moving (withSlot s i (fresh value (subIn s i) (Window side)))))
+    (next (Refused 25) s))
+
+unfoldable pub nextIn : Settings → State → Call → Next State
+nextIn g s (beginPut i v) = beginIn g s i Putting v
+nextIn g s (beginTake i) = beginIn g s i Taking 0
+nextIn g s (step i) = stepIn g s i
+
+-- a new pool
+unfoldable pub madeIn : Settings → State
+madeIn g =
+    record {
+      steps = 0;
+      puts = 0;
+      top = g .depth;
+      mark = newMark g;
+      first = λ j. 0;
+      second = λ j. 0;
+      item = λ j r. record { value = 0; stamp = 0 };
+      slot = λ i. record { number = 0; value = 0; index = i % g .width; window = 0; extra = 0; scan = 0; seen = 0; sum = 0 };
+    }
+
+-- ---- steps that change no sub: the window words and the worker's slot alone
+abbrev pub turnedIn : State → ℕ → ℕ → ℕ → Slot → State
+turnedIn s i top mark x =
+    record {
+      steps = suc (s .steps);
+      puts = s .puts;
+      top = top;
+      mark = mark;
+      first = s .first;
+      second = s .second;
+      item = s .item;
+      slot = upd (s .slot) i x;
+    }
+
+-- an effect that keeps the sub's two words keeps all of them
+after-turned : (s : State) (i top mark : ℕ) (x : Slot)
+    → _≡_ {A = State} (record {
+      steps = suc (s .steps);
+      puts = s .puts;
+      top = top;
+      mark = mark;
+      first = upd (s .first) (subIn s i) (s .first (subIn s i));
+      second = upd (s .second) (subIn s i) (s .second (subIn s i));
+      item = s .item;
+      slot = upd (s .slot) i x;
+    }) (turnedIn s i top mark x)
+after-turned s i top mark x = rw (upd-self (s .first) (subIn s i), upd-self (s .second) (subIn s i)) refl
+
+module _ (g : Settings) (s : State) (i : ℕ) where
+  pub apply-moved : (index : ℕ) (p : Phase) (kept : Slot)
+      → applyIn g s i (movedOf (viewIn s i) index p kept)
+      ≡ next Moving (turnedIn s i (s .top) (s .mark) (encode (record { value = s .slot i .value; index = index; phase = p }) kept))
+  unfolding applyIn applyInBy
+  apply-moved index p kept = ap (next Moving) (after-turned s i (s .top) (s .mark) _)
+
+  pub apply-shifted : (side : Side) (top mark : ℕ)
+      → applyIn g s i (shiftedOf (viewIn s i) side top mark)
+      ≡ next Moving (turnedIn s i top mark (encode (record { value = s .slot i .value; index = subIn s i; phase = Window side }) (s .slot i)))
+  unfolding applyIn applyInBy
+  apply-shifted side top mark = ap (next Moving) (after-turned s i top mark _)
+
+  pub apply-empty : (index : ℕ)
+      → applyIn g s i (finishedOf (viewIn s i) NoItem index) ≡ next Empty (turnedIn s i (s .top) (s .mark) (fresh 0 index Idle))
+  unfolding applyIn applyInBy
+  apply-empty index = ap (next Empty) (after-turned s i (s .top) (s .mark) _)
+
+  pub apply-full : (index : ℕ)
+      → applyIn g s i (finishedOf (viewIn s i) NoRoom index) ≡ next Full (turnedIn s i (s .top) (s .mark) (fresh 0 index Idle))
+  unfolding applyIn applyInBy
+  apply-full index = ap (next Full) (after-turned s i (s .top) (s .mark) _)

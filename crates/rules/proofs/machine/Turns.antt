@@ -1,0 +1,157 @@
+-- The interface between a kind's proof and the theorem.
+--
+-- A kind, the queue (g .kind ≡ 0) or the stack (1), has to make a `Kind g` for settings `Good g`:
+--   Inv s q        the invariant: what holds of a pool from make in state s whose finished operations left q on the
+--                  sequential specification's list
+--   Snap s₀ q₀ i s what links worker i, now in confirm in state s, to the state s₀ and list q₀ just before the step at
+--                  which it was tried, its linearization point if it wins
+--   at-first       the invariant of a new pool
+--   begins         a begin keeps the invariant, and the other workers' links
+--   steps          the law of one step that is not refused before its rule: one of the cases of `Turn` (order/Law) for
+--                  `applyIn g s i (ruleOf g (viewIn s i))`
+--   counts, holding, safe    what follows from the invariant for words and corollaries
+--
+-- What is given besides: `Common g s`, that each slot is fit (index and scan below the width, a phase's number of the kind)
+-- and the step count at most 4,000,000,000. It is kept by every call whatever the kind, so a kind's Inv does not hold it.
+--
+-- How a step is taken apart: unfold `ruleOf`, split on the phase by a function of (p : Phase) and `phaseIn g s i ≡ p`,
+-- unfold `ruleBy` and that phase's rule, and split each `cond` by `cases` (laws, Choice), with
+-- P = λ e. Turned s q (step i) (applyIn g s i e). Then the effect is written out: `apply-moved`,
+-- `apply-shifted`, `apply-empty`, `apply-full` (Machine) say what `applyIn` makes of it, and `applyIn applyInBy` unfold for
+-- a landed or removed item. A slot `encode k o` is in phase `k .phase` by `queue-phase` or `stack-phase` (Phases), with
+-- `encode-value` and `encode-index`; so Inv best speaks of `phaseIn g s i` and of `s .slot i .index`, never of the other words.
+-- Sums: `add32-is`, `add32-suc`, `sub32-is` (Wraps). Passes: `Summed`, `Pass` (Passes). The list: `Holds` and `find-row`
+-- (Held), with `belowIn g s` as the rows not held: `queue-below`, `stack-below` (Good). Stamps: `Stamped` (Stamps).
+-- What the specification gives: `gives-put`, `gives-taken`, `gives-empty`, `gives-full` (Gives).
+use mathlib.Core.Path.{_≡_, refl, ap, _∙_}
+use mathlib.Core.Logic.{_≢_}
+use mathlib.Core.Bool.{true}
+use Prim.Native.Nat.{ℕ, _+_, _*_, _^_, _≤_, _<_}
+use native.Mathlib.Omega.{arith}
+use lib.Dec.{leb, eqb}
+use borrow.Author.Tests.{leb-false, eqb-true}
+use Rattle.laws.specs.Choice.{cases}
+use Rattle.rules.specs.Answers.{numberOf}
+use Rattle.rules.specs.Worker.{fresh, zeroSlot, phaseOf}
+use Rattle.rules.specs.Fit.{phaseFit, SubFits}
+use Rattle.rules.specs.Step.{ruleOf}
+use Rattle.rules.specs.Sequential.{Contents, noItems}
+use Rattle.rules.specs.Run.{Call, beginPut, beginTake, step, begin}
+use Rattle.rules.specs.Consequences.{NoWrap}
+use Rattle.rules.proofs.Types.{Settings, Side, Putting, Taking, Idle, Window, Slot}
+use Rattle.rules.specs.declared.Answer.the-variants.{Moving}
+use Rattle.rules.proofs.counts.Sums.{upd, upd-same, upd-other}
+use Rattle.rules.proofs.order.Law.{Next, Status, pending, Turn, refused, opened}
+use Rattle.rules.proofs.machine.Machine.{State, next, subIn, viewIn, phaseIn, belowIn, applyIn, stepIn, withSlot, beginIn, nextIn, madeIn}
+use Rattle.rules.proofs.machine.Phases.{operationOf, statusOf, worker, idle-phase, window-phase, encode-value}
+use Rattle.rules.proofs.counts.Held.{Holds}
+
+-- ---- what every pool from make has, of either kind
+pub record SlotFits (g : Settings) (o : Slot) : Type 0 where
+  pub index : o .index < g .width
+  pub scan : o .scan < g .width
+  pub number : phaseFit (g .kind) (o .number) ≡ true
+
+pub record Common (g : Settings) (s : State) : Type 0 where
+  pub slots : (i : ℕ) → SlotFits g (s .slot i)
+  pub steps-few : s .steps ≤ 4000000000
+
+-- ---- what a kind shows besides its law of a step
+-- the counts of each sub are fit and few
+pub record Counts (g : Settings) (s : State) : Type 0 where
+  pub sub : (j : ℕ) → j < g .width → SubFits g (s .first j) (s .second j)
+  pub first-few : (j : ℕ) → j < g .width → s .first j ≤ 4000000000
+  pub second-few : (j : ℕ) → j < g .width → s .second j ≤ 4000000000
+
+-- the specification's list is what the subs hold, and its count the puts made
+pub record Holding (g : Settings) (s : State) (q : Contents) : Type 0 where
+  pub held : Holds (g .width) (belowIn g s) (s .first) (s .item) (q .items)
+  pub count : q .count ≡ s .puts
+
+-- no sum that a step adds up reaches 2^32, no difference but confirm's passes below 0, and no commit that matches is refused
+pub record Safe (g : Settings) (s : State) : Type 0 where
+  pub puts : s .puts + 1 < 2 ^ 32
+  pub top : s .top + 2 * g .depth < 2 ^ 32
+  pub mark : s .mark + g .depth < 2 ^ 32
+  pub first : (j : ℕ) → j < g .width → s .first j + 1 < 2 ^ 32
+  pub second : (j : ℕ) → j < g .width → s .second j + 1 < 2 ^ 32
+  pub rule : (i : ℕ) → NoWrap g (viewIn s i) (phaseIn g s i)
+  pub able : (i : ℕ) → numberOf (applyIn g s i (ruleOf g (viewIn s i)) .answer) ≢ 23
+
+-- ---- how far worker i's operation is
+abbrev pub statusIn : Settings → State → ℕ → Status
+statusIn g s i = statusOf (s .slot i .value) (phaseIn g s i)
+
+-- the worker whose slot was changed, and any other
+pub status-here : (g : Settings) (f : ℕ → Slot) (i : ℕ) (x : Slot)
+    → statusOf (upd f i x i .value) (phaseOf (g .kind) (upd f i x i)) ≡ statusOf (x .value) (phaseOf (g .kind) x)
+status-here g f i x = ap (λ (y : Slot). statusOf (y .value) (phaseOf (g .kind) y)) (upd-same f i x)
+
+pub status-other : (g : Settings) (f : ℕ → Slot) (i : ℕ) (x : Slot) (j : ℕ) → j ≢ i
+    → statusOf (upd f i x j .value) (phaseOf (g .kind) (upd f i x j)) ≡ statusOf (f j .value) (phaseOf (g .kind) (f j))
+status-other g f i x j n = ap (λ (y : Slot). statusOf (y .value) (phaseOf (g .kind) y)) (upd-other f i x j n)
+
+-- ---- a kind
+abbrev pub Turned : (g : Settings) → (State → Contents → Type 0) → (State → Contents → ℕ → State → Type 0)
+    → State → Contents → Call → Next State → Type 0
+Turned g Inv Snap s q c o = Turn g (nextIn g) (statusIn g) Inv Snap s q c o
+
+abbrev pub begun : State → ℕ → Side → ℕ → State
+begun s i side v = withSlot s i (fresh v (subIn s i) (Window side))
+
+pub record Kind (g : Settings) : Type 1 where
+  pub Inv : State → Contents → Type 0
+  pub Snap : State → Contents → ℕ → State → Type 0
+  pub at-first : Inv (madeIn g) noItems
+  pub begins : (s : State) (q : Contents) → Common g s → Inv s q → (i : ℕ) → phaseIn g s i ≡ Idle
+      → (side : Side) (v : ℕ) → Inv (begun s i side v) q
+  pub begins-kept : (s : State) (i : ℕ) (side : Side) (v : ℕ) (j : ℕ) → j ≢ i
+      → (s₀ : State) (q₀ : Contents) → Snap s₀ q₀ j s → Snap s₀ q₀ j (begun s i side v)
+  pub steps : (s : State) (q : Contents) → Common g s → Inv s q → (i : ℕ) → i < g .workers → s .steps < 4000000000
+      → Turned g Inv Snap s q (step i) (applyIn g s i (ruleOf g (viewIn s i)))
+  pub counts : (s : State) (q : Contents) → Inv s q → Counts g s
+  pub holding : (s : State) (q : Contents) → Inv s q → Holding g s q
+  pub safe : (s : State) (q : Contents) → Common g s → Inv s q → Safe g s
+
+-- ---- the law of one call
+module _ (g : Settings) (k : Kind g) where
+  abbrev Call-turn : State → Contents → Call → Next State → Type 0
+  Call-turn s q c o = Turned g (k .Inv) (k .Snap) s q c o
+
+  turn-step : (s : State) (q : Contents) → Common g s → k .Inv s q → (i : ℕ) → Call-turn s q (step i) (stepIn g s i)
+  unfolding stepIn
+  turn-step s q common inv i =
+      cases (Call-turn s q (step i)) (leb (g .workers) i) _ _ (λ e. refused (omega arith) refl)
+      (λ a. cases (Call-turn s q (step i)) (eqb (s .slot i .number) 0) _ _ (λ e. refused (omega arith) refl)
+      (λ b. cases (Call-turn s q (step i)) (leb 4000000000 (s .steps)) _ _ (λ e. refused (omega arith) refl)
+      (λ c. k .steps s q common inv i (leb-false _ _ a) (leb-false _ _ c))))
+
+  begun-status : (side : Side) (v x : ℕ)
+      → statusOf (fresh v x (Window side) .value) (phaseOf (g .kind) (fresh v x (Window side))) ≡ pending (operationOf side v)
+  begun-status side v x =
+      rw (window-phase (g .kind) side v x zeroSlot, encode-value (worker v x (Window side)) zeroSlot) refl
+
+  turn-begin : (s : State) (q : Contents) → Common g s → k .Inv s q → (i : ℕ) (side : Side) (v : ℕ) (c : Call) → c ≡ begin i (operationOf side v)
+      → Call-turn s q c (beginIn g s i side v)
+  unfolding beginIn
+  turn-begin s q common inv i side v c u =
+      cases (Call-turn s q c) (leb (g .workers) i) _ _ (λ e. refused (omega arith) refl)
+      (λ a. cases (Call-turn s q c) (eqb (s .slot i .number) 0) _ _
+      (λ b. cases (Call-turn s q c) (leb 4000000000 (s .steps)) _ _ (λ e. refused (omega arith) refl) (λ e. opens (idle-phase (g .kind) (s .slot i) (eqb-true _ _ b))))
+      (λ b. refused (omega arith) refl))
+    where
+      opens : phaseIn g s i ≡ Idle → Call-turn s q c (next Moving (begun s i side v))
+      opens p =
+          opened i (operationOf side v) u refl (ap (statusOf (s .slot i .value)) p)
+          (status-here g (s .slot) i _ ∙ begun-status side v (subIn s i))
+          (record {
+            same = λ j n. status-other g (s .slot) i _ j n;
+            kept = λ j n s₀ q₀ z. k .begins-kept s i side v j n s₀ q₀ z;
+          })
+          (k .begins s q common inv i p side v)
+
+  pub turn : (s : State) (q : Contents) → Common g s → k .Inv s q → (c : Call) → Call-turn s q c (nextIn g s c)
+  unfolding nextIn
+  turn s q common inv (beginPut i v) = turn-begin s q common inv i Putting v (beginPut i v) refl
+  turn s q common inv (beginTake i) = turn-begin s q common inv i Taking 0 (beginTake i) refl
+  turn s q common inv (step i) = turn-step s q common inv i

@@ -1,0 +1,55 @@
+-- What the sequential specification gives for each of the four answers, from what a kind shows of its list.
+use mathlib.Core.Path.{_≡_, refl}
+use mathlib.Core.List.{[], _∷_}
+use Prim.Native.Nat.{ℕ, suc, _+_, _≤_}
+use native.Mathlib.Omega.{arith}
+use lib.ListN.{length}
+use borrow.Author.Tests.{le-leb}
+use Rattle.laws.specs.Choice.{cond}
+use Rattle.rules.specs.Held.{Item}
+use Rattle.rules.specs.Sequential.{putting, taking, Contents, Found, giveBy, leaving, mostPassed, leastFull, passedBy}
+use Rattle.rules.specs.Run.{Final}
+use Rattle.rules.specs.Statement.{Gives}
+use Rattle.rules.proofs.Types.{Settings, Row}
+use Rattle.rules.specs.declared.Answer.the-variants.{Put, Taken, Empty, Full}
+use Rattle.rules.proofs.counts.Held.{RowFound}
+
+module _ (g : Settings) (q : Contents) where
+  -- the specification's list after a put of v with the next stamp, and after a take
+  abbrev pub putOn : ℕ → Contents
+  putOn v = record { items = record { value = v; stamp = suc (q .count) } ∷ q .items; count = suc (q .count) }
+
+  abbrev pub takenOff : Found → Contents
+  takenOff f = record { items = f .others; count = q .count }
+
+  pub gives-put : (v j : ℕ) (row : Row) (stamp : ℕ) → stamp ≡ suc (q .count) → Gives g q (putting v) (Put v j row (record { 0 = stamp })) (putOn v)
+  unfolding giveBy cond
+  gives-put v j row stamp e = let n : q .count + 1 ≡ suc (q .count) = omega arith in rw (n, e) refl
+
+  pub gives-taken : (it : Item) (j : ℕ) (row : Row) (distance : ℕ) → (f : RowFound it (q .items))
+      → distance ≡ passedBy g q (it .stamp) → distance ≤ mostPassed g
+      → Gives g q taking (Taken (it .value) j row (record { 0 = it .stamp }) distance) (takenOff (f .out))
+  unfolding giveBy leaving cond
+  gives-taken it j row distance f e l =
+      rw (f .found) (rw (f .item-is) (rw (← e) (rw (le-leb distance (mostPassed g) l) refl)))
+
+  pub gives-empty : q .items ≡ [] → Gives g q taking Empty q
+  unfolding giveBy cond
+  gives-empty e = rw e refl
+
+  pub gives-full : (v : ℕ) → leastFull g ≤ length (q .items) → Gives g q (putting v) Full q
+  unfolding giveBy cond
+  gives-full v l = rw (le-leb (leastFull g) (length (q .items)) l) refl
+
+-- the four answers are final
+pub final-put : (v j : ℕ) (row : Row) (stamp : _) → Final (Put v j row stamp)
+final-put v j row stamp = record { low = omega arith; high = omega arith }
+
+pub final-taken : (v j : ℕ) (row : Row) (stamp : _) (distance : ℕ) → Final (Taken v j row stamp distance)
+final-taken v j row stamp distance = record { low = omega arith; high = omega arith }
+
+pub final-empty : Final Empty
+final-empty = record { low = omega arith; high = omega arith }
+
+pub final-full : Final Full
+final-full = record { low = omega arith; high = omega arith }

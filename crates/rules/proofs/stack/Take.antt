@@ -1,0 +1,106 @@
+-- A take that lands: the top row of its sub leaves, and with it the item of that stamp on the list. The rows that stay keep their
+-- stamps and their pairs, and the newer items passed over are few (Distance).
+use mathlib.Core.Path.{_≡_, refl, sym}
+use Prim.Native.Nat.{ℕ, suc, _-_, _≤_, _<_}
+use native.Mathlib.Nat.{le-refl, le-trans}
+use native.Mathlib.Omega.{arith}
+use Rattle.laws.specs.Wrap.{add32, sub32}
+use Rattle.rules.specs.Held.{Item}
+use Rattle.rules.specs.Commit.{removedOf}
+use Rattle.rules.specs.Sequential.{Contents, passedBy}
+use Rattle.rules.proofs.Types.{Settings, Taking, StackCommit, Version}
+use Rattle.rules.proofs.counts.Sums.{upd, upd-same, upd-other, upd-all}
+use Rattle.rules.proofs.machine.Machine.{State, next, subIn, viewIn, phaseIn, takenIn, distanceIn, applyIn, applyInBy}
+use Rattle.rules.proofs.counts.Wraps.{add32-suc, sub32-is}
+use Rattle.rules.proofs.counts.Held.{RowFound, find-row, holds-top, distance-held}
+use Rattle.rules.proofs.counts.Stamps.{Stamped, single, stamped-less}
+use Rattle.rules.proofs.order.Gives.{takenOff, gives-taken, final-taken}
+use Rattle.rules.proofs.machine.Good.{Good, stack-below}
+use Rattle.rules.proofs.machine.Turns.{Holding}
+use Rattle.rules.proofs.stack.Inv.{Pairs, Inv}
+use Rattle.rules.proofs.stack.After.{version-few, held-le, held-rows, rows-held, Stepping, On}
+use Rattle.rules.proofs.stack.Commit.{live-fits, committed, commits}
+use Rattle.rules.proofs.stack.Distance.{mostNewer, newer-most, row-there, newer-few}
+
+-- a live take has an item, and passes over few newer ones
+module _ {g : Settings} {s : State} {q : Contents} (good : Good g) (kind : g .kind ≡ 1) (inv : Inv g s q) (i : ℕ) (lj : subIn s i < g .width)
+    (seen : Version) (e : phaseIn g s i ≡ StackCommit Taking seen) (live : seen .0 ≡ s .second (subIn s i)) where
+  pub take-row : 1 ≤ s .first (subIn s i)
+  take-row = row-there g good kind (inv .pool) (subIn s i) lj (live-fits inv i Taking seen e live)
+
+  pub take-newer : distanceIn g s (s .item (subIn s i) (s .first (subIn s i)) .stamp) ≤ mostNewer g
+  take-newer = newer-few g good kind (inv .pool) (subIn s i) lj (live-fits inv i Taking seen e live)
+
+module _ {g : Settings} {s : State} {q : Contents} {i : ℕ} (a : Stepping g s q i)
+    (seen : Version) (e : phaseIn g s i ≡ StackCommit Taking seen) (live : seen .0 ≡ s .second (subIn s i)) where
+  abbrev j : ℕ
+  j = subIn s i
+
+  abbrev r : ℕ
+  r = s .first j
+
+  abbrev it : Item
+  it = s .item j r
+
+  j-lt : j < g .width
+  j-lt = a .common .slots i .index
+
+  there : 1 ≤ r
+  there = take-row (a .good) (a .kind) (a .inv) i j-lt seen e live
+
+  -- ---- the rows that stay
+  abbrev held′ : ℕ → ℕ
+  held′ = upd (s .first) j (r - 1)
+
+  less : (m : ℕ) → held′ m ≤ s .first m
+  less m = upd-all (λ n (c : ℕ). c ≤ s .first n) (s .first) j (r - 1) m (λ u. rw u (omega arith)) (λ n. le-refl _)
+
+  stamps : Stamped (g .width) held′ (s .item) (s .puts)
+  stamps = stamped-less (a .inv .pool .stamps) (λ m l. less m)
+
+  pairs : Pairs g held′ (s .item)
+  pairs =
+      record { near = λ m n x y lm ln x1 xm y1 yn. a .inv .pool .pairs .near m n x y lm ln x1 (le-trans xm (less m)) y1 (le-trans yn (less n)) }
+
+  -- ---- the item that leaves
+  found : RowFound it (q .items)
+  found =
+      find-row (held-rows (a .inv .pool) (a .kind)) (λ m l. omega arith) j r j-lt there (le-refl _)
+      (single (a .inv .pool .stamps) j r j-lt there (le-refl _))
+
+  abbrev t : State
+  t = committed s i Taking (s .puts) (s .item)
+
+  row-is : suc (held′ j) ≡ r
+  row-is = omega (arith, upd-same (s .first) j (r - 1), there)
+
+  holding : Holding g t (takenOff g q (found .out))
+  holding =
+      record {
+        held =
+            rows-held g (a .kind) t (found .out .others)
+            (holds-top (held-rows (a .inv .pool) (a .kind)) j j-lt (sym row-is) (λ m n. upd-other (s .first) j (r - 1) m n)
+            (λ p. rw row-is (found .counts p)));
+        count = a .inv .pool .holding .count;
+      }
+
+  distance-is : distanceIn g s (it .stamp) ≡ passedBy g q (it .stamp)
+  distance-is =
+      sym (distance-held g s (q .items) (it .stamp) (λ m l. rw (stack-below g (a .kind) (s .second m)) (omega arith)) (a .inv .pool .holding .held))
+
+  -- ---- the step
+  apply-removed : applyIn g s i (removedOf (viewIn s i) (sub32 r 1) (add32 (s .second j) 1) r) ≡ next (takenIn g s j r) t
+  unfolding applyIn applyInBy
+  apply-removed =
+      let o = a .inv .pool in
+      let held-is : sub32 r 1 ≡ r - 1 = sub32-is r 1 there (omega (arith, held-le o j j-lt, a .good .bounds .rows1024)) in
+      let version-is : add32 (s .second j) 1 ≡ suc (s .second j) = add32-suc (s .second j) (omega (arith, version-few o j j-lt)) in
+      rw (held-is, version-is) refl
+
+  pub take-lands : On a (removedOf (viewIn s i) (sub32 r 1) (add32 (s .second j) 1) r)
+  take-lands =
+      rw apply-removed
+      (commits a Taking seen e live (s .puts) (s .item) (takenOff g q (found .out)) (omega arith) stamps pairs holding
+      (takenIn g s j r) (final-taken _ _ _ _ _)
+      (gives-taken g q it j (record { 0 = r }) (distanceIn g s (it .stamp)) found distance-is
+      (le-trans (take-newer (a .good) (a .kind) (a .inv) i j-lt seen e live) (newer-most g (a .kind)))))

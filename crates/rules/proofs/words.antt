@@ -1,0 +1,10 @@
+-- The words follow the machine.
+pub mod Lists
+pub mod Writes
+pub mod Says
+pub mod Places
+pub mod Fit
+pub mod After
+pub mod Landed
+pub mod Follows
+pub mod Made

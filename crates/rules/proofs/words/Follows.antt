@@ -1,0 +1,196 @@
+-- The words follow the machine: where they say its state, a call answers what the machine answers, and the words that it
+-- leaves say the machine's next state. Both go by the same rule of the same view, so only the view and the stores matter.
+use mathlib.Core.Path.{_≡_, refl, sym, ap, _∙_}
+use mathlib.Core.Logic.{_≢_, _⊎_, inl, inr}
+use mathlib.Core.Bool.{Bool, true, false}
+use mathlib.Core.List.{List}
+use Prim.Native.Nat.{ℕ, _+_, _≤_, _<_}
+use native.Mathlib.Decide.{ℕ-discrete, decLe}
+use native.Mathlib.Omega.{arith}
+use lib.ListN.{getD}
+use lib.Dec.{leb, eqb}
+use borrow.Author.Tests.{leb-false}
+use Rattle.laws.specs.Choice.{cond}
+use Rattle.rules.specs.Answers.{Out, refuse}
+use Rattle.rules.specs.Limits.{settingsFit, Bounds}
+use Rattle.rules.specs.Layout.{subAt, workerAt, cellAt, settingsOf}
+use Rattle.rules.specs.Worker.{slotAt, putSlot, fresh}
+use Rattle.rules.specs.Held.{Item, itemAt, distanceOf}
+use Rattle.rules.specs.Fit.{checkedOf}
+use Rattle.rules.specs.Effects.{viewOf}
+use Rattle.rules.specs.Apply.{takenOf, applyBy, applyOf}
+use Rattle.rules.specs.Begin.{slotBegin, fitBegin, checkedBegin, beginOf}
+use Rattle.rules.specs.Step.{ruleOf, slotStep, fitStep, checkedStep, stepOf}
+use Rattle.rules.specs.Run.{Call, beginPut, beginTake, step, callOf}
+use Rattle.rules.proofs.Types.{Settings, Side, Putting, Taking, Window, Slot, Effect, Outcome}
+use Rattle.rules.specs.declared.Outcome.the-variants.{Refused, Moving, Landed, Removed, Empty, Full}
+use Rattle.rules.specs.declared.Checked.the-variants.{Fit}
+use Rattle.rules.specs.declared.Answer.the-variants.{Moving as Moves, Taken, Refused as NotDone}
+use Rattle.rules.proofs.counts.Sums.{upd-same, upd-other}
+use Rattle.rules.proofs.order.Law.{Next}
+use Rattle.rules.proofs.Fitness.{settings-bounds}
+use Rattle.rules.proofs.Cells.{held-fits}
+use Rattle.rules.proofs.machine.Machine.{State, next, subIn, viewIn, belowIn, takenIn, applyIn, applyInBy, stepIn, withSlot, beginIn, nextIn}
+use Rattle.rules.proofs.machine.Turns.{Common, Counts}
+use Rattle.rules.proofs.machine.Subs.{SubAfter, rule-sub}
+use Rattle.rules.proofs.words.Says.{Says, distance-same}
+use Rattle.rules.proofs.words.Writes.{slot-length, slot-off, slot-on, slot-kept}
+use Rattle.rules.proofs.words.Fit.{checked-fit}
+use Rattle.rules.proofs.words.After.{after-says, keeps-cells}
+use Rattle.rules.proofs.words.Landed.{landed-says, landed-cells}
+
+pub record Follows (g : Settings) (o : Out) (n : Next State) : Type 0 where
+  pub answer : o .answer ≡ n .answer
+  pub says : Says g (o .words) (n .state)
+
+-- by a test that both make
+either : (g : Settings) {x y : Out} {x′ y′ : Next State} (b : Bool) → (b ≡ true → Follows g x x′) → (b ≡ false → Follows g y y′)
+    → Follows g (cond b x y) (cond b x′ y′)
+unfolding cond
+either g true f h = f refl
+either g false f h = h refl
+
+module _ (g : Settings) (limits : settingsFit g ≡ true) (ws : List ℕ) (s : State) (says : Says g ws s) (common : Common g s) (counts : Counts g s) where
+  bounds : Bounds g
+  bounds = settings-bounds g limits
+
+  refuses : (n : ℕ) → Follows g (refuse n ws) (next (NotDone n) s)
+  refuses n = record { answer = refl; says = says }
+
+  order : (j : ℕ) → j < g .width → belowIn g s j ≤ s .first j
+  order j l = held-fits g (s .first j) (s .second j) (counts .sub j l) .0
+
+  -- ---- a step
+  module _ (i : ℕ) (li : i < g .workers) where
+    lj : subIn s i < g .width
+    lj = common .slots i .index
+
+    -- the worker's words, and what it reads
+    index-same : getD ws (workerAt g i + 2) 0 ≡ subIn s i
+    unfolding slotAt
+    index-same = ap (λ (x : Slot). x .index) (says .slot i li)
+
+    number-same : getD ws (workerAt g i) 0 ≡ s .slot i .number
+    unfolding slotAt
+    number-same = ap (λ (x : Slot). x .number) (says .slot i li)
+
+    pub view-same : viewOf ws (workerAt g i) ≡ viewIn s i
+    unfolding viewOf
+    view-same =
+        let a = ap (λ (x : ℕ). getD ws (subAt x) 0) index-same ∙ says .first (subIn s i) lj in
+        let b = ap (λ (x : ℕ). getD ws (subAt x + 1) 0) index-same ∙ says .second (subIn s i) lj in
+        λ u. record { top = says .top u; mark = says .mark u; puts = says .puts u; first = a u; second = b u; slot = says .slot i li u }
+
+    -- ---- an effect, by how it ends
+    module _ (few : s .steps < 4000000000) (e : Effect) where
+      taken-same : (r : ℕ) → belowIn g s (subIn s i) < r → r ≤ s .first (subIn s i) → takenOf ws g (subIn s i) (record { 0 = r }) ≡ takenIn g s (subIn s i) r
+      unfolding takenOf
+      taken-same r a b =
+          ap (λ (x : Item). Taken (x .value) (subIn s i) (record { 0 = r }) (record { 0 = x .stamp }) (distanceOf ws g (x .stamp))) (says .cell (subIn s i) r lj a b)
+          ∙ ap (λ (d : ℕ). Taken (s .item (subIn s i) r .value) (subIn s i) (record { 0 = r }) (record { 0 = s .item (subIn s i) r .stamp }) d)
+          (distance-same g ws s says order (s .item (subIn s i) r .stamp))
+
+      follow-apply : (o : Outcome) → SubAfter g (viewIn s i) e o → Follows g (applyBy ws g (workerAt g i) (subIn s i) e o) (applyInBy g s i e o)
+      unfolding applyBy applyInBy
+      follow-apply (Refused n) h = record { answer = refl; says = says }
+      follow-apply Moving h = record { answer = refl; says = after-says g ws s says i li lj e few (keeps-cells g ws s says i li lj e h) }
+      follow-apply Landed h =
+          record {
+            answer = refl;
+            says =
+                after-says g _ _ (landed-says g ws s says bounds i lj (counts .first-few _ lj) (order _ lj) e h) i li lj e few
+                (landed-cells g ws s says bounds i lj (counts .first-few _ lj) (order _ lj) e h);
+          }
+      follow-apply Removed h =
+          record {
+            answer = taken-same (e .row .0) (h .low) (h .high);
+            says = after-says g ws s says i li lj e few (keeps-cells g ws s says i li lj e (h .keeps));
+          }
+      follow-apply Empty h = record { answer = refl; says = after-says g ws s says i li lj e few (keeps-cells g ws s says i li lj e h) }
+      follow-apply Full h = record { answer = refl; says = after-says g ws s says i li lj e few (keeps-cells g ws s says i li lj e h) }
+
+    follow-rule : s .steps < 4000000000
+        → Follows g (applyOf ws g (workerAt g i) (getD ws (workerAt g i + 2) 0) (ruleOf g (viewOf ws (workerAt g i)))) (applyIn g s i (ruleOf g (viewIn s i)))
+    unfolding applyOf applyIn
+    follow-rule few =
+        rw (view-same, index-same)
+        (follow-apply few (ruleOf g (viewIn s i)) (ruleOf g (viewIn s i) .outcome)
+        (rule-sub g bounds (viewIn s i) (counts .sub _ lj) (counts .first-few _ lj) (counts .second-few _ lj)))
+
+    follow-step : Follows g (slotStep ws g (workerAt g i))
+        (cond (eqb (s .slot i .number) 0) (next (NotDone 26) s)
+        (cond (leb 4000000000 (s .steps)) (next (NotDone 27) s) (applyIn g s i (ruleOf g (viewIn s i)))))
+    unfolding slotStep
+    follow-step =
+        rw (number-same, says .steps)
+        (either g (eqb (s .slot i .number) 0) (λ a. refuses 26)
+        (λ a. either g (leb 4000000000 (s .steps)) (λ b. refuses 27) (λ b. follow-rule (leb-false _ _ b))))
+
+    -- ---- a begin
+    begun-says : (x : Slot) → Says g (putSlot ws (workerAt g i) x) (withSlot s i x)
+    begun-says x =
+        let vs = putSlot ws (workerAt g i) x in
+        let at = workerAt g i in
+        let low : (m : ℕ) → m < at → getD vs m 0 ≡ getD ws m 0 = λ m l. slot-off ws at x m (inl l) in
+        let high : (m : ℕ) → at + 8 ≤ m → getD vs m 0 ≡ getD ws m 0 = λ m l. slot-off ws at x m (inr l) in
+        let item : (j r : ℕ) → itemAt vs g j r ≡ itemAt ws g j r =
+        λ j r. let v = high (cellAt g j r) (omega arith) in let t = high (cellAt g j r + 1) (omega arith) in λ u. record { value = v u; stamp = t u } in
+        let settings : settingsOf vs ≡ settingsOf ws =
+        λ u. record {
+          kind = low 0 (omega arith) u;
+          width = low 1 (omega arith) u;
+          depth = low 2 (omega arith) u;
+          shift = low 3 (omega arith) u;
+          rows = low 4 (omega arith) u;
+          workers = low 5 (omega arith) u;
+        } in
+        record {
+          long = rw (slot-length ws at x) (says .long);
+          settings = settings ∙ says .settings;
+          tenth = low 10 (omega arith) ∙ says .tenth;
+          eleventh = low 11 (omega arith) ∙ says .eleventh;
+          steps = low 6 (omega arith) ∙ says .steps;
+          puts = low 7 (omega arith) ∙ says .puts;
+          top = low 8 (omega arith) ∙ says .top;
+          mark = low 9 (omega arith) ∙ says .mark;
+          first = λ k l. low (subAt k) (omega arith) ∙ says .first k l;
+          second = λ k l. low (subAt k + 1) (omega arith) ∙ says .second k l;
+          slot = λ m l. elim (ℕ-discrete m i) [
+            | yes y ↦ rw y (slot-on ws at x (omega (arith, says .long)) ∙ sym (upd-same (s .slot) i x))
+            | no n ↦ slot-kept ws vs (workerAt g m) (λ k a. slot-off ws at x (workerAt g m + k) (side m k a n (decLe m i))) ∙ says .slot m l ∙ sym (upd-other (s .slot) i x m n)
+          ];
+          cell = λ j r l a b. item j r ∙ says .cell j r l a b;
+        }
+      where
+        side : (m k : ℕ) → k < 8 → m ≢ i → Dec (m ≤ i) → (workerAt g m + k < workerAt g i) ⊎ (workerAt g i + 8 ≤ workerAt g m + k)
+        side m k l n (yes a) = inl (omega arith)
+        side m k l n (no a) = inr (omega arith)
+
+    follow-begin : (side : Side) (v : ℕ) → Follows g (slotBegin ws (workerAt g i) side v)
+        (cond (eqb (s .slot i .number) 0)
+        (cond (leb 4000000000 (s .steps)) (next (NotDone 27) s) (next Moves (withSlot s i (fresh v (subIn s i) (Window side)))))
+        (next (NotDone 25) s))
+    unfolding slotBegin
+    follow-begin side v =
+        rw (number-same, says .steps, index-same)
+        (either g (eqb (s .slot i .number) 0)
+        (λ a. either g (leb 4000000000 (s .steps)) (λ b. refuses 27) (λ b. record { answer = refl; says = begun-says _ }))
+        (λ a. refuses 25))
+
+  -- ---- a call
+  checked : checkedOf ws ≡ Fit g
+  checked = checked-fit g limits (bounds .kind1) ws s says common counts
+
+  step-follows : (i : ℕ) → Follows g (stepOf ws i) (stepIn g s i)
+  unfolding stepOf checkedStep fitStep stepIn
+  step-follows i = rw checked (either g (leb (g .workers) i) (λ a. refuses 24) (λ a. follow-step i (leb-false _ _ a)))
+
+  begin-follows : (i : ℕ) (side : Side) (v : ℕ) → Follows g (beginOf ws i side v) (beginIn g s i side v)
+  unfolding beginOf checkedBegin fitBegin beginIn
+  begin-follows i side v = rw checked (either g (leb (g .workers) i) (λ a. refuses 24) (λ a. follow-begin i (leb-false _ _ a) side v))
+
+  pub follows : (c : Call) → Follows g (callOf ws c) (nextIn g s c)
+  unfolding callOf nextIn
+  follows (beginPut i v) = begin-follows i Putting v
+  follows (beginTake i) = begin-follows i Taking 0
+  follows (step i) = step-follows i

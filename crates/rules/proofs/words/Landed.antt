@@ -1,0 +1,109 @@
+-- A put that lands: its cell is free, so the words go on saying the machine's held rows, and the new one.
+use mathlib.Core.Path.{_≡_, sym, _∙_}
+use mathlib.Core.Logic.{_≢_}
+use mathlib.Core.List.{List}
+use Prim.Native.Nat.{ℕ, _+_, _≤_, _<_}
+use native.Mathlib.Decide.{ℕ-discrete}
+use native.Mathlib.Omega.{arith}
+use lib.ListN.{length, getD}
+use Rattle.laws.specs.Wrap.{sub32}
+use Rattle.rules.specs.Limits.{Bounds}
+use Rattle.rules.specs.Layout.{subAt, workerAt, cellsAt, cellAt, settingsOf}
+use Rattle.rules.specs.Held.{Item, itemAt, rowsBelow}
+use Rattle.rules.specs.Apply.{putItem, stampOf}
+use Rattle.rules.proofs.Types.{Settings, Effect}
+use Rattle.rules.proofs.Cells.{rows-pos, cell-lt}
+use Rattle.rules.proofs.counts.Sums.{upd, upd-same, upd-other}
+use Rattle.rules.proofs.counts.Stamps.{item-new, item-old}
+use Rattle.rules.proofs.machine.Machine.{State, subIn, viewIn, belowIn, afterIn, withItem}
+use Rattle.rules.proofs.machine.Subs.{Lands}
+use Rattle.rules.proofs.words.Says.{Says}
+use Rattle.rules.proofs.words.Writes.{slot-kept}
+use Rattle.rules.proofs.words.Places.{place, places-apart, item-length, item-off, item-here, item-there}
+use Rattle.rules.proofs.words.After.{CellsSay}
+
+module _ (g : Settings) (ws : List ℕ) (s : State) (says : Says g ws s) (bounds : Bounds g)
+    (i : ℕ) (lj : subIn s i < g .width) (first-few : s .first (subIn s i) ≤ 4000000000) (order : belowIn g s (subIn s i) ≤ s .first (subIn s i))
+    (e : Effect) (h : Lands g (viewIn s i) e) where
+  abbrev j : ℕ
+  j = subIn s i
+
+  abbrev row : ℕ
+  row = e .row .0
+
+  abbrev new : Item
+  new = record { value = e .value; stamp = e .puts }
+
+  abbrev vs : List ℕ
+  vs = putItem ws g j (e .value) (e .row) (stampOf e)
+
+  abbrev t : State
+  t = withItem s j row new
+
+  -- the words before the cells
+  before : (m : ℕ) → m < cellsAt g → getD vs m 0 ≡ getD ws m 0
+  before m l = item-off ws g j (e .value) (e .row) (stampOf e) m (λ u. omega arith) (λ u. omega arith)
+
+  cell-fits : cellAt g j row + 1 < length ws
+  cell-fits = omega (arith, says .long, cell-lt g j (sub32 row 1) bounds lj)
+
+  -- a held row lies elsewhere, and is not the new one
+  not-new : (k n : ℕ) → n ≤ s .first k → k ≡ j → n ≢ row
+  not-new k n b y u = let b′ : n ≤ s .first j = rw y at b in omega (arith, h .row)
+
+  apart : (k n : ℕ) → k < g .width → belowIn g s k < n → n ≤ s .first k → place g k n ≢ place g j row
+  apart k n l a b =
+      places-apart g j k (belowIn g s j) row n (rows-pos g bounds)
+      (λ y. let a′ : belowIn g s j < n = rw y at a in let b′ : n ≤ s .first j = rw y at b in (a′, omega (arith, h .free), not-new k n b y))
+      (omega (arith, h .row)) (omega (arith, h .row, h .free)) (omega (arith, bounds .rows1024))
+
+  old-cell : CellsSay g vs t
+  old-cell k n l a b =
+      item-there ws g j (e .value) (e .row) (stampOf e) k n (apart k n l a b)
+      ∙ says .cell k n l a b ∙ sym (item-old (s .item) j row new k n (not-new k n b))
+
+  new-cell : itemAt vs g j row ≡ t .item j row
+  new-cell = item-here ws g j (e .value) (e .row) (stampOf e) cell-fits ∙ sym (item-new (s .item) j row new)
+
+  pub landed-says : Says g vs t
+  landed-says =
+      record {
+        long = rw (item-length ws g j (e .value) (e .row) (stampOf e)) (says .long);
+        settings = settings-kept ∙ says .settings;
+        tenth = before 10 (omega arith) ∙ says .tenth;
+        eleventh = before 11 (omega arith) ∙ says .eleventh;
+        steps = before 6 (omega arith) ∙ says .steps;
+        puts = before 7 (omega arith) ∙ says .puts;
+        top = before 8 (omega arith) ∙ says .top;
+        mark = before 9 (omega arith) ∙ says .mark;
+        first = λ k l. before (subAt k) (omega arith) ∙ says .first k l;
+        second = λ k l. before (subAt k + 1) (omega arith) ∙ says .second k l;
+        slot = λ m l. slot-kept ws vs (workerAt g m) (λ k a. before (workerAt g m + k) (omega arith)) ∙ says .slot m l;
+        cell = old-cell;
+      }
+    where
+      settings-kept : settingsOf vs ≡ settingsOf ws
+      settings-kept =
+          λ u. record {
+            kind = before 0 (omega arith) u;
+            width = before 1 (omega arith) u;
+            depth = before 2 (omega arith) u;
+            shift = before 3 (omega arith) u;
+            rows = before 4 (omega arith) u;
+            workers = before 5 (omega arith) u;
+          }
+
+  -- the held rows after it: the new one, and the old ones
+  pub landed-cells : CellsSay g vs (afterIn t i e)
+  landed-cells k r l a b = elim (ℕ-discrete k j) [
+    | yes y ↦
+        let a′ : rowsBelow g (upd (s .second) j (e .second) j) < r = rw y at a in
+        let b′ : r ≤ upd (s .first) j (e .first) j = rw y at b in
+        let a″ : rowsBelow g (e .second) < r = rw (upd-same (s .second) j (e .second)) at a′ in
+        let b″ : r ≤ e .first = rw (upd-same (s .first) j (e .first)) at b′ in
+        elim (ℕ-discrete r row) [
+          | yes u ↦ rw (y, u) new-cell
+          | no n ↦ rw y (old-cell j r lj (omega (arith, h .below)) (omega (arith, h .first, h .row)))
+        ]
+    | no n ↦ old-cell k r l (rw (upd-other (s .second) j (e .second) k n) at a) (rw (upd-other (s .first) j (e .first) k n) at b)
+  ]

@@ -1,0 +1,112 @@
+-- What follows from demand 3, or along with it, of every list of calls from a new pool, as statements.
+use Prim.Native.Nat.{ℕ, _+_, _*_, _^_, _≤_, _<_}
+use mathlib.Core.Path.{_≡_}
+use mathlib.Core.Logic.{_≢_}
+use mathlib.Core.Bool.{Bool}
+use mathlib.Core.List.{List, [], _∷_, _++_, List·Memᴰ}
+use lib.ListN.{getD}
+use lib.Dec.{eqb}
+use Rattle.laws.specs.Choice.{cond}
+use Rattle.rules.specs.Answers.{numberOf}
+use Rattle.rules.specs.Layout.{stepsAt, putsAt, topAt, markAt, firstOf, secondOf, workerAt}
+use Rattle.rules.specs.Worker.{slotAt, phaseOf}
+use Rattle.rules.specs.Effects.{viewOf, putWindow, takeWindow, stackWindow, windowVersion, itemsPut, itemsTaken, itemsHeld, subVersion}
+use Rattle.rules.specs.Held.{Item, heldItems, countItems}
+use Rattle.rules.specs.Make.{makeOf}
+use Rattle.rules.specs.Sequential.{mostPassed}
+use Rattle.rules.specs.Run.{Call, step, callOf, Event, run, at, valueIn, stampIn, distanceIn}
+use Rattle.rules.specs.Statement.{Placement, OneAtATime}
+use Rattle.rules.specs.declared.Settings.{Settings}
+use Rattle.rules.specs.declared.Side.the-variants.{Putting, Taking}
+use Rattle.rules.specs.declared.Phase.{Phase}
+use Rattle.rules.specs.declared.Phase.the-variants.{Idle, Window, QueuePutRead, QueueTakeRead, StackRead, Check, QueueCommit, StackCommit, QueueShift, StackShift, Confirm}
+use Rattle.rules.specs.declared.View.{View}
+use Rattle.rules.specs.declared.Answer.{Answer}
+
+-- the words after a list of calls
+unfoldable pub wordsAfter : List ℕ → List Call → List ℕ
+wordsAfter ws [] = ws
+wordsAfter ws (c ∷ cs) = wordsAfter (callOf ws c .words) cs
+
+-- a claim about the words of a new pool and any list of calls on it
+abbrev pub OfEveryRun : (Settings → List ℕ → List Call → Type 0) → Type 0
+OfEveryRun P =
+    (ws : List ℕ) (g : Settings) (cs : List Call) → numberOf (makeOf ws g .answer) ≡ 0 → P g (makeOf ws g .words) cs
+
+-- ---- no item is lost or invented: what is held and what was taken is what was put
+-- the item of an answer with a given number
+abbrev pub itemIn : ℕ → Answer → List Item
+itemIn n a = cond (eqb (numberOf a) n) (record { value = valueIn a; stamp = stampIn a } ∷ []) []
+
+-- the items of the answers 1, or 2, of a run
+unfoldable pub itemsIn : ℕ → List Event → List Item
+itemsIn n [] = []
+itemsIn n (x ∷ xs) = itemIn n (x .answer) ++ itemsIn n xs
+
+abbrev pub NothingLost : Settings → List ℕ → List Call → Type 0
+NothingLost g ws cs =
+    (p : Item → Bool)
+    → countItems p (heldItems (wordsAfter ws cs) g) + countItems p (itemsIn 2 (run ws cs)) ≡ countItems p (itemsIn 1 (run ws cs))
+
+-- ---- no stamp is handed out twice, neither by a put nor by a take
+abbrev pub hasStamp : ℕ → Item → Bool
+hasStamp stamp x = eqb (x .stamp) stamp
+
+abbrev pub StampsOnce : Settings → List ℕ → List Call → Type 0
+StampsOnce g ws cs =
+    (stamp : ℕ)
+    → (countItems (hasStamp stamp) (itemsIn 1 (run ws cs)) ≤ 1) × (countItems (hasStamp stamp) (itemsIn 2 (run ws cs)) ≤ 1)
+
+-- ---- each distance reported is within the bound
+abbrev pub WithinBound : Settings → List ℕ → List Call → Type 0
+WithinBound g ws cs =
+    (i f : ℕ) → at (run ws cs) f .call ≡ step i → numberOf (at (run ws cs) f .answer) ≡ 2
+    → distanceIn (at (run ws cs) f .answer) ≤ mostPassed g
+
+-- ---- an operation that finished before another began stands before it in the order
+abbrev pub InRealTime : (g : Settings) → (es : List Event) → OneAtATime g es → Type 0
+InRealTime g es r =
+    (x y : Placement) → List·Memᴰ x (r .order) → List·Memᴰ y (r .order) → x .finished < y .begun → x .chosen < y .chosen
+
+-- ---- no sum that a step adds up reaches 2^32, and no difference that it takes, but confirm's, passes below 0
+-- by the rule that a worker in a phase takes next; "next" is an index below w, and a cell's row is at least 1
+abbrev pub NoWrap : Settings → View → Phase → Type 0
+NoWrap g v Idle = Unit {0}
+-- window: nothing is added up
+NoWrap g v (Window side) = Unit {0}
+-- read: what is read joins the sum, and a miss is counted; a queue's take counts a bare sub, a stack's looks above the seen window - d
+NoWrap g v (QueuePutRead window scan) = scan + 1 < 2 ^ 32
+NoWrap g v (QueueTakeRead window bare scan sum) = (sum + itemsPut v < 2 ^ 32) × (bare + 1 < 2 ^ 32) × (scan + 1 < 2 ^ 32)
+NoWrap g v (StackRead side window version scan sum) = (sum + subVersion v < 2 ^ 32) × (scan + 1 < 2 ^ 32) × (g .depth ≤ window)
+-- check: nothing is added up
+NoWrap g v (Check side version seen) = Unit {0}
+-- commit: the counts change by one, and a put's stamp is the next; a queue's put looks at put - taken, a stack's take leaves held - 1
+NoWrap g v (QueueCommit Putting seen) = (itemsTaken v ≤ itemsPut v) × (itemsPut v + 1 < 2 ^ 32) × (v .puts + 1 < 2 ^ 32)
+NoWrap g v (QueueCommit Taking seen) = itemsTaken v + 1 < 2 ^ 32
+NoWrap g v (StackCommit Putting seen) = (itemsHeld v + 1 < 2 ^ 32) × (subVersion v + 1 < 2 ^ 32) × (v .puts + 1 < 2 ^ 32)
+NoWrap g v (StackCommit Taking seen) = (subVersion v ≡ seen .0 → 1 ≤ itemsHeld v) × (subVersion v + 1 < 2 ^ 32)
+-- shift: a queue's put looks at P + 2d - T; P and T grow by d; G grows or falls by s, and its version grows
+NoWrap g v (QueueShift Putting window) = (putWindow v + 2 * g .depth < 2 ^ 32) × (takeWindow v ≤ putWindow v + 2 * g .depth)
+NoWrap g v (QueueShift Taking window) = takeWindow v + g .depth < 2 ^ 32
+NoWrap g v (StackShift Putting version scan sum) = (stackWindow v + g .shift < 2 ^ 32) × (windowVersion v + 1 < 2 ^ 32)
+NoWrap g v (StackShift Taking version scan sum) = (g .shift ≤ stackWindow v) × (windowVersion v + 1 < 2 ^ 32)
+-- confirm: a sub is counted; what is left of the sum may pass below 0
+NoWrap g v (Confirm side scan sum) = scan + 1 < 2 ^ 32
+
+pub record NoSumWraps (g : Settings) (ws : List ℕ) : Type 0 where
+  -- every step not refused is counted
+  pub steps : getD ws stepsAt 0 + 1 < 2 ^ 32
+  -- puts made, and each count or version of a sub, whoever is at it
+  pub puts : getD ws putsAt 0 + 1 < 2 ^ 32
+  pub first : (j : ℕ) → j < g .width → firstOf ws j + 1 < 2 ^ 32
+  pub second : (j : ℕ) → j < g .width → secondOf ws j + 1 < 2 ^ 32
+  -- P or G, and T or G's version
+  pub top : getD ws topAt 0 + 2 * g .depth < 2 ^ 32
+  pub mark : getD ws markAt 0 + g .depth < 2 ^ 32
+  -- what each worker's next step adds up or takes away
+  pub rule : (i : ℕ) → i < g .workers → NoWrap g (viewOf ws (workerAt g i)) (phaseOf (g .kind) (slotAt ws (workerAt g i)))
+
+-- ---- no call finds the pool unfit, and no commit that matches is refused
+abbrev pub NeverUnfit : Settings → List ℕ → List Call → Type 0
+NeverUnfit g ws cs =
+    (f : ℕ) → (numberOf (at (run ws cs) f .answer) ≢ 21) × (numberOf (at (run ws cs) f .answer) ≢ 23)

@@ -1,0 +1,111 @@
+-- "The one-at-a-time list": the sequential specification. It is fed the finished operations in order, and nothing of the pool's words.
+use Prim.Native.Nat.{ℕ, _+_, _-_, _*_}
+use mathlib.Core.Bool.{Bool}
+use mathlib.Core.List.{List, [], _∷_}
+use mathlib.Core.Option.{Option, none, some}
+use lib.ListN.{length}
+use lib.Dec.{leb, eqb}
+use Rattle.laws.specs.Choice.{cond}
+use Rattle.rules.specs.Held.{Item, countItems, passedOver}
+use Rattle.rules.specs.declared.Settings.{Settings}
+
+-- what an operation is begun as: a put of a value, or a take
+pub data Operation : Type 0 where
+  putting : ℕ → Operation
+  taking : Operation
+
+-- items, each a value and a stamp, and the puts counted
+pub record Contents : Type 0 where
+  pub items : List Item
+  pub count : ℕ
+
+-- at first it has no items and the count is 0
+abbrev pub noItems : Contents
+noItems = record { items = []; count = 0 }
+
+-- it is fed put or take, the value begun, the answer's number and, for a 2, the answer's stamp
+pub record Fed : Type 0 where
+  pub operation : Operation
+  pub number : ℕ
+  pub stamp : ℕ
+
+-- what it gives, and what it holds afterwards
+pub record Given : Type 0 where
+  pub next : Contents
+  pub value : ℕ
+  pub stamp : ℕ
+  pub distance : ℕ
+
+-- ---- demand 3's numbers
+-- the most items that a take may pass over: older ones in a queue, newer ones in a stack
+unfoldable pub mostPassed : Settings → ℕ
+mostPassed g =
+    cond (eqb (g .kind) 0) ((g .width - 1) * g .depth) ((g .width - 1) * (2 * g .depth + 2 * g .shift))
+
+-- the least items held where a put is answered "full"
+unfoldable pub leastFull : Settings → ℕ
+leastFull g = cond (eqb (g .kind) 0) (g .width * (g .rows - g .depth)) (g .width * (g .rows - g .shift + 1))
+
+-- ---- what it allows and gives
+-- given only where the test holds
+abbrev pub allowed : Bool → Given → Option Given
+allowed b x = cond b (some x) none
+
+-- both give zeros and change nothing
+abbrev pub unchanged : Contents → Given
+unchanged q = record { next = q; value = 0; stamp = 0; distance = 0 }
+
+-- 1: the count grows by 1; the value begun joins with the count as its stamp, distance 0
+abbrev pub joined : Contents → ℕ → Given
+joined q v =
+    record {
+      next = record { items = record { value = v; stamp = q .count + 1 } ∷ q .items; count = q .count + 1 };
+      value = v;
+      stamp = q .count + 1;
+      distance = 0;
+    }
+
+-- the item with a stamp, and the others
+pub record Found : Type 0 where
+  pub item : Item
+  pub others : List Item
+
+abbrev pub keeping : Item → Option Found → Option Found
+keeping x none = none
+keeping x (some f) = some (record { item = f .item; others = x ∷ f .others })
+
+unfoldable pub find : ℕ → List Item → Option Found
+find stamp [] = none
+find stamp (x ∷ xs) = cond (eqb (x .stamp) stamp) (some (record { item = x; others = xs })) (keeping x (find stamp xs))
+
+-- the items with a smaller stamp (queue) or a greater one (stack)
+abbrev pub passedBy : Settings → Contents → ℕ → ℕ
+passedBy g q stamp = countItems (passedOver (g .kind) stamp) (q .items)
+
+-- 2: its value and stamp, and the items passed over just before; it leaves
+abbrev pub without : Settings → Contents → Found → Given
+without g q f =
+    record {
+      next = record { items = f .others; count = q .count };
+      value = f .item .value;
+      stamp = f .item .stamp;
+      distance = passedBy g q (f .item .stamp);
+    }
+
+-- an item with the fed stamp must be there, with no more passed over than demand 3 allows
+unfoldable pub leaving : Settings → Contents → Option Found → Option Given
+leaving g q none = none
+leaving g q (some f) = allowed (leb (passedBy g q (f .item .stamp)) (mostPassed g)) (without g q f)
+
+-- a put may answer 1, or 4 where at least demand 3's number of items is there;
+-- a take may answer 2, or 3 where no item is there
+unfoldable pub giveBy : Settings → Contents → ℕ → ℕ → Operation → Option Given
+giveBy g q number stamp (putting v) =
+    cond (eqb number 1) (some (joined q v))
+    (cond (eqb number 4) (allowed (leb (leastFull g) (length (q .items))) (unchanged q)) none)
+giveBy g q number stamp taking =
+    cond (eqb number 2) (leaving g q (find stamp (q .items)))
+    (cond (eqb number 3) (allowed (eqb (length (q .items)) 0) (unchanged q)) none)
+
+abbrev pub give : Settings → Contents → Fed → Option Given
+give g q f = giveBy g q (f .number) (f .stamp) (f .operation)

@@ -1,0 +1,26 @@
+-- "Words beyond the needed ones are never touched", of every call on any words.
+use Prim.Native.Nat.{ℕ, _≤_}
+use mathlib.Core.Path.{_≡_}
+use mathlib.Core.List.{List}
+use lib.ListN.{getD, length}
+use Rattle.rules.specs.Answers.{Out}
+use Rattle.rules.specs.Layout.{needed, settingsOf}
+use Rattle.rules.specs.Make.{makeOf}
+use Rattle.rules.specs.Begin.{beginOf}
+use Rattle.rules.specs.Step.{stepOf}
+use Rattle.rules.specs.declared.Settings.{Settings}
+use Rattle.rules.specs.declared.Side.{Side}
+
+-- as many words as before, and those from `n` on as they were
+pub record Beyond (n : ℕ) (before after : List ℕ) : Type 0 where
+  pub length-same : length after ≡ length before
+  pub same : (k : ℕ) → n ≤ k → getD after k 0 ≡ getD before k 0
+
+abbrev pub MakeKeeps : Type 0
+MakeKeeps = (ws : List ℕ) (g : Settings) → Beyond (needed g) ws (makeOf ws g .words)
+
+abbrev pub BeginKeeps : Type 0
+BeginKeeps = (ws : List ℕ) (i : ℕ) (side : Side) (value : ℕ) → Beyond (needed (settingsOf ws)) ws (beginOf ws i side value .words)
+
+abbrev pub StepKeeps : Type 0
+StepKeeps = (ws : List ℕ) (i : ℕ) → Beyond (needed (settingsOf ws)) ws (stepOf ws i .words)

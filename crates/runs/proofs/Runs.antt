@@ -1,0 +1,73 @@
+-- Every row of both tables holds: the rules are run, and each line compared with the row's. That a row's `made` is make's number
+-- whatever the lent words hold is `make-number`: it depends on the settings and on how many words are lent alone, so the large
+-- settings are judged by their size.
+use Prim.Native.Nat.{ℕ}
+use mathlib.Core.List.{List}
+use mathlib.Core.Path.{_≡_, refl}
+use mathlib.Core.Bool.{Bool, true, false}
+use lib.ListN.{length}
+use lib.Dec.{ltb}
+use Rattle.laws.specs.Choice.{cond, allBelow}
+use Rattle.rules.specs.Answers.{numberOf, out, refuse}
+use Rattle.rules.specs.Layout.{needed}
+use Rattle.rules.specs.Limits.{settingsFit}
+use Rattle.rules.specs.Worker.{slotAt, putSlot, queuePhase, stackPhase, phaseOf, decode, encode, encodePhase}
+use Rattle.rules.specs.Fit.{headFit, subFit, subsFit, phaseFit, wordFit, workersFit, bodyChecked, checkedOf}
+use Rattle.rules.specs.Make.{zeroed, indexed, madeWords, makeOf}
+use Rattle.rules.specs.Begin.{slotBegin, fitBegin, checkedBegin, beginOf}
+use Rattle.rules.specs.Effects.{viewOf, nextOf}
+use Rattle.rules.specs.Window.{windowRule}
+use Rattle.rules.specs.Read.{missOf, queuePutRead, queueTakeRead, stackRead}
+use Rattle.rules.specs.Check.{checkRule}
+use Rattle.rules.specs.Commit.{commitBy, queueCommit, stackCommit}
+use Rattle.rules.specs.Shift.{shiftBy, queueShift, stackShift}
+use Rattle.rules.specs.Confirm.{confirmedOf, confirmRule}
+use Rattle.rules.specs.Held.{itemsAbove, heldSub, heldBelow, countItems, distanceOf}
+use Rattle.rules.specs.Apply.{putItem, putView, takenOf, applyBy, applyOf}
+use Rattle.rules.specs.Step.{ruleBy, ruleOf, slotStep, fitStep, checkedStep, stepOf}
+use Rattle.rules.specs.Sequential.{mostPassed, leastFull}
+use Rattle.rules.specs.Run.{callOf, run}
+use Rattle.rules.specs.declared.Settings.{Settings}
+use Rattle.rules.specs.declared.Answer.the-variants.{Moving}
+use Rattle.runs.specs.Rows.{makeNumber, linesOf, runOf, AllHold, end, _also_}
+use Rattle.runs.specs.Notation.{queue, stack}
+use Rattle.runs.specs.Table.{table}
+use Rattle.runs.specs.Extremes.{extremes}
+
+pub make-number : (ws : List ℕ) (g : Settings) → numberOf (makeOf ws g .answer) ≡ makeNumber g (length ws)
+unfolding makeOf makeNumber cond
+make-number ws g = go (settingsFit g) (ltb (length ws) (needed g))
+  where
+    go : (a b : Bool) → numberOf ((cond a (cond b (refuse 21 ws) (out Moving (madeWords ws g))) (refuse 22 ws)) .answer) ≡ cond a (cond b 21 0) 22
+    go true true = refl
+    go true false = refl
+    go false b = refl
+
+pub runs-hold : AllHold table × AllHold extremes
+unfolding table extremes runOf linesOf makeNumber settingsFit run callOf cond allBelow slotAt putSlot queuePhase stackPhase phaseOf decode encode encodePhase headFit subFit subsFit phaseFit wordFit workersFit bodyChecked checkedOf zeroed indexed madeWords makeOf slotBegin fitBegin checkedBegin beginOf viewOf nextOf windowRule missOf queuePutRead queueTakeRead stackRead checkRule commitBy queueCommit stackCommit shiftBy queueShift stackShift confirmedOf confirmRule itemsAbove heldSub heldBelow countItems distanceOf putItem putView takenOf applyBy applyOf ruleBy ruleOf slotStep fitStep checkedStep stepOf
+runs-hold = (
+  record { made = refl; lines = refl }
+      also record { made = refl; lines = refl }
+      also record { made = refl; lines = refl }
+      also record { made = refl; lines = refl }
+      also record { made = refl; lines = refl }
+      also record { made = refl; lines = refl }
+      also record { made = refl; lines = refl }
+      also record { made = refl; lines = refl }
+      also record { made = refl; lines = refl }
+      also record { made = refl; lines = refl }
+      also record { made = refl; lines = refl }
+      also record { made = refl; lines = refl }
+      also end,
+  record { made = refl; lines = refl }
+      also record { made = refl; lines = refl }
+      also record { made = refl; lines = refl }
+      also record { made = refl; lines = refl }
+      also record { made = refl; lines = refl }
+      also end,
+)
+
+-- which are demand 3's numbers for the queue's take and for both fulls
+pub numbers-reached : (mostPassed (queue 3 2 4 3) ≡ 4) × (leastFull (queue 2 1 2 1) ≡ 2) × (leastFull (stack 2 2 2 5 1) ≡ 8)
+unfolding mostPassed leastFull cond
+numbers-reached = (refl, refl, refl)

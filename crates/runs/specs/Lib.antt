@@ -1,0 +1,4 @@
+pub mod Rows
+pub mod Notation
+pub mod Table
+pub mod Extremes

@@ -1,0 +1,81 @@
+/*
+ * The windowed pool: a queue (paper 01's line) or a stack (its pile) spread over several subs, in words that the caller lends.
+ *
+ * Each call works on the `len` 32-bit words at `words`, whatever they hold, and keeps nothing of its own. It returns the
+ * answer's number and writes the answer's five fields. A refusal (21 or more) leaves all lent words unchanged.
+ *
+ *   0   moving, made or begun
+ *   1   put: the value, the sub and row that it lies in, its stamp
+ *   2   taken: the value, its sub, row and stamp, and the distance
+ *   3   empty: a take that found no item
+ *   4   full: a put that found no room
+ *   21  fewer words than the pool needs, or fewer than 12
+ *   22  pool_make: a setting off limits
+ *   23  the words are not a fit pool; or a commit that matches finds no free cell or no item
+ *   24  the worker's number is not below the number of workers
+ *   25  begin: the worker is busy
+ *   26  step: the worker is idle
+ *   27  begin or step: the step count is 4,000,000,000 or more
+ *
+ * Nothing here locks: one call at a time on the same words.
+ */
+#ifndef POOL_H
+#define POOL_H
+
+#include <stddef.h>
+#include <stdint.h>
+
+#ifdef __cplusplus
+extern "C" {
+#endif
+
+#define POOL_QUEUE 0u
+#define POOL_STACK 1u
+
+/* The answers' numbers. */
+#define POOL_MOVING 0u
+#define POOL_PUT 1u
+#define POOL_TAKEN 2u
+#define POOL_EMPTY 3u
+#define POOL_FULL 4u
+#define POOL_TOO_FEW_WORDS 21u
+#define POOL_OFF_LIMITS 22u
+#define POOL_NOT_FIT 23u
+#define POOL_NO_SUCH_WORKER 24u
+#define POOL_BUSY 25u
+#define POOL_IDLE 26u
+#define POOL_STEPS_SPENT 27u
+
+/* The fields, by their place; each is 0 unless the answer names it. */
+#define POOL_VALUE 0     /* the value put or taken */
+#define POOL_SUB 1       /* the sub that it lies or lay in, from 0 */
+#define POOL_ROW 2       /* its row there, from 1 */
+#define POOL_STAMP 3     /* the number of its put, from 1 */
+#define POOL_DISTANCE 4  /* 2 only: held items that the take passed over, older (queue) or newer (stack) */
+#define POOL_FIELDS 5
+
+/* How many words a pool needs. */
+#define POOL_WORDS(width, rows, workers) (12u + 2u * (width) + 8u * (workers) + 2u * (width) * (rows))
+
+/*
+ * Makes a new pool in the lent words. Limits: kind 0 or 1, width 1 to 16, depth 1 to 64, shift 1 to depth (a queue has
+ * shift = depth), rows from 2 * depth to 1,024 (in a queue a multiple of depth), workers 1 to 32, width * rows at most 4,096.
+ * Words beyond the needed ones are not touched, by this call or any other.
+ */
+uint32_t pool_make(uint32_t *words, size_t len, uint32_t kind, uint32_t width, uint32_t depth, uint32_t shift, uint32_t rows,
+                   uint32_t workers, uint32_t fields[POOL_FIELDS]);
+
+/* Begins a put of a value by an idle worker; pool_step then carries it on. */
+uint32_t pool_begin_put(uint32_t *words, size_t len, uint32_t worker, uint32_t value, uint32_t fields[POOL_FIELDS]);
+
+/* Begins a take by an idle worker. */
+uint32_t pool_begin_take(uint32_t *words, size_t len, uint32_t worker, uint32_t fields[POOL_FIELDS]);
+
+/* One step of a busy worker; an answer 1 to 4 ends its operation. */
+uint32_t pool_step(uint32_t *words, size_t len, uint32_t worker, uint32_t fields[POOL_FIELDS]);
+
+#ifdef __cplusplus
+}
+#endif
+
+#endif

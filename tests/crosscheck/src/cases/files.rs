@@ -1,0 +1,129 @@
+//! Run files: the program `lister` beside the second implementation's lister,
+//! byte for byte.
+
+use crate::failure::Failure;
+use crate::make_up::run_file;
+use crate::make_up::schedule::{Numbers, Schedule};
+use crate::make_up::settings::{any, within, Size};
+use crate::rng::Rng;
+use sides::{Call, SECOND};
+use std::fs::{self, File};
+use std::path::{Path, PathBuf};
+use std::process::{self, Command};
+
+/// Files this small are cut at every byte.
+const SMALL_BYTES: usize = 120;
+
+/// The program, and the file that stands before it as its standard input.
+pub struct Lister {
+    program: PathBuf,
+    input: PathBuf,
+    pub files: u64,
+}
+
+impl Lister {
+    pub fn new(program: PathBuf) -> Lister {
+        let name = format!("crosscheck-{}.run", process::id());
+        Lister {
+            program,
+            input: std::env::temp_dir().join(name),
+            files: 0,
+        }
+    }
+
+    /// A random run file whole, damaged, cut and with bytes after its end.
+    pub fn run(&mut self, rng: &mut Rng) -> Result<(), Failure> {
+        let file = random_file(rng);
+        self.compare(&file)?;
+        for _ in 0..6 {
+            self.compare(&run_file::one_bit_damaged(rng, &file))?;
+            self.compare(&run_file::random(rng, &file))?;
+        }
+        self.compare(&run_file::with_bytes_after(rng, &file))?;
+        if file.len() <= SMALL_BYTES {
+            for len in 0..file.len() {
+                self.compare(&file[..len])?;
+            }
+        } else {
+            for _ in 0..4 {
+                let len = rng.below(file.len() as u32) as usize;
+                self.compare(&file[..len])?;
+            }
+        }
+        fs::remove_file(&self.input).map_err(|error| self.trouble(&error.to_string()))
+    }
+
+    fn compare(&mut self, file: &[u8]) -> Result<(), Failure> {
+        self.files += 1;
+        let mut ours = Vec::new();
+        second::list(file, &mut ours).map_err(|error| self.trouble(&error.to_string()))?;
+        fs::write(&self.input, file).map_err(|error| self.trouble(&error.to_string()))?;
+        let input = File::open(&self.input).map_err(|error| self.trouble(&error.to_string()))?;
+        let output = Command::new(&self.program)
+            .stdin(input)
+            .output()
+            .map_err(|error| self.trouble(&error.to_string()))?;
+        // A status of None is a death by signal; the paper has no statuses.
+        if output.status.code().is_none() || output.stdout != ours {
+            let status = output.status;
+            return Err(self.different(file, &ours, &output.stdout, &status.to_string()));
+        }
+        Ok(())
+    }
+
+    fn trouble(&self, what: &str) -> Failure {
+        Failure::Said(format!("run file for {}: {what}", self.program.display()))
+    }
+
+    /// The file stays where it is, for a look.
+    fn different(&self, file: &[u8], ours: &[u8], theirs: &[u8], status: &str) -> Failure {
+        Failure::Said(format!(
+            "listings of a run file of {} bytes differ; it stays at {}\n  second:\n{}  {} ({status}):\n{}",
+            file.len(),
+            shown(&self.input),
+            String::from_utf8_lossy(ours),
+            shown(&self.program),
+            String::from_utf8_lossy(theirs),
+        ))
+    }
+}
+
+fn shown(path: &Path) -> String {
+    path.display().to_string()
+}
+
+fn random_file(rng: &mut Rng) -> Vec<u8> {
+    if rng.chance(10) {
+        return run_file::encode(&of_run_file(rng), &[]);
+    }
+    let (size, calls) = match rng.below(20) {
+        0 => (Size::Large, rng.between(1_000, 20_000)),
+        1..=6 => (Size::Medium, rng.between(50, 2_000)),
+        7..=12 => (Size::Small, rng.between(30, 400)),
+        _ => (Size::Small, rng.between(1, 27)),
+    };
+    let settings = within(rng, size);
+    let mut words = vec![0; settings.needed_words()];
+    SECOND.call(&mut words, Call::Make(settings));
+    let mut schedule = Schedule::new(rng, settings, Numbers::OfRunFile);
+    let mut run = Vec::new();
+    for _ in 0..calls {
+        let call = schedule.next(rng, &words);
+        SECOND.call(&mut words, call);
+        run.push(call);
+    }
+    run_file::encode(&settings, &run)
+}
+
+/// Settings that a header can hold, within limits or off.
+fn of_run_file(rng: &mut Rng) -> second::Settings {
+    let settings = any(rng);
+    second::Settings {
+        kind: settings.kind % 2,
+        width: settings.width % 32,
+        depth: settings.depth % 128,
+        shift: settings.shift % 128,
+        rows: settings.rows % 2048,
+        workers: settings.workers % 64,
+    }
+}

@@ -1,0 +1,35 @@
+//! A few calls on an image that need not come from make.
+
+use crate::failure::Failure;
+use crate::make_up::{image, junk};
+use crate::rng::Rng;
+use crate::side_by_side::{Checks, SideBySide};
+use second::layout;
+use sides::Call;
+
+pub fn run(rng: &mut Rng, checks: &mut Checks) -> Result<(), Failure> {
+    let words = match rng.below(10) {
+        0 => image::random(rng),
+        1 => image::short(rng),
+        2 | 3 => image::damaged(rng),
+        _ => image::fit(rng),
+    };
+    let workers = words.get(layout::WORKERS).copied().unwrap_or(1);
+    let mut pools = SideBySide::new(&words, checks);
+    let mut worker = junk::worker(rng, workers);
+    for _ in 0..rng.between(1, 16) {
+        if rng.chance(40) {
+            worker = junk::worker(rng, workers);
+        }
+        let call = match rng.below(10) {
+            0 => Call::BeginPut {
+                worker,
+                value: junk::word(rng),
+            },
+            1 => Call::BeginTake { worker },
+            _ => Call::Step { worker },
+        };
+        pools.call(call, checks)?;
+    }
+    Ok(())
+}

@@ -1,0 +1,41 @@
+//! Make on settings within, at and off limits, in words that hold junk, fewer
+//! than needed or more.
+
+use crate::failure::Failure;
+use crate::make_up::{junk, settings};
+use crate::rng::Rng;
+use crate::side_by_side::{Checks, SideBySide};
+use second::Settings;
+use sides::Call;
+
+pub fn run(rng: &mut Rng, checks: &mut Checks) -> Result<(), Failure> {
+    let settings = settings::any(rng);
+    let len = length(rng, &settings);
+    let words = junk::words(rng, len);
+    let mut pools = SideBySide::new(&words, checks);
+    pools.call(Call::Make(settings), checks)?;
+    for _ in 0..rng.below(4) {
+        let worker = junk::worker(rng, settings.workers);
+        let value = junk::word(rng);
+        pools.call(Call::BeginPut { worker, value }, checks)?;
+        pools.call(Call::Step { worker }, checks)?;
+    }
+    Ok(())
+}
+
+/// Around the needed words, around 12, or any; off limits, where no number of
+/// words is needed, enough for any pool or few.
+fn length(rng: &mut Rng, settings: &Settings) -> usize {
+    let needed = if settings.within_limits() {
+        settings.needed_words()
+    } else {
+        rng.pick(&[100, 8492])
+    };
+    match rng.below(6) {
+        0 => rng.below(14) as usize,
+        1 => rng.below(needed as u32) as usize,
+        2 => needed - 1,
+        3 => needed,
+        _ => needed + rng.below(6) as usize,
+    }
+}

@@ -1,0 +1,6 @@
+//! The sorts of cases.
+
+pub mod files;
+pub mod images;
+pub mod makes;
+pub mod runs;

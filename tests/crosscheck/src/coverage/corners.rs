@@ -1,0 +1,111 @@
+//! Corners that only images reach: where a sum or a difference of a step
+//! passes 2^32 or 0, and where two readings of the paper would part.
+
+use super::Seen;
+use second::phase::{self, Side, Stage};
+use second::{layout, PUT, QUEUE, TAKEN};
+
+type Corner = (&'static str, fn(&Seen) -> bool);
+
+const CORNERS: [Corner; 10] = [
+    ("a put into row 0", |seen| {
+        seen.answer.number == PUT && seen.answer.row == 0
+    }),
+    ("a put with stamp 0", |seen| {
+        seen.answer.number == PUT && seen.answer.stamp == 0
+    }),
+    ("a queue take's extra wraps to 0", |seen| {
+        is_at(seen, QUEUE, Side::Take, Stage::Read)
+            && seen.worker[layout::EXTRA] == u32::MAX
+            && bare(seen)
+    }),
+    ("a stack take's seen window below d", |seen| {
+        !is_queue(seen)
+            && stage(seen) == Some((Side::Take, Stage::Read))
+            && seen.worker[layout::SEEN_WINDOW] < seen.settings.depth
+    }),
+    ("P below T moves up", |seen| {
+        is_at(seen, QUEUE, Side::Put, Stage::Shift)
+            && seen.before[layout::PUT_WINDOW] < seen.before[layout::TAKE_WINDOW]
+            && moved(seen)
+    }),
+    ("P wraps", |seen| {
+        is_at(seen, QUEUE, Side::Put, Stage::Shift)
+            && seen.after[layout::PUT_WINDOW] < seen.before[layout::PUT_WINDOW]
+    }),
+    ("G wraps", |seen| {
+        !is_queue(seen)
+            && stage(seen) == Some((Side::Put, Stage::Shift))
+            && seen.after[layout::WINDOW] < seen.before[layout::WINDOW]
+    }),
+    ("the window's version wraps", |seen| {
+        !is_queue(seen) && moved(seen) && seen.after[layout::WINDOW_VERSION] == 0
+    }),
+    ("confirm passes below 0", |seen| {
+        matches!(stage(seen), Some((_, Stage::Confirm)))
+            && seen.worker[layout::SUM] < sub(seen)[usize::from(!is_queue(seen))]
+    }),
+    ("a taken stamp stands in two cells", |seen| {
+        seen.answer.number == TAKEN && in_two_cells(seen)
+    }),
+];
+
+#[derive(Default)]
+pub struct Corners([u64; CORNERS.len()]);
+
+impl Corners {
+    pub fn record(&mut self, seen: &Seen) {
+        for (count, (_, reached)) in self.0.iter_mut().zip(CORNERS) {
+            *count += u64::from(reached(seen));
+        }
+    }
+
+    pub fn report(&self) -> Vec<String> {
+        let mut missing = Vec::new();
+        for (count, (name, _)) in self.0.iter().zip(CORNERS) {
+            println!("{count:9} times {name}");
+            if *count == 0 {
+                missing.push(name.to_string());
+            }
+        }
+        missing
+    }
+}
+
+fn is_queue(seen: &Seen) -> bool {
+    seen.settings.kind == QUEUE
+}
+
+fn stage(seen: &Seen) -> Option<(Side, Stage)> {
+    phase::decode(seen.worker[layout::PHASE])
+}
+
+fn is_at(seen: &Seen, kind: u32, side: Side, at: Stage) -> bool {
+    seen.settings.kind == kind && stage(seen) == Some((side, at))
+}
+
+fn moved(seen: &Seen) -> bool {
+    let windows = layout::PUT_WINDOW..layout::TAKE_WINDOW + 1;
+    seen.before[windows.clone()] != seen.after[windows]
+}
+
+/// The two words of the sub at the worker's index.
+fn sub<'a>(seen: &Seen<'a>) -> &'a [u32] {
+    let j = seen.worker[layout::INDEX] as usize;
+    let at = seen.settings.subs_at() + layout::SUB_WORDS * j;
+    &seen.before[at..at + layout::SUB_WORDS]
+}
+
+fn bare(seen: &Seen) -> bool {
+    let (put, taken) = (sub(seen)[layout::ITEMS_PUT], sub(seen)[layout::ITEMS_TAKEN]);
+    put == taken && taken < seen.worker[layout::SEEN_WINDOW]
+}
+
+fn in_two_cells(seen: &Seen) -> bool {
+    let cells = &seen.before[seen.settings.cells_at()..seen.settings.needed_words()];
+    let stamps = cells
+        .iter()
+        .skip(layout::CELL_STAMP)
+        .step_by(layout::CELL_WORDS);
+    stamps.filter(|stamp| **stamp == seen.answer.stamp).count() > 1
+}

@@ -1,0 +1,184 @@
+//! Images: words that need not come from make. A fit image has junk wherever
+//! fit allows it, and now and then words that agree, so that its steps reach
+//! every outcome.
+
+use super::junk;
+use super::settings::{within, Size};
+use crate::rng::Rng;
+use second::phase;
+use second::{layout, Settings, QUEUE};
+
+pub fn fit(rng: &mut Rng) -> Vec<u32> {
+    let size = rng.pick(&[Size::Small, Size::Small, Size::Small, Size::Medium]);
+    let settings = within(rng, size);
+    let beyond = rng.below(4) as usize;
+    let mut words = junk::words(rng, settings.needed_words() + beyond);
+    header(rng, &settings, &mut words);
+    for j in 0..settings.width as usize {
+        let at = settings.subs_at() + layout::SUB_WORDS * j;
+        sub(rng, &settings, &mut words, at);
+    }
+    for i in 0..settings.workers as usize {
+        let at = settings.workers_at() + layout::WORKER_WORDS * i;
+        worker(rng, &settings, &mut words, at);
+    }
+    if rng.chance(80) {
+        for stamp in words[settings.cells_at()..].iter_mut().skip(1).step_by(2) {
+            *stamp %= 16;
+        }
+    }
+    words
+}
+
+/// A fit image with one word changed, mostly one that the check reads.
+pub fn damaged(rng: &mut Rng) -> Vec<u32> {
+    let mut words = fit(rng);
+    let settings = Settings::of_words(&words);
+    let in_worker = settings.workers_at()
+        + layout::WORKER_WORDS * rng.below(settings.workers) as usize
+        + rng.pick(&[layout::PHASE, layout::INDEX, layout::SCAN]);
+    let at = match rng.below(4) {
+        0 => rng.below(layout::HEADER_WORDS as u32) as usize,
+        1 => settings.subs_at() + rng.below(2 * settings.width) as usize,
+        2 => in_worker,
+        _ => rng.below(words.len() as u32) as usize,
+    };
+    words[at] = match rng.below(4) {
+        0 => words[at].wrapping_add(1),
+        1 => words[at].wrapping_sub(1),
+        2 => words[at] ^ 1 << rng.below(32),
+        _ => junk::word(rng),
+    };
+    words
+}
+
+/// A fit or damaged image, cut near 12 words or near the needed ones.
+pub fn short(rng: &mut Rng) -> Vec<u32> {
+    let mut words = if rng.chance(80) {
+        fit(rng)
+    } else {
+        damaged(rng)
+    };
+    let needed = words.len();
+    let len = match rng.below(3) {
+        0 => rng.below(15) as usize,
+        1 => needed - rng.below(5) as usize,
+        _ => rng.below(needed as u32 + 1) as usize,
+    };
+    words.truncate(len);
+    words
+}
+
+/// No pool at all.
+pub fn random(rng: &mut Rng) -> Vec<u32> {
+    let len = rng.below(100) as usize;
+    junk::words(rng, len)
+}
+
+fn header(rng: &mut Rng, settings: &Settings, words: &mut [u32]) {
+    words[layout::KIND] = settings.kind;
+    words[layout::WIDTH] = settings.width;
+    words[layout::DEPTH] = settings.depth;
+    words[layout::SHIFT] = settings.shift;
+    words[layout::ROWS] = settings.rows;
+    words[layout::WORKERS] = settings.workers;
+    words[layout::STEPS_COUNTED] = junk::step_count(rng);
+    words[layout::FIRST_ZERO] = 0;
+    words[layout::SECOND_ZERO] = 0;
+    windows(rng, settings, words);
+}
+
+/// P near T, or G within the rows; now and then near 2^32, or left as junk.
+fn windows(rng: &mut Rng, settings: &Settings, words: &mut [u32]) {
+    let near_the_top = u32::MAX - rng.below(settings.depth + 2);
+    let near = rng.below(2 * settings.rows);
+    if settings.kind == QUEUE {
+        match rng.below(10) {
+            0 => words[layout::PUT_WINDOW] = near_the_top,
+            1..=3 => words[layout::TAKE_WINDOW] = near_the_top,
+            _ => {}
+        }
+        if rng.chance(60) {
+            let take_window = words[layout::TAKE_WINDOW];
+            words[layout::PUT_WINDOW] = take_window.wrapping_add(near).wrapping_sub(settings.depth);
+        }
+    } else {
+        match rng.below(10) {
+            0..=1 => words[layout::WINDOW] = near_the_top,
+            2..=6 => words[layout::WINDOW] = near,
+            _ => {}
+        }
+    }
+}
+
+/// Counts that fit, often none, one, all but one or R items.
+fn sub(rng: &mut Rng, settings: &Settings, words: &mut [u32], at: usize) {
+    let some = rng.below(settings.rows + 1);
+    let items = rng.pick(&[0, 0, 1, settings.rows - 1, settings.rows, some]);
+    if settings.kind == QUEUE {
+        let taken = near_windows(rng, settings, words).min(u32::MAX - items);
+        words[at + layout::ITEMS_PUT] = taken + items;
+        words[at + layout::ITEMS_TAKEN] = taken;
+    } else {
+        words[at + layout::ITEMS_HELD] = items;
+    }
+}
+
+/// A count below, at or above the take window, or junk.
+fn near_windows(rng: &mut Rng, settings: &Settings, words: &[u32]) -> u32 {
+    if rng.chance(30) {
+        let any = junk::word(rng);
+        return rng.pick(&[u32::MAX, 0, any]);
+    }
+    let off = rng.below(2 * settings.depth + 2);
+    words[layout::TAKE_WINDOW]
+        .wrapping_add(settings.depth)
+        .wrapping_sub(off)
+}
+
+fn worker(rng: &mut Rng, settings: &Settings, words: &mut [u32], at: usize) {
+    let phases: Vec<u32> = (0..15)
+        .filter(|phase| phase::is_of_kind(settings.kind, *phase))
+        .collect();
+    let index = rng.below(settings.width);
+    words[at + layout::PHASE] = rng.pick(&phases);
+    words[at + layout::INDEX] = index;
+    words[at + layout::SCAN] = if rng.chance(50) {
+        settings.width - 1
+    } else {
+        rng.below(settings.width)
+    };
+    let sub_at = settings.subs_at() + layout::SUB_WORDS * index as usize;
+    if rng.chance(60) {
+        let count = rng.pick(&[layout::ITEMS_PUT, layout::ITEMS_TAKEN]);
+        words[at + layout::SEEN] = words[sub_at + count];
+    }
+    if rng.chance(60) {
+        let window = rng.pick(&[layout::PUT_WINDOW, layout::TAKE_WINDOW]);
+        words[at + layout::SEEN_WINDOW] = words[window];
+    }
+    if rng.chance(60) {
+        words[at + layout::EXTRA] = if settings.kind == QUEUE {
+            rng.pick(&[0, u32::MAX])
+        } else {
+            words[layout::WINDOW_VERSION]
+        };
+    }
+    if rng.chance(40) {
+        words[at + layout::SUM] = sum_to_come(settings, words, at);
+    }
+}
+
+/// The sum that confirm brings to 0, if no sub changes meanwhile.
+fn sum_to_come(settings: &Settings, words: &[u32], at: usize) -> u32 {
+    let which = if settings.kind == QUEUE {
+        layout::ITEMS_PUT
+    } else {
+        layout::VERSION
+    };
+    let left = settings.width - words[at + layout::SCAN];
+    (0..left)
+        .map(|k| (words[at + layout::INDEX] + k) % settings.width)
+        .map(|j| words[settings.subs_at() + layout::SUB_WORDS * j as usize + which])
+        .fold(0, u32::wrapping_add)
+}

@@ -1,0 +1,10 @@
+//! How cases are made up from random numbers.
+
+mod ambush;
+pub mod image;
+pub mod junk;
+pub mod run_file;
+pub mod schedule;
+pub mod settings;
+mod turns;
+mod workers;

@@ -1,0 +1,93 @@
+//! The calls of a run: whose turn it is, and what that worker does.
+
+use super::junk;
+use super::turns::Turns;
+use super::workers::Workers;
+use crate::rng::Rng;
+use second::Settings;
+use sides::Call;
+
+/// Values and worker numbers that a run may have.
+#[derive(Clone, Copy)]
+pub enum Numbers {
+    Any,
+    /// Those that a run file can hold: 22 and 6 bits.
+    OfRunFile,
+}
+
+pub struct Schedule {
+    settings: Settings,
+    numbers: Numbers,
+    turns: Turns,
+    put_percent: u32,
+    /// How many calls a mood for puts or takes lasts, about.
+    mood: u32,
+    /// Calls out of turn, some of them to be refused.
+    odd_percent: u32,
+}
+
+impl Schedule {
+    pub fn new(rng: &mut Rng, settings: Settings, numbers: Numbers) -> Schedule {
+        let workers = Workers {
+            settings: &settings,
+            words: &[],
+        };
+        // One-sided moods last until a pool is full or empty.
+        let to_fill = 5 * settings.width * settings.rows;
+        Schedule {
+            settings,
+            numbers,
+            turns: Turns::new(rng, &workers),
+            put_percent: rng.pick(&[50, 90, 100]),
+            mood: rng.pick(&[20, to_fill / 2 + 1, to_fill * 2]),
+            odd_percent: rng.pick(&[0, 1, 4]),
+        }
+    }
+
+    /// The next call on a pool with these words.
+    pub fn next(&mut self, rng: &mut Rng, words: &[u32]) -> Call {
+        if rng.below(self.mood) == 0 {
+            self.put_percent = rng.pick(&[0, 10, 50, 90, 100]);
+        }
+        if rng.chance(self.odd_percent) {
+            return self.any_call(rng);
+        }
+        let workers = Workers {
+            settings: &self.settings,
+            words,
+        };
+        let (worker, put_percent) = self.turns.next(rng, &workers);
+        if workers.is_idle(worker) {
+            self.begin(rng, worker, put_percent.unwrap_or(self.put_percent))
+        } else {
+            Call::Step { worker }
+        }
+    }
+
+    fn begin(&self, rng: &mut Rng, worker: u32, put_percent: u32) -> Call {
+        if !rng.chance(put_percent) {
+            return Call::BeginTake { worker };
+        }
+        let value = junk::word(rng);
+        match self.numbers {
+            Numbers::Any => Call::BeginPut { worker, value },
+            Numbers::OfRunFile => Call::BeginPut {
+                worker,
+                value: value >> 10,
+            },
+        }
+    }
+
+    /// A call that may be refused: of a busy, an idle or no worker.
+    fn any_call(&self, rng: &mut Rng) -> Call {
+        let worker = match self.numbers {
+            Numbers::Any => junk::worker(rng, self.settings.workers),
+            Numbers::OfRunFile => junk::worker(rng, self.settings.workers) % 64,
+        };
+        if rng.chance(50) {
+            Call::Step { worker }
+        } else {
+            self.begin(rng, worker, self.put_percent)
+        }
+    }
+}

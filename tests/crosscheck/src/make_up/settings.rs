@@ -1,0 +1,98 @@
+//! Settings within, at and off their limits.
+
+use super::junk;
+use crate::rng::Rng;
+use second::{Settings, QUEUE, STACK};
+
+#[derive(Clone, Copy, PartialEq, Eq)]
+pub enum Size {
+    Small,
+    Medium,
+    /// Few narrow windows, many rows and workers: what goes wrong at windows
+    /// can go far.
+    Deep,
+    /// At the limits of the paper.
+    Large,
+}
+
+/// Settings within limits.
+pub fn within(rng: &mut Rng, size: Size) -> Settings {
+    let (widths, depths, depths_in_rows, workers) = match size {
+        Size::Small => (4, 3, 4, 4),
+        Size::Medium => (16, 8, 8, 32),
+        Size::Deep => (2, 2, 24, 32),
+        Size::Large => (16, 64, 1024, 32),
+    };
+    let kind = rng.pick(&[QUEUE, STACK]);
+    let width = up_to(rng, widths, size);
+    let depth = up_to(rng, depths, size);
+    let most_rows = (depth * depths_in_rows).min(1024).min(4096 / width);
+    let mut rows = 2 * depth - 1 + up_to(rng, most_rows - 2 * depth + 1, size);
+    let some = rng.between(1, depth);
+    let mut shift = rng.pick(&[1, some, depth]);
+    if kind == QUEUE {
+        shift = depth;
+        rows -= rows % depth;
+    }
+    Settings {
+        kind,
+        width,
+        depth,
+        shift,
+        rows,
+        workers: up_to(rng, workers, size),
+    }
+}
+
+/// 1 to most; deep and large settings take the most often.
+fn up_to(rng: &mut Rng, most: u32, size: Size) -> u32 {
+    let at_its_limits = matches!(size, Size::Deep | Size::Large);
+    if at_its_limits && rng.chance(50) {
+        most
+    } else {
+        rng.between(1, most)
+    }
+}
+
+/// Settings of which one or two may be off limits, mostly just so.
+pub fn any(rng: &mut Rng) -> Settings {
+    let size = rng.pick(&[Size::Small, Size::Medium, Size::Large]);
+    let mut settings = within(rng, size);
+    for _ in 0..rng.below(3) {
+        let field = match rng.below(6) {
+            0 => &mut settings.kind,
+            1 => &mut settings.width,
+            2 => &mut settings.depth,
+            3 => &mut settings.shift,
+            4 => &mut settings.rows,
+            _ => &mut settings.workers,
+        };
+        *field = near_a_limit(rng, *field);
+    }
+    settings
+}
+
+fn near_a_limit(rng: &mut Rng, now: u32) -> u32 {
+    match rng.below(4) {
+        0 => now.wrapping_add(1),
+        1 => now.wrapping_sub(1),
+        2 => rng.pick(&[
+            0,
+            1,
+            2,
+            16,
+            17,
+            32,
+            33,
+            64,
+            65,
+            256,
+            257,
+            1024,
+            1025,
+            1 << 16,
+            1 << 31,
+        ]),
+        _ => junk::word(rng),
+    }
+}

@@ -1,0 +1,133 @@
+//! All cases of a cross-check, and what they add up to.
+
+use crate::cases::files::Lister;
+use crate::cases::runs::Runs;
+use crate::cases::{images, makes};
+use crate::coverage::Coverage;
+use crate::failure::Failure;
+use crate::options::Options;
+use crate::rng::Rng;
+use crate::side_by_side::{Checks, OTHERS};
+use std::panic::{self, AssertUnwindSafe};
+use std::process::ExitCode;
+use std::time::{Duration, Instant};
+
+/// Cases that are run however short the time is; they reach all there is to
+/// reach.
+const LEAST_CASES: u64 = 400;
+/// Images and makes are short: a case has this many of them.
+const IMAGES: u64 = 160;
+const MAKES: u64 = 40;
+/// Which cases are of which sort goes by their number modulo this: most are
+/// runs, which say the most, and a case of run files takes as long as ten.
+const SORTS: u64 = 16;
+const RUN_FILES: u64 = 4;
+
+pub struct Tally {
+    checks: Checks,
+    lister: Option<Lister>,
+    images: u64,
+    runs: Runs,
+}
+
+impl Tally {
+    pub fn new(options: &Options) -> Tally {
+        if options.lister.is_none() {
+            println!("no --lister: run files are not compared");
+        }
+        Tally {
+            checks: Checks {
+                others: if options.alone { &[] } else { &OTHERS },
+                coverage: Coverage::default(),
+            },
+            lister: options.lister.clone().map(Lister::new),
+            images: 0,
+            runs: Runs::default(),
+        }
+    }
+
+    /// A failure comes with the number of its case.
+    pub fn run(&mut self, options: &Options) -> Result<(), (u64, Failure)> {
+        if let (Some(case), None) = (options.case, &self.lister) {
+            if case % SORTS == RUN_FILES && !options.alone {
+                let needs = "this case compares run files, it needs --lister";
+                return Err((case, Failure::Said(needs.to_string())));
+            }
+        }
+        let one = |case| case..case + 1;
+        let end = Instant::now() + Duration::from_secs(options.seconds);
+        for case in options.case.map_or(0..u64::MAX, one) {
+            if case >= LEAST_CASES && options.case.is_none() && Instant::now() >= end {
+                break;
+            }
+            self.run_one(options, case)
+                .map_err(|failure| (case, failure))?;
+        }
+        Ok(())
+    }
+
+    /// A panic is a failure of its case like any other.
+    fn run_one(&mut self, options: &Options, case: u64) -> Result<(), Failure> {
+        let rng = &mut Rng::new(options.seed, case);
+        let outcome = panic::catch_unwind(AssertUnwindSafe(|| {
+            if options.alone {
+                self.runs.run(rng, &mut self.checks)
+            } else {
+                self.run_case(rng, case)
+            }
+        }));
+        outcome.unwrap_or_else(|_| Err(Failure::Said("it panicked, see above".to_string())))
+    }
+
+    fn run_case(&mut self, rng: &mut Rng, case: u64) -> Result<(), Failure> {
+        match case % SORTS {
+            0 => {
+                for _ in 0..MAKES {
+                    makes::run(rng, &mut self.checks)?;
+                }
+            }
+            1..=3 => {
+                for _ in 0..IMAGES {
+                    images::run(rng, &mut self.checks)?;
+                    self.images += 1;
+                }
+            }
+            RUN_FILES => {
+                if let Some(lister) = &mut self.lister {
+                    lister.run(rng)?;
+                }
+            }
+            _ => self.runs.run(rng, &mut self.checks)?,
+        }
+        Ok(())
+    }
+
+    /// The counts; a pass has reached everything.
+    pub fn report(&self) -> ExitCode {
+        let missing = self.checks.coverage.report();
+        for what in &missing {
+            println!("crosscheck: FAILED, never reached: {what}");
+        }
+        if !missing.is_empty() {
+            return ExitCode::FAILURE;
+        }
+        self.report_runs();
+        println!(
+            "crosscheck: {} calls, {} images, {} runs one at a time, {} run files: all equal",
+            self.checks.coverage.calls,
+            self.images,
+            self.runs.runs,
+            self.lister.as_ref().map_or(0, |lister| lister.files),
+        );
+        ExitCode::SUCCESS
+    }
+
+    pub fn report_runs(&self) {
+        println!(
+            "one at a time: {} operations of {} runs have places; {} runs need places before last steps",
+            self.runs.operations, self.runs.runs, self.runs.not_at_last_steps,
+        );
+        let [queue, stack] = self.runs.percent_of_bound;
+        println!("distances came up to {queue} % of the bound in queues, {stack} % in stacks");
+    }
+}

@@ -1,0 +1,118 @@
+//! The pool as fast as plain safe Rust makes it without keeping anything
+//! between calls: the same checks and the same answers as `second`, which the
+//! cross-check compares. What it saves: words are read in place, each kind and
+//! phase has its own code, the checks of subs and workers and the count of a
+//! distance run over contiguous words without branches.
+
+mod admit;
+mod distance;
+mod queue;
+mod stack;
+
+use admit::{admit, Parts};
+use second::layout::{self, HEADER_WORDS, INDEX, PHASE, STEPS_COUNTED, WORKER_WORDS};
+use second::{Answer, Settings};
+use second::{BUSY, IDLE, MOVING, NO_WORKER, OFF_LIMITS, QUEUE, SPENT, STEP_LIMIT, TOO_SHORT};
+
+type Header = [u32; HEADER_WORDS];
+type Worker = [u32; WORKER_WORDS];
+
+const PUT_WINDOW_PHASE: u32 = 1;
+const TAKE_WINDOW_PHASE: u32 = 9;
+
+pub fn make(words: &mut [u32], settings: Settings) -> Answer {
+    if !settings.within_limits() {
+        return Answer::of(OFF_LIMITS);
+    }
+    if words.len() < settings.needed_words() {
+        return Answer::of(TOO_SHORT);
+    }
+    let Settings {
+        kind,
+        width,
+        depth,
+        shift,
+        rows,
+        workers,
+    } = settings;
+    let take_window = if kind == QUEUE { depth } else { 0 };
+    words[..settings.needed_words()].fill(0);
+    words[..6].copy_from_slice(&[kind, width, depth, shift, rows, workers]);
+    words[layout::PUT_WINDOW] = depth;
+    words[layout::TAKE_WINDOW] = take_window;
+    let all = &mut words[settings.workers_at()..settings.cells_at()];
+    for (i, worker) in all.chunks_exact_mut(WORKER_WORDS).enumerate() {
+        worker[INDEX] = i as u32 % width;
+    }
+    Answer::of(MOVING)
+}
+
+pub fn begin_put(words: &mut [u32], number: u32, value: u32) -> Answer {
+    begin(words, number, PUT_WINDOW_PHASE, value)
+}
+
+pub fn begin_take(words: &mut [u32], number: u32) -> Answer {
+    begin(words, number, TAKE_WINDOW_PHASE, 0)
+}
+
+fn begin(words: &mut [u32], number: u32, phase: u32, value: u32) -> Answer {
+    let parts = match admit(words) {
+        Ok(parts) => parts,
+        Err(refusal) => return Answer::of(refusal),
+    };
+    let Some(worker) = parts.workers.get_mut(number as usize) else {
+        return Answer::of(NO_WORKER);
+    };
+    if worker[PHASE] != 0 {
+        return Answer::of(BUSY);
+    }
+    if parts.header[STEPS_COUNTED] >= STEP_LIMIT {
+        return Answer::of(SPENT);
+    }
+    *worker = [phase, value, worker[INDEX], 0, 0, 0, 0, 0];
+    Answer::of(MOVING)
+}
+
+pub fn step(words: &mut [u32], number: u32) -> Answer {
+    let mut parts = match admit(words) {
+        Ok(parts) => parts,
+        Err(refusal) => return Answer::of(refusal),
+    };
+    let Some(worker) = parts.workers.get(number as usize) else {
+        return Answer::of(NO_WORKER);
+    };
+    if worker[PHASE] == 0 {
+        return Answer::of(IDLE);
+    }
+    if parts.header[STEPS_COUNTED] >= STEP_LIMIT {
+        return Answer::of(SPENT);
+    }
+    let answer = if parts.header[layout::KIND] == QUEUE {
+        queue::step(&mut parts, number as usize)
+    } else {
+        stack::step(&mut parts, number as usize)
+    };
+    if !answer.is_refusal() {
+        parts.header[STEPS_COUNTED] += 1;
+    }
+    answer
+}
+
+/// The idle worker that a final answer leaves.
+fn idle(worker: &mut Worker, answer: Answer) -> Answer {
+    *worker = [0, 0, worker[INDEX], 0, 0, 0, 0, 0];
+    answer
+}
+
+fn next_index(worker: &mut Worker, width: usize) {
+    let next = worker[INDEX] + 1;
+    worker[INDEX] = if next as usize == width { 0 } else { next };
+}
+
+/// Adds 1 to scan; true at the w-th, where scan becomes 0 again.
+fn scanned_all(worker: &mut Worker, width: usize) -> bool {
+    let scan = worker[layout::SCAN] + 1;
+    let all = scan as usize == width;
+    worker[layout::SCAN] = if all { 0 } else { scan };
+    all
+}

@@ -1,0 +1,154 @@
+//! The faults: small edits of the second implementation's text.
+
+pub struct Fault {
+    pub name: &'static str,
+    /// In second/src.
+    pub file: &'static str,
+    /// Must stand in the file exactly once.
+    pub old: &'static str,
+    pub new: &'static str,
+    /// A wrong pool also by the runs one at a time, without a comparison: the
+    /// paper's "traps in the published text", and their like.
+    pub seen_alone: bool,
+    /// Only run files show it.
+    pub of_lister: bool,
+}
+
+const fn fault(
+    name: &'static str,
+    file: &'static str,
+    old: &'static str,
+    new: &'static str,
+) -> Fault {
+    Fault {
+        name,
+        file,
+        old,
+        new,
+        seen_alone: false,
+        of_lister: false,
+    }
+}
+
+const fn trap(
+    name: &'static str,
+    file: &'static str,
+    old: &'static str,
+    new: &'static str,
+) -> Fault {
+    Fault {
+        seen_alone: true,
+        ..fault(name, file, old, new)
+    }
+}
+
+const fn lister_fault(
+    name: &'static str,
+    file: &'static str,
+    old: &'static str,
+    new: &'static str,
+) -> Fault {
+    Fault {
+        of_lister: true,
+        ..fault(name, file, old, new)
+    }
+}
+
+pub const FAULTS: [Fault; 16] = [
+    trap(
+        "empty after one pass, without confirm",
+        "stages/read.rs",
+        "side == Side::Take && worker.extra != 0",
+        "side == Side::Take && worker.extra > pool.settings.width",
+    ),
+    trap(
+        "a stack put without the check phase",
+        "stages/read.rs",
+        "let next = if pool.is_queue() {",
+        "let next = if pool.is_queue() || side == Side::Put {",
+    ),
+    trap(
+        "a stack shift that compares G alone",
+        "stages/shift.rs",
+        "pool.words[layout::WINDOW_VERSION] == worker.extra",
+        "pool.words[layout::WINDOW] == worker.seen_window",
+    ),
+    trap(
+        "the framework paper's bound for a stack",
+        "bounds.rs",
+        "2 * settings.depth + 2 * settings.shift",
+        "settings.depth + 2 * settings.shift",
+    ),
+    trap(
+        "a stack's version stays at a take",
+        "stages/commit.rs",
+        "        pool.set_sub(sub, layout::ITEMS_HELD, row - 1);\n    }\n    grow_version(pool, sub);",
+        "        pool.set_sub(sub, layout::ITEMS_HELD, row - 1);\n    }",
+    ),
+    trap(
+        "a distance that leaves out the last sub",
+        "stages/distance.rs",
+        "(0..pool.settings.width)",
+        "(0..pool.settings.width.max(2) - 1)",
+    ),
+    fault(
+        "a failed commit keeps its index",
+        "stages/commit.rs",
+        "        next_index(pool, worker);\n",
+        "",
+    ),
+    fault(
+        "a stack take that reads >= for >",
+        "stages/read.rs",
+        "held > worker.seen_window",
+        "held >= worker.seen_window",
+    ),
+    fault(
+        "a queue full one window early",
+        "stages/shift.rs",
+        "if reach <= pool.settings.rows",
+        "if reach < pool.settings.rows",
+    ),
+    fault(
+        "the step limit off by one",
+        "calls.rs",
+        "[layout::STEPS_COUNTED] >= STEP_LIMIT",
+        "[layout::STEPS_COUNTED] > STEP_LIMIT",
+    ),
+    fault(
+        "fit without the scan",
+        "pool/fit.rs",
+        "\n        && worker.scan < pool.settings.width",
+        "",
+    ),
+    fault(
+        "a begin that keeps the idle worker's words",
+        "calls.rs",
+        "..Worker::idle_at(pool.worker(number).index)",
+        "..pool.worker(number)",
+    ),
+    fault(
+        "row 0 stored in cell 0",
+        "pool/view.rs",
+        "row.wrapping_sub(1)",
+        "row.saturating_sub(1)",
+    ),
+    fault(
+        "a bare count that stays at 2^32 - 1",
+        "stages/read.rs",
+        "worker.extra.wrapping_add(1)",
+        "worker.extra.saturating_add(1)",
+    ),
+    lister_fault(
+        "a lone byte after the end passes",
+        "listing/reader.rs",
+        "self.fill(&mut [0])? > 0",
+        "self.fill(&mut [0, 0])? > 1",
+    ),
+    lister_fault(
+        "a spare bit of a step passes",
+        "listing/decode.rs",
+        "5 if bits(word, 0, 21) == 0",
+        "5 if bits(word, 0, 20) == 0",
+    ),
+];

@@ -1,0 +1,120 @@
+//! Plants faults in a copy of the second implementation, one at a time, and
+//! prints how long the cross-check takes to find each. Exits non-zero if one
+//! is not found.
+//!
+//! planted [--seconds N] [--seed N] [--lister PROGRAM], with at most N seconds
+//! for each trial (120)
+
+mod copy;
+mod faults;
+mod trial;
+
+use copy::Copy;
+use faults::{Fault, FAULTS};
+use std::path::{Path, PathBuf};
+use std::process::ExitCode;
+use trial::{finder, trial, Outcome};
+
+struct Options {
+    seconds: String,
+    seed: String,
+    lister: Option<PathBuf>,
+}
+
+fn main() -> ExitCode {
+    match options().and_then(|options| run(&options)) {
+        Ok(true) => ExitCode::SUCCESS,
+        Ok(false) => ExitCode::FAILURE,
+        Err(wrong) => {
+            eprintln!("planted: {wrong}");
+            ExitCode::from(2)
+        }
+    }
+}
+
+fn options() -> Result<Options, String> {
+    let mut options = Options {
+        seconds: "120".to_string(),
+        seed: "1".to_string(),
+        lister: None,
+    };
+    let mut words = std::env::args().skip(1);
+    while let Some(option) = words.next() {
+        let value = words.next().ok_or(format!("{option} has no value"))?;
+        match option.as_str() {
+            "--seconds" => options.seconds = value,
+            "--seed" => options.seed = value,
+            "--lister" => options.lister = Some(absolute(Path::new(&value))?),
+            _ => return Err(format!("no option {option}")),
+        }
+    }
+    Ok(options)
+}
+
+/// True if every fault was found.
+fn run(options: &Options) -> Result<bool, String> {
+    let tests = Path::new(env!("CARGO_MANIFEST_DIR")).join("..");
+    let archive = match std::env::var_os("POOL_ARCHIVE") {
+        Some(path) => PathBuf::from(path),
+        None => tests.join("../target/staticlib/libpool.a"),
+    };
+    let copy = Copy::of(&tests, &absolute(&archive)?).map_err(|error| error.to_string())?;
+    if let Outcome::Found(_, printed) =
+        trial(&copy.build()?, &crosscheck_options(options, "0", false))?
+    {
+        return Err(format!("without a fault the cross-check fails:\n{printed}"));
+    }
+    println!("| planted fault | found after | by | one at a time alone |");
+    println!("|---|---:|---|---:|");
+    let mut all_found = true;
+    for fault in FAULTS
+        .iter()
+        .filter(|fault| !fault.of_lister || options.lister.is_some())
+    {
+        let before = copy
+            .plant(fault)
+            .map_err(|why| format!("{}: {why}", fault.name))?;
+        all_found &= report(options, &copy, fault)?;
+        copy.restore(fault, &before)?;
+    }
+    Ok(all_found)
+}
+
+/// A row of the table; true if the cross-check found the fault.
+fn report(options: &Options, copy: &Copy, fault: &Fault) -> Result<bool, String> {
+    let crosscheck = copy.build()?;
+    let limit = &options.seconds;
+    let compared = trial(&crosscheck, &crosscheck_options(options, limit, false))?;
+    let alone = if fault.seen_alone {
+        match trial(&crosscheck, &crosscheck_options(options, limit, true))? {
+            Outcome::Found(seconds, printed) => format!("{seconds:.3} s, {}", finder(&printed)),
+            Outcome::NotFound => format!("not in {limit} s"),
+        }
+    } else {
+        "-".to_string()
+    };
+    let (found, by) = match &compared {
+        Outcome::Found(seconds, printed) => (format!("{seconds:.3} s"), finder(printed)),
+        Outcome::NotFound => (format!("NOT in {limit} s"), "-"),
+    };
+    println!("| {} | {found} | {by} | {alone} |", fault.name);
+    Ok(matches!(compared, Outcome::Found(..)))
+}
+
+fn crosscheck_options(options: &Options, seconds: &str, alone: bool) -> Vec<String> {
+    let mut all = ["--seconds", seconds, "--seed", &options.seed]
+        .map(str::to_string)
+        .to_vec();
+    if alone {
+        all.push("--alone".to_string());
+    } else if let Some(lister) = &options.lister {
+        all.push("--lister".to_string());
+        all.push(lister.display().to_string());
+    }
+    all
+}
+
+fn absolute(path: &Path) -> Result<PathBuf, String> {
+    path.canonicalize()
+        .map_err(|error| format!("{}: {error}", path.display()))
+}

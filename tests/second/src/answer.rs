@@ -1,0 +1,58 @@
+//! Paper 01, Returned by the calls: a number and five fields.
+
+/// A field is zero unless the number's rule names it.
+#[derive(Clone, Copy, Debug, Default, PartialEq, Eq)]
+pub struct Answer {
+    pub number: u32,
+    pub value: u32,
+    pub sub: u32,
+    pub row: u32,
+    pub stamp: u32,
+    pub distance: u32,
+}
+
+/// Moving, made or begun.
+pub const MOVING: u32 = 0;
+pub const PUT: u32 = 1;
+pub const TAKEN: u32 = 2;
+pub const EMPTY: u32 = 3;
+pub const FULL: u32 = 4;
+/// Answers 1 to 4 finish an operation.
+pub const LAST_FINAL: u32 = FULL;
+
+/// Fewer words than needed, or fewer than 12.
+pub const TOO_SHORT: u32 = 21;
+/// Make: a setting off limits.
+pub const OFF_LIMITS: u32 = 22;
+/// Not fit, or a commit that matches with no free cell or no item.
+pub const UNFIT: u32 = 23;
+/// Worker number n or more.
+pub const NO_WORKER: u32 = 24;
+/// Begin on a busy worker.
+pub const BUSY: u32 = 25;
+/// Step on an idle worker.
+pub const IDLE: u32 = 26;
+/// Begin or step: the step count has reached its limit.
+pub const SPENT: u32 = 27;
+
+/// A begin or step with this step count or more is refused with 27.
+pub const STEP_LIMIT: u32 = 4_000_000_000;
+
+impl Answer {
+    pub fn of(number: u32) -> Answer {
+        Answer {
+            number,
+            ..Answer::default()
+        }
+    }
+
+    /// It finishes the worker's operation.
+    pub fn is_final(&self) -> bool {
+        (PUT..=LAST_FINAL).contains(&self.number)
+    }
+
+    /// It left the lent words unchanged.
+    pub fn is_refusal(&self) -> bool {
+        self.number > LAST_FINAL
+    }
+}

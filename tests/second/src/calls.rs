@@ -1,0 +1,101 @@
+//! The pool's calls: make, begin put, begin take and step.
+
+use crate::answer::TOO_SHORT;
+use crate::answer::{Answer, BUSY, IDLE, MOVING, NO_WORKER, OFF_LIMITS, SPENT, STEP_LIMIT};
+use crate::pool::fit::fit;
+use crate::pool::phase::{self, Side, Stage};
+use crate::pool::settings::{Settings, QUEUE};
+use crate::pool::{layout, Pool, Worker};
+use crate::stages;
+
+/// Paper 01, "Make sets P = T = d, or G = d; worker i has index i mod w; all
+/// other needed words but the settings are zero". Refusals: 22, then 21.
+pub fn make(words: &mut [u32], settings: Settings) -> Answer {
+    if !settings.within_limits() {
+        return Answer::of(OFF_LIMITS);
+    }
+    if words.len() < settings.needed_words() {
+        return Answer::of(TOO_SHORT);
+    }
+    words[..settings.needed_words()].fill(0);
+    words[layout::KIND] = settings.kind;
+    words[layout::WIDTH] = settings.width;
+    words[layout::DEPTH] = settings.depth;
+    words[layout::SHIFT] = settings.shift;
+    words[layout::ROWS] = settings.rows;
+    words[layout::WORKERS] = settings.workers;
+    if settings.kind == QUEUE {
+        words[layout::PUT_WINDOW] = settings.depth;
+        words[layout::TAKE_WINDOW] = settings.depth;
+    } else {
+        words[layout::WINDOW] = settings.depth;
+    }
+    let mut pool = Pool { words, settings };
+    for i in 0..settings.workers {
+        pool.set_worker(i, Worker::idle_at(i % settings.width));
+    }
+    Answer::of(MOVING)
+}
+
+pub fn begin_put(words: &mut [u32], number: u32, value: u32) -> Answer {
+    begin(words, number, Side::Put, value)
+}
+
+pub fn begin_take(words: &mut [u32], number: u32) -> Answer {
+    begin(words, number, Side::Take, 0)
+}
+
+/// "Begin sets the value (0 for a take), phase 1 or 9, other words zero, index
+/// kept." A begin is no step: the step count stays.
+fn begin(words: &mut [u32], number: u32, side: Side, value: u32) -> Answer {
+    let mut pool = match admitted(words, number, false) {
+        Ok(pool) => pool,
+        Err(refusal) => return Answer::of(refusal),
+    };
+    let begun = Worker {
+        phase: side.phase(Stage::Window),
+        value,
+        ..Worker::idle_at(pool.worker(number).index)
+    };
+    pool.set_worker(number, begun);
+    Answer::of(MOVING)
+}
+
+pub fn step(words: &mut [u32], number: u32) -> Answer {
+    let mut pool = match admitted(words, number, true) {
+        Ok(pool) => pool,
+        Err(refusal) => return Answer::of(refusal),
+    };
+    let mut worker = pool.worker(number);
+    let (side, stage) = phase::decode(worker.phase).expect("a fit worker not idle has a stage");
+    let answer = stages::run(&mut pool, &mut worker, side, stage);
+    if answer.is_refusal() {
+        return answer;
+    }
+    if answer.is_final() {
+        worker = Worker::idle_at(worker.index);
+    }
+    pool.set_worker(number, worker);
+    // "A step not refused adds 1 to the step count", which is below its limit.
+    pool.words[layout::STEPS_COUNTED] += 1;
+    answer
+}
+
+/// Paper 01, Order: fit (21 and 23), then 24, 25 or 26, 27.
+fn admitted(words: &mut [u32], number: u32, busy_wanted: bool) -> Result<Pool<'_>, u32> {
+    let pool = fit(words)?;
+    if number >= pool.settings.workers {
+        return Err(NO_WORKER);
+    }
+    let busy = pool.worker(number).phase != phase::IDLE;
+    if busy && !busy_wanted {
+        return Err(BUSY);
+    }
+    if !busy && busy_wanted {
+        return Err(IDLE);
+    }
+    if pool.words[layout::STEPS_COUNTED] >= STEP_LIMIT {
+        return Err(SPENT);
+    }
+    Ok(pool)
+}

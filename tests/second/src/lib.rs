@@ -1,0 +1,23 @@
+//! The windowed pool once more, written from paper 01 alone.
+//!
+//! The calls are total: any number of words, any words, any arguments. A pool
+//! is a queue (the paper's line) or a stack (its pile). Nothing here is made
+//! fast; each rule stands in one place and reads like its paragraph.
+
+mod answer;
+mod bounds;
+mod calls;
+mod listing;
+mod one_at_a_time;
+mod pool;
+mod stages;
+
+pub use answer::{Answer, STEP_LIMIT};
+pub use answer::{BUSY, IDLE, NO_WORKER, OFF_LIMITS, SPENT, TOO_SHORT, UNFIT};
+pub use answer::{EMPTY, FULL, MOVING, PUT, TAKEN};
+pub use bounds::{distance_bound, full_bound};
+pub use calls::{begin_put, begin_take, make, step};
+pub use listing::{list, ABOVE_BOUND, CUT, OUT_OF_PLACE};
+pub use one_at_a_time::{one_at_a_time, Event, Placed};
+pub use pool::settings::{Settings, QUEUE, STACK};
+pub use pool::{layout, phase};

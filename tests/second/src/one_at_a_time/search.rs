@@ -1,0 +1,176 @@
+//! The search for linearization points.
+//!
+//! It walks the steps of finished operations in the order of the run, and at
+//! each one the operation, if it has no place yet, is placed here or later.
+//! Both are tried, so nothing about where operations belong is assumed.
+//!
+//! - A put or a take that changed the list is tried later first, which puts it
+//!   at its last step unless that fails; then the search goes back to the
+//!   nearest such choice and places that operation earlier.
+//! - An empty or a full changes nothing for others, so that the first of its
+//!   steps where it is allowed serves as well as any: no choice is needed.
+//! - Two operations never share a step: a step is one worker's.
+//!
+//! What can follow depends only on the step reached and on which operations
+//! in progress are placed: the list is then the same, since a put's stamp is
+//! in its answer. A choice that failed both ways is remembered by these two.
+
+use super::history::{History, Moment};
+use super::sequential::{Sequential, Undo};
+use crate::answer::{PUT, TAKEN};
+use crate::pool::settings::Settings;
+use std::collections::HashSet;
+
+/// The search gives up after this many visits to steps beyond the first walk,
+/// and says so.
+const PATIENCE: usize = 2_000_000;
+
+/// Where the operations stand.
+pub struct Placed {
+    /// The chosen step of each finished operation, as its place in the run.
+    pub events: Vec<usize>,
+    /// How often the search had to go back; 0 if every put and take stands at
+    /// its last step.
+    pub returns: u64,
+}
+
+/// What was decided at a moment, to go back over it.
+enum Decision {
+    /// A choice: placed later, not yet tried here.
+    Later,
+    /// Placed here. If it was the second way of a choice, no third is left.
+    Here { undo: Undo, second_way: bool },
+    /// The last step of an operation placed earlier.
+    Passed,
+}
+
+pub(super) struct Search<'a> {
+    history: &'a History,
+    list: Sequential,
+    /// The moment of each operation's place, once it has one.
+    place: Vec<Option<usize>>,
+    /// Workers whose operation in progress is placed, a bit each.
+    early: u64,
+    trail: Vec<(usize, Decision)>,
+    failed: HashSet<(usize, u64)>,
+    returns: u64,
+    furthest: usize,
+}
+
+impl<'a> Search<'a> {
+    pub fn new(settings: &Settings, history: &'a History) -> Search<'a> {
+        Search {
+            history,
+            list: Sequential::new(settings),
+            place: vec![None; history.operations.len()],
+            early: 0,
+            trail: Vec::new(),
+            failed: HashSet::new(),
+            returns: 0,
+            furthest: 0,
+        }
+    }
+
+    pub fn run(mut self) -> Result<Placed, String> {
+        let mut at = 0;
+        let mut visits = 0;
+        while at < self.history.moments.len() {
+            visits += 1;
+            if visits > PATIENCE + self.history.moments.len() {
+                return Err(self.complaint("undecided: the search gave up near"));
+            }
+            if self.visit(at) {
+                at += 1;
+                continue;
+            }
+            self.furthest = self.furthest.max(at);
+            self.returns += 1;
+            match self.go_back() {
+                Some(chosen) => at = chosen + 1,
+                None => return Err(self.complaint("no place for")),
+            }
+        }
+        let moments = &self.history.moments;
+        let places = self.place.iter();
+        let events = places.map(|place| moments[place.expect("all are passed")].event);
+        Ok(Placed {
+            events: events.collect(),
+            returns: self.returns,
+        })
+    }
+
+    /// Decides at a moment; false if no operation order goes on from here.
+    fn visit(&mut self, at: usize) -> bool {
+        let moment = &self.history.moments[at];
+        let number = self.history.operations[moment.operation].answer.number;
+        if self.place[moment.operation].is_some() {
+            if moment.last {
+                self.early &= !self.bit(moment);
+                self.trail.push((at, Decision::Passed));
+            }
+            return true;
+        }
+        let changes_the_list = number == PUT || number == TAKEN;
+        if changes_the_list && !moment.last {
+            if self.failed.contains(&(at, self.early)) {
+                return false;
+            }
+            self.trail.push((at, Decision::Later));
+            return true;
+        }
+        self.place_here(at, false) || !moment.last
+    }
+
+    fn place_here(&mut self, at: usize, second_way: bool) -> bool {
+        let moment = &self.history.moments[at];
+        let operation = &self.history.operations[moment.operation];
+        let Some(undo) = self.list.feed(operation) else {
+            return false;
+        };
+        self.place[moment.operation] = Some(at);
+        if !moment.last {
+            self.early |= self.bit(moment);
+        }
+        self.trail.push((at, Decision::Here { undo, second_way }));
+        true
+    }
+
+    /// Takes decisions back to the nearest choice whose second way is allowed,
+    /// goes that way, and says at which moment.
+    fn go_back(&mut self) -> Option<usize> {
+        while let Some((at, decision)) = self.trail.pop() {
+            let moment = &self.history.moments[at];
+            match decision {
+                Decision::Passed => self.early |= self.bit(moment),
+                Decision::Here { undo, second_way } => {
+                    self.list.undo(undo);
+                    self.place[moment.operation] = None;
+                    self.early &= !self.bit(moment);
+                    if second_way {
+                        self.failed.insert((at, self.early));
+                    }
+                }
+                Decision::Later => {
+                    if self.place_here(at, true) {
+                        return Some(at);
+                    }
+                    self.failed.insert((at, self.early));
+                }
+            }
+        }
+        None
+    }
+
+    fn bit(&self, moment: &Moment) -> u64 {
+        1 << self.history.operations[moment.operation].worker
+    }
+
+    fn complaint(&self, what: &str) -> String {
+        let moment = &self.history.moments[self.furthest];
+        let operation = &self.history.operations[moment.operation];
+        format!(
+            "{what} {operation:?}, finished or stopped at call {}",
+            moment.event
+        )
+    }
+}

@@ -1,0 +1,109 @@
+//! The sequential specification: the paper's one-at-a-time list. It holds
+//! items, each a value and a stamp, and counts puts.
+
+use super::history::Operation;
+use crate::answer::{EMPTY, FULL, PUT, TAKEN};
+use crate::bounds::{distance_bound, full_bound};
+use crate::pool::phase::Side;
+use crate::pool::settings::{Settings, QUEUE};
+
+#[derive(Clone, Copy)]
+struct Item {
+    stamp: u32,
+    value: u32,
+}
+
+/// What feeding an operation changed, to take it back.
+pub(super) enum Undo {
+    Nothing,
+    Joined,
+    Left(usize, u32, u32),
+}
+
+pub(super) struct Sequential {
+    settings: Settings,
+    /// In the order of stamps, which is the order of joining.
+    items: Vec<Item>,
+    puts: u32,
+}
+
+/// An answer's value, stamp and distance.
+type Given = (u32, u32, u32);
+
+impl Sequential {
+    pub fn new(settings: &Settings) -> Sequential {
+        Sequential {
+            settings: *settings,
+            items: Vec::new(),
+            puts: 0,
+        }
+    }
+
+    /// Feeds the operation if it is allowed here and its answer has the value,
+    /// stamp and distance that the list gives; else nothing changes.
+    pub fn feed(&mut self, operation: &Operation) -> Option<Undo> {
+        let answer = &operation.answer;
+        let answered = (answer.value, answer.stamp, answer.distance);
+        if self.gives(operation) != Some(answered) {
+            return None;
+        }
+        Some(match answer.number {
+            PUT => {
+                self.puts += 1;
+                self.items.push(Item {
+                    stamp: self.puts,
+                    value: operation.value,
+                });
+                Undo::Joined
+            }
+            TAKEN => {
+                let at = self.find(answer.stamp).expect("the list gave it");
+                let item = self.items.remove(at);
+                Undo::Left(at, item.stamp, item.value)
+            }
+            _ => Undo::Nothing,
+        })
+    }
+
+    pub fn undo(&mut self, undo: Undo) {
+        match undo {
+            Undo::Nothing => {}
+            Undo::Joined => {
+                self.puts -= 1;
+                self.items.pop();
+            }
+            Undo::Left(at, stamp, value) => self.items.insert(at, Item { stamp, value }),
+        }
+    }
+
+    fn gives(&self, operation: &Operation) -> Option<Given> {
+        let held = self.items.len();
+        match (operation.answer.number, operation.side) {
+            (PUT, Side::Put) => Some((operation.value, self.puts + 1, 0)),
+            (TAKEN, Side::Take) => self.gives_item(operation.answer.stamp),
+            (EMPTY, Side::Take) if held == 0 => Some((0, 0, 0)),
+            (FULL, Side::Put) if held >= full_bound(&self.settings) as usize => Some((0, 0, 0)),
+            _ => None,
+        }
+    }
+
+    /// "An item with the fed stamp must be there, with no more older ones
+    /// (line) or newer ones (pile) than demand 3 allows."
+    fn gives_item(&self, stamp: u32) -> Option<Given> {
+        let at = self.find(stamp)?;
+        let ahead = if self.settings.kind == QUEUE {
+            at
+        } else {
+            self.items.len() - 1 - at
+        };
+        let distance = ahead as u32;
+        (distance <= distance_bound(&self.settings))
+            .then(|| (self.items[at].value, stamp, distance))
+    }
+
+    fn find(&self, stamp: u32) -> Option<usize> {
+        self.items
+            .binary_search_by_key(&stamp, |item| item.stamp)
+            .ok()
+    }
+}

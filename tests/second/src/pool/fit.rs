@@ -1,0 +1,50 @@
+//! Paper 01, Fit, in the order of its refusals (Returned by the calls, Order).
+
+use super::layout;
+use super::phase;
+use super::settings::{Settings, QUEUE};
+use super::view::Pool;
+use crate::answer::{TOO_SHORT, UNFIT};
+
+/// The pool in these words, or the number of the refusal: 21 for 12 words, 23
+/// for the settings and words 10 and 11, 21 for the needed words, 23 for subs
+/// and workers.
+pub(crate) fn fit(words: &mut [u32]) -> Result<Pool<'_>, u32> {
+    if words.len() < layout::HEADER_WORDS {
+        return Err(TOO_SHORT);
+    }
+    let settings = Settings::of_words(words);
+    let zeros = words[layout::FIRST_ZERO] == 0 && words[layout::SECOND_ZERO] == 0;
+    if !settings.within_limits() || !zeros {
+        return Err(UNFIT);
+    }
+    if words.len() < settings.needed_words() {
+        return Err(TOO_SHORT);
+    }
+    let pool = Pool { words, settings };
+    let subs_fit = (0..settings.width).all(|j| sub_fits(&pool, j));
+    let workers_fit = (0..settings.workers).all(|i| worker_fits(&pool, i));
+    if !subs_fit || !workers_fit {
+        return Err(UNFIT);
+    }
+    Ok(pool)
+}
+
+/// Taken at most put, and put minus taken, or held, at most R.
+fn sub_fits(pool: &Pool, j: u32) -> bool {
+    if pool.settings.kind == QUEUE {
+        let put = pool.sub(j, layout::ITEMS_PUT);
+        let taken = pool.sub(j, layout::ITEMS_TAKEN);
+        taken <= put && put - taken <= pool.settings.rows
+    } else {
+        pool.sub(j, layout::ITEMS_HELD) <= pool.settings.rows
+    }
+}
+
+/// A phase of its kind, index and scan below w; the other words are free.
+fn worker_fits(pool: &Pool, number: u32) -> bool {
+    let worker = pool.worker(number);
+    phase::is_of_kind(pool.settings.kind, worker.phase)
+        && worker.index < pool.settings.width
+        && worker.scan < pool.settings.width
+}

@@ -1,0 +1,47 @@
+//! Paper 01, The pool's words: where each word stands.
+
+pub const KIND: usize = 0;
+pub const WIDTH: usize = 1;
+pub const DEPTH: usize = 2;
+pub const SHIFT: usize = 3;
+pub const ROWS: usize = 4;
+pub const WORKERS: usize = 5;
+pub const STEPS_COUNTED: usize = 6;
+pub const PUTS_MADE: usize = 7;
+
+/// Queue: the put window, P.
+pub const PUT_WINDOW: usize = 8;
+/// Queue: the take window, T.
+pub const TAKE_WINDOW: usize = 9;
+/// Stack: the window, G.
+pub const WINDOW: usize = 8;
+/// Stack: the window's version.
+pub const WINDOW_VERSION: usize = 9;
+
+pub const FIRST_ZERO: usize = 10;
+pub const SECOND_ZERO: usize = 11;
+pub const HEADER_WORDS: usize = 12;
+
+/// Two words per sub. Queue: items put and items taken.
+pub const ITEMS_PUT: usize = 0;
+pub const ITEMS_TAKEN: usize = 1;
+/// Stack: items held and version.
+pub const ITEMS_HELD: usize = 0;
+pub const VERSION: usize = 1;
+pub const SUB_WORDS: usize = 2;
+
+/// Eight words per worker.
+pub const PHASE: usize = 0;
+pub const VALUE: usize = 1;
+pub const INDEX: usize = 2;
+pub const SEEN_WINDOW: usize = 3;
+pub const EXTRA: usize = 4;
+pub const SCAN: usize = 5;
+pub const SEEN: usize = 6;
+pub const SUM: usize = 7;
+pub const WORKER_WORDS: usize = 8;
+
+/// Two words per cell.
+pub const CELL_VALUE: usize = 0;
+pub const CELL_STAMP: usize = 1;
+pub const CELL_WORDS: usize = 2;

@@ -1,0 +1,66 @@
+//! Paper 01, The pool's words: settings, their limits, the needed words.
+
+use super::layout;
+
+/// The paper's line.
+pub const QUEUE: u32 = 0;
+/// The paper's pile.
+pub const STACK: u32 = 1;
+
+#[derive(Clone, Copy, Debug, PartialEq, Eq)]
+pub struct Settings {
+    pub kind: u32,
+    pub width: u32,
+    pub depth: u32,
+    pub shift: u32,
+    pub rows: u32,
+    pub workers: u32,
+}
+
+impl Settings {
+    /// What stands in the first words, within limits or not.
+    pub fn of_words(words: &[u32]) -> Settings {
+        Settings {
+            kind: words[layout::KIND],
+            width: words[layout::WIDTH],
+            depth: words[layout::DEPTH],
+            shift: words[layout::SHIFT],
+            rows: words[layout::ROWS],
+            workers: words[layout::WORKERS],
+        }
+    }
+
+    pub fn within_limits(&self) -> bool {
+        let known = self.kind == QUEUE || self.kind == STACK;
+        known
+            && (1..=16).contains(&self.width)
+            && (1..=64).contains(&self.depth)
+            && (1..=self.depth).contains(&self.shift)
+            && (2 * self.depth..=1024).contains(&self.rows)
+            && (1..=32).contains(&self.workers)
+            && self.width * self.rows <= 4096
+            && (self.kind == STACK || self.suits_a_queue())
+    }
+
+    /// A queue has shift = depth, and its rows are a multiple of the depth.
+    fn suits_a_queue(&self) -> bool {
+        self.shift == self.depth && self.rows.is_multiple_of(self.depth)
+    }
+
+    /// 12 + 2w + 8n + 2wR, of settings within limits.
+    pub fn needed_words(&self) -> usize {
+        self.cells_at() + layout::CELL_WORDS * self.width as usize * self.rows as usize
+    }
+
+    pub fn subs_at(&self) -> usize {
+        layout::HEADER_WORDS
+    }
+
+    pub fn workers_at(&self) -> usize {
+        self.subs_at() + layout::SUB_WORDS * self.width as usize
+    }
+
+    pub fn cells_at(&self) -> usize {
+        self.workers_at() + layout::WORKER_WORDS * self.workers as usize
+    }
+}

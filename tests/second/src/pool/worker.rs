@@ -1,0 +1,50 @@
+//! A worker's eight words, read and written as a whole.
+
+use super::layout;
+
+#[derive(Clone, Copy, Debug, Default, PartialEq, Eq)]
+pub(crate) struct Worker {
+    pub phase: u32,
+    pub value: u32,
+    pub index: u32,
+    pub seen_window: u32,
+    pub extra: u32,
+    pub scan: u32,
+    pub seen: u32,
+    pub sum: u32,
+}
+
+impl Worker {
+    /// "After a final answer the worker is idle, all its words zero but the
+    /// index"; a begin starts from the same words.
+    pub fn idle_at(index: u32) -> Worker {
+        Worker {
+            index,
+            ..Worker::default()
+        }
+    }
+
+    pub fn from_words(words: &[u32]) -> Worker {
+        Worker {
+            phase: words[layout::PHASE],
+            value: words[layout::VALUE],
+            index: words[layout::INDEX],
+            seen_window: words[layout::SEEN_WINDOW],
+            extra: words[layout::EXTRA],
+            scan: words[layout::SCAN],
+            seen: words[layout::SEEN],
+            sum: words[layout::SUM],
+        }
+    }
+
+    pub fn to_words(self, words: &mut [u32]) {
+        words[layout::PHASE] = self.phase;
+        words[layout::VALUE] = self.value;
+        words[layout::INDEX] = self.index;
+        words[layout::SEEN_WINDOW] = self.seen_window;
+        words[layout::EXTRA] = self.extra;
+        words[layout::SCAN] = self.scan;
+        words[layout::SEEN] = self.seen;
+        words[layout::SUM] = self.sum;
+    }
+}

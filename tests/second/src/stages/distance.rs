@@ -1,0 +1,34 @@
+//! Paper 01, Distance: held items of all subs with a smaller stamp (queue) or
+//! a greater one (stack) just before the take.
+
+use crate::pool::{layout, Pool};
+
+pub(super) fn distance(pool: &Pool, stamp: u32) -> u32 {
+    (0..pool.settings.width)
+        .map(|j| ahead_in_sub(pool, j, stamp))
+        .sum()
+}
+
+fn ahead_in_sub(pool: &Pool, j: u32, stamp: u32) -> u32 {
+    let mut ahead = 0;
+    for row in held_rows(pool, j) {
+        let other = pool.cell(j, row, layout::CELL_STAMP);
+        let counts = if pool.is_queue() {
+            other < stamp
+        } else {
+            other > stamp
+        };
+        ahead += u32::from(counts);
+    }
+    ahead
+}
+
+/// Queue: rows taken + 1 to put. Stack: rows 1 to held.
+fn held_rows(pool: &Pool, j: u32) -> impl Iterator<Item = u32> {
+    let below = if pool.is_queue() {
+        pool.sub(j, layout::ITEMS_TAKEN)
+    } else {
+        0
+    };
+    (1..=pool.items(j)).map(move |k| below + k)
+}
