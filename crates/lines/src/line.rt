@@ -7,7 +7,7 @@ ghost use Rattle.lines.specs.Lines.{decimal, lineOf, numbersOf, closingO
 ghost use Rattle.lines.specs.Area.{written, putBefore, putLast, usedPart};
 
 // A line's area. The longest line has 91 bytes: 20 digits of the position, 3 of the worker, 10 of each other number, and a byte after each.
-const LINE_BYTES: usize = 96;
+pub const LINE_BYTES: usize = 96;
 
 // The eight numbers of a line. A run file's worker is below 64, so a byte holds it; with 32 bits a line could pass the area.
 pub struct Entry {

@@ -3,19 +3,15 @@
 use libc::STDERR_FILENO;
 use libc::STDIN_FILENO;
 use libc::STDOUT_FILENO;
+use lines::LINE_BYTES;
 use listing::Stretch;
 use listing::begin;
+use listing::lent_words;
 use listing::list_words;
 ghost use mathlib.Core.Path.{_≡_};
 ghost use Prim.Native.Nat.{_-_, _%_, _<_, _≤_};
 ghost use lib.ListN.{length, drop};
 ghost use lib.Seq.{paste};
-
-// The words that are lent to the pool: 12 + 2 * 16 + 8 * 32 + 2 * 4096, enough for the largest one.
-const POOL_WORDS: usize = 8492;
-
-// The room that a line may need.
-const LINE_BYTES: usize = 96;
 
 // How far the program is: the listing, the bytes of a cut word at the front of the input, and whether to read on.
 struct Run {
@@ -147,7 +143,7 @@ fn list_some(words: &mut [u32], run: Run, src: &mut [u8], out: &mut [u8]) -> Run
 }
 
 fn main() {
-    let mut words = [0u32; POOL_WORDS];
+    let mut words = lent_words();
     let mut src = io::large_buffer();
     let mut out = io::large_buffer();
     let mut run = Run {

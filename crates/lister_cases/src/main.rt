@@ -3,14 +3,12 @@
 // The files are those of examples/, packed.
 use libc::STDOUT_FILENO;
 use listing::begin;
+use listing::lent_words;
 use listing::list_words;
-
-// The words that the lister lends.
-const POOL_WORDS: usize = 8492;
 
 // Writes the listing of a file, and an empty line.
 fn show(file: &[u8]) {
-    let mut words = [0u32; POOL_WORDS];
+    let mut words = lent_words();
     let mut out = io::buffer();
     let s = list_words(&mut words, begin(), file, true, &mut out);
     let used = s.used;

@@ -11,9 +11,9 @@ use Rattle.laws.specs.Choice.{cond, cases}
 use Rattle.runfile.specs.Words.{readsOf, readAt}
 use Rattle.runfile.specs.declared.word.Read.{Read}
 use Rattle.listing.specs.Listing.{Line, textOf, linesOf, listingOf, lentWords}
-use Rattle.listing.specs.Turn.{Turned, turnOf, newLister}
+use Rattle.listing.specs.Turn.{Turned, turnOf}
 use Rattle.listing.specs.Turns.{listedThen, turnsFrom, turnsOf}
-use Rattle.listing.specs.Stretch.{listedText, endsWith, putAt, Stretched, stretched, turnPut, stretchTurn, goesOn, stretchFrom, turnsIn, stretchOf}
+use Rattle.listing.specs.Stretch.{newStretch, listedText, endsWith, putAt, Stretched, stretched, turnPut, stretchTurn, goesOn, stretchFrom, turnsIn, stretchOf}
 use Rattle.listing.specs.Progress.{ToCome, Progress, Piece}
 use Rattle.listing.specs.declared.answer.Lister.{Lister}
 use Rattle.listing.specs.declared.answer.Listed.{Listed}
@@ -130,7 +130,7 @@ module _ (bytes : List ℕ) (p : ℕ) (src : List ℕ) (last : Bool) (piece : Pi
 
 -- before the first word
 pub begins : (bytes out : List ℕ) → length bytes < 2 ^ 64
-    → Progress bytes 0 [] (stretched (record { lister = newLister; at = 0; used = 0; complete = false }) (replicate lentWords 0) out)
+    → Progress bytes 0 [] (stretched newStretch (replicate lentWords 0) out)
 unfolding listingOf turnsOf
 begins bytes out few = let all : length bytes / 4 + 1 - 0 ≡ length bytes / 4 + 1 = omega arith in rw all (ap textOf (turns-list bytes few))
 

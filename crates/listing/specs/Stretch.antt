@@ -9,10 +9,14 @@ use Rattle.laws.specs.Choice.{cond}
 use Rattle.runfile.specs.Words.{readAt}
 use Rattle.lines.specs.Lines.{lineOf, numbersOf, closingOf}
 use Rattle.lines.specs.Area.{lineBytes}
-use Rattle.listing.specs.Turn.{Turned, turnOf}
+use Rattle.listing.specs.Turn.{Turned, newLister, turnOf}
 use Rattle.listing.specs.declared.answer.Listed.{Listed}
 use Rattle.listing.specs.declared.answer.Listed.the-variants.{Nothing, Line, Last, Closing}
 use Rattle.listing.specs.declared.stretch.Stretch.{Stretch}
+
+-- before a file's first word
+abbrev pub newStretch : Stretch
+newStretch = record { lister = newLister; at = 0; used = 0; complete = false }
 
 -- what a turn prints, as text
 abbrev pub listedText : Listed → List ℕ

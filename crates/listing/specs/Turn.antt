@@ -4,6 +4,8 @@ use Prim.Native.Nat.{ℕ, _+_, _%_, _^_, max}
 use mathlib.Core.List.{List}
 use lib.Dec.{eqb}
 use Rattle.laws.specs.Choice.{cond}
+use Rattle.rules.specs.declared.Row.{Row}
+use Rattle.rules.specs.declared.Stamp.{Stamp}
 use Rattle.rules.specs.declared.Answer.{Answer}
 use Rattle.rules.specs.declared.Answer.the-variants.{Moving, Put, Taken, Empty, Full, Refused}
 use Rattle.runfile.specs.Items.{itemOf}
@@ -44,6 +46,11 @@ abbrev pub plain : ℕ → ℕ → ℕ → Entry
 plain position number worker =
     record { position = position; number = number; worker = worker; value = 0; sub = 0; row = 0; stamp = 0; distance = 0 }
 
+-- the entry of an item that was put or taken
+abbrev pub itemEntry : ℕ → ℕ → ℕ → ℕ → ℕ → Row → Stamp → ℕ → Entry
+itemEntry position number worker value sub row stamp distance =
+    record { position = position; number = number; worker = worker; value = value; sub = sub; row = row .0; stamp = stamp .0; distance = distance }
+
 -- ---- turns
 -- nothing is printed
 abbrev pub quietTurn : Lister → Turn
@@ -59,10 +66,8 @@ lineTurn l e =
 -- ---- a word
 unfoldable pub answerTurn : Lister → ℕ → Answer → Turn
 answerTurn l worker Moving = quietTurn l
-answerTurn l worker (Put value sub row stamp) =
-    lineTurn l (record { position = l .position; number = 1; worker = worker; value = value; sub = sub; row = row .0; stamp = stamp .0; distance = 0 })
-answerTurn l worker (Taken value sub row stamp distance) =
-    lineTurn l (record { position = l .position; number = 2; worker = worker; value = value; sub = sub; row = row .0; stamp = stamp .0; distance = distance })
+answerTurn l worker (Put value sub row stamp) = lineTurn l (itemEntry (l .position) 1 worker value sub row stamp 0)
+answerTurn l worker (Taken value sub row stamp distance) = lineTurn l (itemEntry (l .position) 2 worker value sub row stamp distance)
 answerTurn l worker Empty = lineTurn l (plain (l .position) 3 worker)
 answerTurn l worker Full = lineTurn l (plain (l .position) 4 worker)
 answerTurn l worker (Refused n) = lineTurn l (plain (l .position) n worker)

@@ -1,12 +1,14 @@
 // The lister's state, and what an answer adds to the listing.
 use lines::Entry;
 use rules::Answer;
+use rules::Row;
+use rules::Stamp;
 use runfile::item::Place;
 ghost use mathlib.Core.Path.{_≡_};
 ghost use Prim.Native.Nat.{max};
 ghost use Rattle.listing.specs.Listing.{distanceIn, cappedOf};
 ghost use Rattle.listing.specs.Listing.{stops as Listing·stops};
-ghost use Rattle.listing.specs.Turn.{plain, quietTurn, lineTurn, answerTurn, cappedTurn};
+ghost use Rattle.listing.specs.Turn.{plain, itemEntry, quietTurn, lineTurn, answerTurn, cappedTurn};
 
 // Where the lister is in a file: the next word's place and position, the greatest distance listed, and the bound on one.
 pub struct Lister {
@@ -106,6 +108,34 @@ pub fn line(l: Lister, e: Entry) -> Turn
     }
 }
 
+// The line of an item that was put or taken.
+fn item_line(
+    l: Lister,
+    number: u32,
+    worker: u8,
+    value: u32,
+    sub: u32,
+    row: Row,
+    stamp: Stamp,
+    distance: u32,
+) -> Turn
+    ensures { λ r. ⌜ r ≡ lineTurn l (itemEntry (l .position) number worker value sub row stamp distance) ⌝ }
+{
+    line(
+        l,
+        Entry {
+            position: l.position,
+            number,
+            worker,
+            value,
+            sub,
+            row: row.0,
+            stamp: stamp.0,
+            distance,
+        },
+    )
+}
+
 // What is printed of an answer.
 fn answered(l: Lister, worker: u8, a: Answer) -> Turn
     ensures { λ r. ⌜ r ≡ answerTurn l worker a ⌝ }
@@ -117,38 +147,14 @@ fn answered(l: Lister, worker: u8, a: Answer) -> Turn
             sub,
             row,
             stamp,
-        } => line(
-            l,
-            Entry {
-                position: l.position,
-                number: 1,
-                worker,
-                value,
-                sub,
-                row: row.0,
-                stamp: stamp.0,
-                distance: 0,
-            },
-        ),
+        } => item_line(l, 1, worker, value, sub, row, stamp, 0),
         Answer::Taken {
             value,
             sub,
             row,
             stamp,
             distance,
-        } => line(
-            l,
-            Entry {
-                position: l.position,
-                number: 2,
-                worker,
-                value,
-                sub,
-                row: row.0,
-                stamp: stamp.0,
-                distance,
-            },
-        ),
+        } => item_line(l, 2, worker, value, sub, row, stamp, distance),
         Answer::Empty => line(l, plain_entry(l.position, 3, worker)),
         Answer::Full => line(l, plain_entry(l.position, 4, worker)),
         Answer::Refused(n) => line(l, plain_entry(l.position, n, worker)),

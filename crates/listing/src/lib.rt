@@ -10,5 +10,6 @@ pub use answer::Turn;
 pub use stretch::Stretch;
 pub use stretch::begin;
 pub use stretch::list_words;
+pub use turn::lent_words;
 pub use turn::list_next;
 pub use turn::start;

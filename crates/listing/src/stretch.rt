@@ -4,19 +4,15 @@ use crate::answer::Lister;
 use crate::turn::list_next;
 use crate::turn::start;
 use lines::Entry;
+use lines::LINE_BYTES;
 use lines::closing_text;
 use lines::entry_text;
 ghost use mathlib.Core.Path.{_≡_};
-ghost use mathlib.Core.Bool.{false};
 ghost use Prim.Native.Nat.{_+_, _<_, _≤_, _^_};
 ghost use lib.ListN.{length};
 ghost use Rattle.lines.specs.Area.{lineBytes};
 ghost use Rattle.lines.specs.Lines.{lineOf, numbersOf, closingOf};
-ghost use Rattle.listing.specs.Stretch.{listedText, endsWith, putAt, goesOn, turnsIn, stretched, stretchTurn, stretchOf};
-ghost use Rattle.listing.specs.Turn.{newLister};
-
-// A line's area, and the room that a line may need.
-const LINE_BYTES: usize = 96;
+ghost use Rattle.listing.specs.Stretch.{newStretch, listedText, endsWith, putAt, goesOn, turnsIn, stretched, stretchTurn, stretchOf};
 
 // How far a listing is: the lister, the position of the next word in the lent bytes, the bytes of output used, and whether the
 // listing is complete.
@@ -29,7 +25,7 @@ pub struct Stretch {
 
 // Before a file's first word.
 pub fn begin() -> Stretch
-    ensures { λ r. ⌜ r ≡ record { lister = newLister; at = 0; used = 0; complete = false } ⌝ }
+    ensures { λ r. ⌜ r ≡ newStretch ⌝ }
 {
     Stretch {
         lister: start(),

@@ -16,10 +16,21 @@ use runfile::item::fault;
 use runfile::reader::read_word;
 use runfile::word::Read;
 ghost use mathlib.Core.Path.{_≡_};
+ghost use lib.ListN.{replicate};
 ghost use Rattle.rules.specs.Limits.{Bounds};
-ghost use Rattle.listing.specs.Listing.{mostPassed, boundIn};
+ghost use Rattle.listing.specs.Listing.{mostPassed, boundIn, lentWords};
 ghost use Rattle.listing.specs.Turn.{turned, newLister, placed, callTurn, wordTurn, endTurn, turnOf};
 ghost use Rattle.runfile.specs.Words.{readAt};
+
+// The words that are lent to the pool: 12 + 2 * 16 + 8 * 32 + 2 * 4096, enough for the largest one.
+const POOL_WORDS: usize = 8492;
+
+// The lent words before a file's first word.
+pub fn lent_words() -> [u32; POOL_WORDS]
+    ensures { λ r. ⌜ r ≡ replicate lentWords 0 ⌝ }
+{
+    [0; POOL_WORDS]
+}
 
 // The lister before a file's first word.
 pub fn start() -> Lister

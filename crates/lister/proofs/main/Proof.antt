@@ -1,8 +1,8 @@
 -- `lister::main` is safe and ends: at most 2^64 - 1 reads. At each of them the arrays have their lengths, fewer than four bytes are carried over, and what is used lies inside the output.
 -- Assumes nothing.
-use native.Mathlib.Omega.{arith}
 use Prim.Native.Nat.{_<_, _≤_}
-use mathlib.Core.Path.{_≡_}
+use mathlib.Core.Path.{_≡_, ap}
+use native.Mathlib.Omega.{arith}
 use borrow.Author.Needs.{needs}
 use lib.ListN.{length}
 use Rattle.lister.proofs.main.Statement.{statement}
@@ -15,6 +15,9 @@ Inv-loop words₀ src₀ out₀ run₀ reads₀ words src out run reads =
 abbrev μ-loop : tie.MeasureT-loop
 μ-loop words₀ src₀ out₀ run₀ reads₀ words src out run reads = reads
 
+lent-words-requires : tie.Need-lent-words-requires Inv-loop μ-loop
+lent-words-requires c κs = search needs
+
 large-buffer-requires : tie.Need-large-buffer-requires Inv-loop μ-loop
 large-buffer-requires c κs = search needs
 
@@ -26,8 +29,7 @@ begin-requires c κs = search needs
 
 loop-holds : tie.Need-loop-holds Inv-loop μ-loop
 loop-holds c =
-    let s = c .begin .ensures in
-    (search needs, search needs, search needs, search needs, rw s (omega arith))
+    (ap length (c .before .before .before .lent-words .ensures), search needs, search needs, search needs, rw (c .begin .ensures) (omega arith))
 
 slice-aggregate-list-some : tie.Need-slice-aggregate-list-some Inv-loop μ-loop
 slice-aggregate-list-some c = search needs
@@ -65,6 +67,7 @@ main-spec =
     (tie.spec
     Inv-loop
     μ-loop
+    lent-words-requires
     large-buffer-requires
     large-buffer-requires-2
     begin-requires

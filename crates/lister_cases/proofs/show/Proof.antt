@@ -9,6 +9,9 @@ use borrow.Author.Needs.{needs}
 use Rattle.lister_cases.proofs.show.Statement.{statement}
 use Rattle.lister_cases.proofs.show.Tie as tie
 
+lent-words-requires : tie.Need-lent-words-requires
+lent-words-requires c κs = search needs
+
 buffer-requires : tie.Need-buffer-requires
 buffer-requires c κs = search needs
 
@@ -51,6 +54,7 @@ pub show-spec : {M : Type 1} → statement M
 show-spec =
     tie.close
     (tie.spec
+    lent-words-requires
     buffer-requires
     slice-aggregate-list-words
     begin-requires
