@@ -14,6 +14,7 @@ use Rattle.rules.specs.Held.{itemsAbove, heldSub, heldBelow, countItems, distan
 use Rattle.rules.specs.Limits.{settingsFit}
 use Rattle.rules.specs.Make.{zeroed, indexed, madeWords, makeOf}
 use Rattle.rules.specs.Read.{missOf, queuePutRead, queueTakeRead, stackRead}
+use Rattle.rules.specs.Sequential.{mostPassed}
 use Rattle.rules.specs.Shift.{shiftBy, queueShift, stackShift}
 use Rattle.rules.specs.Step.{ruleBy, ruleOf, slotStep, fitStep, checkedStep, stepOf}
 use Rattle.rules.specs.Window.{windowRule}
@@ -22,7 +23,7 @@ use Rattle.runfile.specs.File.{fileFrom, fileOf}
 use Rattle.runfile.specs.Items.{firstOf, secondOf, laterOf, itemOf}
 use Rattle.runfile.specs.Words.{readsOf, readAt}
 use Rattle.lines.specs.Lines.{digitsOf, decimal, lineOf, closingOf}
-use Rattle.listing.specs.Listing.{entry, closing, mostPassed, boundIn, cappedOf, stops, heldBy, heldOf, linesFrom, linesOf, textOf, listingOf}
+use Rattle.listing.specs.Listing.{entry, closing, boundIn, cappedOf, stops, heldBy, heldOf, linesFrom, linesOf, textOf, listingOf}
 
 -- words, each stored low byte first
 stored : List ℕ → List ℕ

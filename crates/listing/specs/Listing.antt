@@ -1,7 +1,7 @@
 -- THE LISTING of a run file: its lines as numbers, and as text.
 -- "For each answer 1 to 4 and each refusal it prints word position, number, worker, value, sub, row, stamp, distance. [..]
 -- The lister stops after 22, 28, 29, 30, else ends with held H worst D."
-use Prim.Native.Nat.{ℕ, _+_, _*_, _-_, max}
+use Prim.Native.Nat.{ℕ, _+_, _*_, max}
 use mathlib.Core.List.{List, [], _∷_, _++_}
 use mathlib.Core.Bool.{Bool, true, false}
 use lib.ListN.{length, replicate}
@@ -14,6 +14,7 @@ use Rattle.rules.specs.Make.{makeOf}
 use Rattle.rules.specs.Begin.{beginPutOf, beginTakeOf}
 use Rattle.rules.specs.Step.{stepOf}
 use Rattle.rules.specs.Held.{heldItems}
+use Rattle.rules.specs.Sequential.{mostPassed}
 use Rattle.rules.specs.declared.Settings.{Settings}
 use Rattle.rules.specs.declared.Checked.{Checked}
 use Rattle.rules.specs.declared.Checked.the-variants.{Unfit, Fit}
@@ -30,11 +31,7 @@ pub data Line : Type 0 where
   closing : ℕ → ℕ → Line
 
 -- ---- calls
--- demand 3's bound on a distance: the most items that a take may pass over
-unfoldable pub mostPassed : Settings → ℕ
-mostPassed g = cond (eqb (g .kind) 0) ((g .width - 1) * g .depth) ((g .width - 1) * (2 * g .depth + 2 * g .shift))
-
--- the bound of the pool of some settings; none is made of settings off limits
+-- demand 3's bound on the distances of a pool of some settings; none is made of settings off limits
 unfoldable pub boundIn : Settings → ℕ
 boundIn g = cond (settingsFit g) (mostPassed g) 0
 

@@ -18,7 +18,8 @@ use runfile::word::Read;
 ghost use mathlib.Core.Path.{_≡_};
 ghost use lib.ListN.{replicate};
 ghost use Rattle.rules.specs.Limits.{Bounds};
-ghost use Rattle.listing.specs.Listing.{mostPassed, boundIn, lentWords};
+ghost use Rattle.rules.specs.Sequential.{mostPassed};
+ghost use Rattle.listing.specs.Listing.{boundIn, lentWords};
 ghost use Rattle.listing.specs.Turn.{turned, newLister, placed, callTurn, wordTurn, endTurn, turnOf};
 ghost use Rattle.runfile.specs.Words.{readAt};
 

@@ -4,7 +4,7 @@ use Prim.Native.Nat.{_+_, _*_, _-_, _≤_}
 use native.Mathlib.Nat.{mul-le-mul-right}
 use Rattle.laws.specs.Tests.{tests}
 use Rattle.laws.specs.Choice.{cond}
-use Rattle.listing.specs.Listing.{mostPassed}
+use Rattle.rules.specs.Sequential.{mostPassed}
 use borrow.Author.Needs.{needs}
 use Rattle.listing.proofs.turn.most_passed.Statement.{statement}
 use Rattle.listing.proofs.turn.most_passed.Tie as tie
