@@ -3,6 +3,7 @@
 
 mod machine;
 mod measure;
+mod side;
 mod tables;
 mod workload;
 
@@ -10,9 +11,14 @@ fn main() {
     println!("# Benchmark\n");
     println!("- Machine: {}, {}", machine::uname(), machine::cpu());
     println!("- Date: {}", machine::date());
-    println!("- Sides: the compiled library through its C interface; `fast`, the second");
-    println!("  implementation made fast, with the same checks and the same answers.");
-    println!("- Each number is the median of fifteen rounds; the sides take turns, and make the");
+    println!(
+        "- Sides: the compiled library, called as C calls it; `fast`, the second implementation"
+    );
+    println!("  made fast, with the same checks and the same answers, called as Rust calls it.");
+    println!(
+        "- Each number is the median of {} rounds; the sides take turns, and make the",
+        measure::ROUNDS
+    );
     println!("  same calls on the same words, which are compared afterwards.");
     println!("- Workers take turns with whole operations, each from its begin to its answer. A");
     println!("  take's last call counts its distance over all held items.\n");

@@ -1,12 +1,13 @@
 //! Time per call of both sides, round by round in turn; the median counts.
 
+use crate::side::{Compiled, Fast, Side};
 use crate::workload::Workload;
-use sides::{Call, Implementation, COMPILED, FAST};
+use sides::Call;
 use std::hint::black_box;
 use std::time::{Duration, Instant};
 
 /// Rounds per measurement; the order of the sides alternates.
-const ROUNDS: usize = 15;
+pub const ROUNDS: usize = 51;
 /// Calls timed per round and side, at least.
 const CALLS: usize = 4_000;
 
@@ -35,15 +36,15 @@ struct Rounds {
 pub fn measure(workload: &Workload) -> Measured {
     let (mut compiled, mut fast) = (Rounds::default(), Rounds::default());
     // One round to warm up.
-    time(&COMPILED, workload, &mut Rounds::default());
-    time(&FAST, workload, &mut Rounds::default());
+    time::<Compiled>(workload, &mut Rounds::default());
+    time::<Fast>(workload, &mut Rounds::default());
     for round in 0..ROUNDS {
         if round % 2 == 0 {
-            time(&COMPILED, workload, &mut compiled);
-            time(&FAST, workload, &mut fast);
+            time::<Compiled>(workload, &mut compiled);
+            time::<Fast>(workload, &mut fast);
         } else {
-            time(&FAST, workload, &mut fast);
-            time(&COMPILED, workload, &mut compiled);
+            time::<Fast>(workload, &mut fast);
+            time::<Compiled>(workload, &mut compiled);
         }
     }
     Measured {
@@ -64,26 +65,27 @@ fn times(compiled: Vec<f64>, fast: Vec<f64>) -> Times {
     }
 }
 
-fn time(side: &Implementation, workload: &Workload, into: &mut Rounds) {
+fn time<S: Side + Default>(workload: &Workload, into: &mut Rounds) {
+    let mut side = S::default();
     let repeats = CALLS.div_ceil(workload.puts.len().min(workload.takes.len()));
     let mut words = workload.start.clone();
     let (mut puts, mut takes) = (Duration::ZERO, Duration::ZERO);
     for _ in 0..repeats {
         words.copy_from_slice(&workload.start);
-        puts += time_calls(side, &mut words, &workload.puts);
-        takes += time_calls(side, &mut words, &workload.takes);
+        puts += time_calls(&mut side, &mut words, &workload.puts);
+        takes += time_calls(&mut side, &mut words, &workload.takes);
     }
-    assert!(words == workload.end, "{} did something else", side.name);
+    assert!(words == workload.end, "{} did something else", S::NAME);
     into.puts
         .push(per_call(puts, repeats * workload.puts.len()));
     into.takes
         .push(per_call(takes, repeats * workload.takes.len()));
 }
 
-fn time_calls(side: &Implementation, words: &mut [u32], calls: &[Call]) -> Duration {
+fn time_calls<S: Side>(side: &mut S, words: &mut [u32], calls: &[Call]) -> Duration {
     let start = Instant::now();
     for call in calls {
-        black_box(side.call(black_box(words), *call));
+        side.call(black_box(&mut *words), *call);
     }
     start.elapsed()
 }

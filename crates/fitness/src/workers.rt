@@ -5,10 +5,32 @@ ghost use Prim.Native.Nat.{_+_, _*_, _≤_};
 ghost use lib.ListN.{length};
 ghost use Rattle.rules.specs.Fit.{phaseFit, wordFit, workersFit};
 
+// Whether `x` is a phase of a queue: a match, which the compiler turns into one look at a word of bits.
+fn queue_phase_fit(x: u32) -> bool
+    ensures { λ r. ⌜ r ≡ phaseFit 0 x ⌝ }
+{
+    match x {
+        0 => true,
+        1 => true,
+        2 => true,
+        4 => true,
+        5 => true,
+        9 => true,
+        10 => true,
+        12 => true,
+        13 => true,
+        14 => true,
+        _ => false,
+    }
+}
+
 // Whether `x` is a phase of a pool of the kind.
 fn phase_fit(kind: u32, x: u32) -> bool
     ensures { λ r. ⌜ r ≡ phaseFit kind x ⌝ }
 {
+    if kind == 0 {
+        return queue_phase_fit(x);
+    }
     if 14 < x {
         return false;
     }
@@ -17,18 +39,6 @@ fn phase_fit(kind: u32, x: u32) -> bool
     }
     if x == 8 {
         return false;
-    }
-    if kind == 0 {
-        if x == 3 {
-            return false;
-        }
-        if x == 6 {
-            return false;
-        }
-        if x == 11 {
-            return false;
-        }
-        return true;
     }
     true
 }

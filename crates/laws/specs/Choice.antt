@@ -2,7 +2,7 @@
 use Prim.Native.Nat.{ℕ, zero, suc, _+_, _<_}
 use mathlib.Core.Bool.{Bool, true, false, false≢true}
 use mathlib.Core.List.{List, [], _∷_}
-use mathlib.Core.Path.{_≡_, refl}
+use mathlib.Core.Path.{_≡_, refl, sym, _∙_}
 use mathlib.Core.Logic.{⊎-elim}
 use native.Mathlib.Nat.{eq-or-lt-of-le}
 use native.Mathlib.Numerals.{add-one}
@@ -85,3 +85,38 @@ allBelow-at zero p i h e = absurd (omega arith)
 allBelow-at (suc n) p i h e =
     let t = both-true (allBelow n p) (p n) e in
     ⊎-elim (λ (q : i ≡ n). rw q (t .1)) (λ (l : i < n). allBelow-at n p i l (t .0)) (eq-or-lt-of-le (omega arith))
+
+-- four numbers more
+abbrev pub fourFrom : ℕ → (ℕ → Bool) → Bool
+fourFrom i p = both (p i) (both (p (i + 1)) (both (p (i + 2)) (p (i + 3))))
+
+pub allBelow-four : (i : ℕ) (p : ℕ → Bool) → allBelow i p ≡ true → fourFrom i p ≡ true → allBelow (i + 4) p ≡ true
+allBelow-four i p h e =
+    let a = both-true (p i) _ e in
+    let b = both-true (p (i + 1)) _ (a .1) in
+    let c = both-true (p (i + 2)) _ (b .1) in
+    let one = allBelow-more i p h (a .0) in
+    let two = allBelow-more (i + 1) p one (b .0) in
+    let two′ : allBelow (i + 2) p ≡ true = rw (← two-is) two in
+    let three = allBelow-more (i + 2) p two′ (c .0) in
+    let three′ : allBelow (i + 3) p ≡ true = rw (← three-is) three in
+    rw (← four-is) (allBelow-more (i + 3) p three′ (c .1))
+  where
+    two-is : i + 1 + 1 ≡ i + 2
+    two-is = omega arith
+
+    three-is : i + 2 + 1 ≡ i + 3
+    three-is = omega arith
+
+    four-is : i + 3 + 1 ≡ i + 4
+    four-is = omega arith
+
+pub allBelow-four-fails : (n : ℕ) (p : ℕ → Bool) (i : ℕ) → i + 3 < n → fourFrom i p ≡ false → allBelow n p ≡ false
+allBelow-four-fails n p i l e = go (allBelow n p) refl
+  where
+    go : (b : Bool) → allBelow n p ≡ b → allBelow n p ≡ false
+    go false h = h
+    go true h =
+        let at : (k : ℕ) → k < n → p k ≡ true = λ k m. allBelow-at n p k m h in
+        let four : fourFrom i p ≡ true = rw (at i (omega arith), at (i + 1) (omega arith), at (i + 2) (omega arith), at (i + 3) (omega arith)) refl in
+        absurd (false≢true (sym e ∙ four))

@@ -32,7 +32,7 @@ fn shifted(v: View, side: Side, top: u32, mark: u32) -> Effect
         kept,
     );
     Effect {
-        outcome: Outcome::Moving,
+        outcome: Outcome::Shifted,
         slot,
         top,
         mark,

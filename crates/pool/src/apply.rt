@@ -16,7 +16,7 @@ ghost use Rattle.rules.specs.Answers.{out};
 ghost use Rattle.rules.specs.Fit.{FitPool};
 ghost use Rattle.rules.specs.Layout.{Lent, needed};
 ghost use Rattle.rules.specs.Limits.{Bounds};
-ghost use Rattle.rules.specs.Apply.{putItem, putView, takenOf, applyOf};
+ghost use Rattle.rules.specs.Apply.{putItem, putSub, putLanded, putShifted, putWorker, takenOf, applyOf};
 
 // Writes an item into the cell of its row.
 fn put_item(words: &mut [u32], g: Settings, j: u32, value: u32, row: Row, stamp: Stamp)
@@ -29,20 +29,46 @@ fn put_item(words: &mut [u32], g: Settings, j: u32, value: u32, row: Row, stamp:
     words[cell + 1] = stamp.0;
 }
 
-// Writes all that a step may read, and counts the step.
-fn put_view(words: &mut [u32], at: usize, j: u32, e: Effect)
-    requires { ⌜ (12 ≤ at) × (at + 8 ≤ length (now words)) ⌝ }
+// Writes the two words of sub `j`.
+fn put_sub(words: &mut [u32], j: u32, e: Effect)
     requires { ⌜ 12 + 2 * j + 2 ≤ length (now words) ⌝ }
-    ensures { λ r. ⌜ now (words .exit) ≡ putView (now (words .entry)) at j e ⌝ }
+    ensures { λ r. ⌜ now (words .exit) ≡ putSub (now (words .entry)) j e ⌝ }
 {
     let sub = 12 + 2 * (j as usize);
-    let steps = plus(words[6], 1);
-    words[6] = steps;
-    words[7] = e.puts;
-    words[8] = e.top;
-    words[9] = e.mark;
     words[sub] = e.first;
     words[sub + 1] = e.second;
+}
+
+// Writes an item, the count of puts, and sub `j`.
+fn put_landed(words: &mut [u32], g: Settings, j: u32, e: Effect)
+    requires { ⌜ Bounds g ⌝ }
+    requires { ⌜ (needed g ≤ length (now words)) × (j < g .width) ⌝ }
+    ensures { λ r. ⌜ now (words .exit) ≡ putLanded (now (words .entry)) g j e ⌝ }
+{
+    let value = e.value;
+    let row = e.row;
+    let stamp = Stamp(e.puts);
+    put_item(words, g, j, value, row, stamp);
+    words[7] = e.puts;
+    put_sub(words, j, e);
+}
+
+// Writes the window's two words.
+fn put_shifted(words: &mut [u32], e: Effect)
+    requires { ⌜ 12 ≤ length (now words) ⌝ }
+    ensures { λ r. ⌜ now (words .exit) ≡ putShifted (now (words .entry)) e ⌝ }
+{
+    words[8] = e.top;
+    words[9] = e.mark;
+}
+
+// Counts the step, and writes the worker's words.
+fn put_worker(words: &mut [u32], at: usize, e: Effect)
+    requires { ⌜ (12 ≤ at) × (at + 8 ≤ length (now words)) ⌝ }
+    ensures { λ r. ⌜ now (words .exit) ≡ putWorker (now (words .entry)) at e ⌝ }
+{
+    let steps = plus(words[6], 1);
+    words[6] = steps;
     let slot = e.slot;
     store(words, at, slot);
 }
@@ -76,15 +102,20 @@ pub fn apply(words: &mut [u32], g: Settings, at: usize, j: u32, e: Effect) -> An
     match outcome {
         Outcome::Refused(n) => Answer::Refused(n),
         Outcome::Moving => {
-            put_view(words, at, j, e);
+            put_worker(words, at, e);
+            Answer::Moving
+        }
+        Outcome::Shifted => {
+            put_shifted(words, e);
+            put_worker(words, at, e);
             Answer::Moving
         }
         Outcome::Landed => {
             let value = e.value;
             let row = e.row;
             let stamp = Stamp(e.puts);
-            put_item(words, g, j, value, row, stamp);
-            put_view(words, at, j, e);
+            put_landed(words, g, j, e);
+            put_worker(words, at, e);
             Answer::Put {
                 value,
                 sub: j,
@@ -95,15 +126,16 @@ pub fn apply(words: &mut [u32], g: Settings, at: usize, j: u32, e: Effect) -> An
         Outcome::Removed => {
             let row = e.row;
             let answer = taken(words, g, j, row);
-            put_view(words, at, j, e);
+            put_sub(words, j, e);
+            put_worker(words, at, e);
             answer
         }
         Outcome::Empty => {
-            put_view(words, at, j, e);
+            put_worker(words, at, e);
             Answer::Empty
         }
         Outcome::Full => {
-            put_view(words, at, j, e);
+            put_worker(words, at, e);
             Answer::Full
         }
     }

@@ -7,17 +7,33 @@ ghost use lib.ListN.{length};
 ghost use Rattle.rules.specs.Fit.{SubFits, FitPool};
 ghost use Rattle.rules.specs.Layout.{needed, firstOf, secondOf};
 ghost use Rattle.rules.specs.Limits.{Bounds};
-ghost use Rattle.rules.specs.Held.{stampUpTo, passedOver, cellItems, countItems, heldSub, distanceOf};
+ghost use Rattle.rules.specs.Held.{passedOver, cellItems, countItems, heldSub, distanceOf};
 
-// How many of the first `count` cells have a stamp of at most `s`.
-fn stamps_upto(cells: &[u32], count: usize, s: u32) -> u32
+// How many of the first `count` cells have a stamp below `s`.
+fn stamps_below(cells: &[u32], count: usize, s: u32) -> u32
     requires { ⌜ (2 * count ≤ length (now cells)) × (count ≤ 1024) ⌝ }
-    ensures { λ r. ⌜ (r ≡ countItems (stampUpTo s) (cellItems (now (cells .entry)) 0 count)) × (r ≤ count) ⌝ }
+    ensures { λ r. ⌜ (r ≡ countItems (passedOver 0 s) (cellItems (now (cells .entry)) 0 count)) × (r ≤ count) ⌝ }
 {
     let mut n: u32 = 0;
     let mut k: usize = 0;
     while k < count {
-        if cells[2 * k + 1] <= s {
+        if cells[2 * k + 1] < s {
+            n += 1;
+        }
+        k += 1;
+    }
+    n
+}
+
+// How many of the first `count` cells have a stamp above `s`.
+fn stamps_above(cells: &[u32], count: usize, s: u32) -> u32
+    requires { ⌜ (2 * count ≤ length (now cells)) × (count ≤ 1024) ⌝ }
+    ensures { λ r. ⌜ (r ≡ countItems (passedOver 1 s) (cellItems (now (cells .entry)) 0 count)) × (r ≤ count) ⌝ }
+{
+    let mut n: u32 = 0;
+    let mut k: usize = 0;
+    while k < count {
+        if s < cells[2 * k + 1] {
             n += 1;
         }
         k += 1;
@@ -30,10 +46,7 @@ fn older(words: &[u32], at: usize, count: usize, s: u32) -> u32
     requires { ⌜ (at + 2 * count ≤ length (now words)) × (count ≤ 1024) ⌝ }
     ensures { λ r. ⌜ (r ≡ countItems (passedOver 0 s) (cellItems (now (words .entry)) at count)) × (r ≤ count) ⌝ }
 {
-    if s == 0 {
-        return 0;
-    }
-    stamps_upto(&words[at..], count, s - 1)
+    stamps_below(&words[at..], count, s)
 }
 
 // How many of the `count` cells from word `at` on have a stamp above `s`.
@@ -41,7 +54,7 @@ fn newer(words: &[u32], at: usize, count: usize, s: u32) -> u32
     requires { ⌜ (at + 2 * count ≤ length (now words)) × (count ≤ 1024) ⌝ }
     ensures { λ r. ⌜ (r ≡ countItems (passedOver 1 s) (cellItems (now (words .entry)) at count)) × (r ≤ count) ⌝ }
 {
-    (count as u32) - stamps_upto(&words[at..], count, s)
+    stamps_above(&words[at..], count, s)
 }
 
 // How many held items of a queue's sub `j` are older than stamp `s`: up to the last cell, and on from the first.

@@ -16,7 +16,7 @@ use Rattle.laws.specs.Wrap.{sub32}
 use Rattle.rules.specs.Layout.{cellsAt, cellAt, firstOf, secondOf}
 use Rattle.rules.specs.Limits.{Bounds}
 use Rattle.rules.specs.Fit.{SubFits}
-use Rattle.rules.specs.Held.{Item, rowsBelow, rowsHeld, itemsAbove, heldSub, heldBelow, cellItems, countItems, passedOver, stampUpTo}
+use Rattle.rules.specs.Held.{Item, rowsBelow, rowsHeld, itemsAbove, heldSub, heldBelow, cellItems, countItems, passedOver}
 use Rattle.rules.specs.declared.Settings.{Settings}
 
 -- ---- cells
@@ -57,19 +57,29 @@ module _ (p : Item → Bool) (ws : List ℕ) (at k : ℕ) where
   pub cells-miss : p next ≡ false → countItems p (cellItems ws at (k + 1)) ≡ countItems p (cellItems ws at k)
   cells-miss e = cells-more p ws at k ∙ simp (e, cond-false, add-zero)
 
--- one cell more from the first word on, whose stamp is at most s, or not
+-- one cell more from the first word on, older than s or not, newer or not
 module _ (ws : List ℕ) (k s : ℕ) where
-  abbrev counted : ℕ → ℕ
-  counted n = countItems (stampUpTo s) (cellItems ws 0 n)
+  abbrev counted : ℕ → ℕ → ℕ
+  counted kind n = countItems (passedOver kind s) (cellItems ws 0 n)
 
   place : 0 + 2 * k + 1 ≡ 2 * k + 1
   place = omega arith
 
-  pub stamp-within : getD ws (2 * k + 1) 0 ≤ s → counted (k + 1) ≡ counted k + 1
-  stamp-within h = cells-hit (stampUpTo s) ws 0 k (le-leb (getD ws (0 + 2 * k + 1) 0) s (rw place h))
+  pub older-cell : getD ws (2 * k + 1) 0 < s → counted 0 (k + 1) ≡ counted 0 k + 1
+  unfolding cond
+  older-cell h = cells-hit (passedOver 0 s) ws 0 k (lt-ltb (getD ws (0 + 2 * k + 1) 0) s (rw place h))
 
-  pub stamp-above : s < getD ws (2 * k + 1) 0 → counted (k + 1) ≡ counted k
-  stamp-above h = cells-miss (stampUpTo s) ws 0 k (lt-leb (getD ws (0 + 2 * k + 1) 0) s (rw place h))
+  pub not-older-cell : s ≤ getD ws (2 * k + 1) 0 → counted 0 (k + 1) ≡ counted 0 k
+  unfolding cond
+  not-older-cell h = cells-miss (passedOver 0 s) ws 0 k (le-ltb (getD ws (0 + 2 * k + 1) 0) s (rw place h))
+
+  pub newer-cell : s < getD ws (2 * k + 1) 0 → counted 1 (k + 1) ≡ counted 1 k + 1
+  unfolding cond
+  newer-cell h = cells-hit (passedOver 1 s) ws 0 k (lt-ltb s (getD ws (0 + 2 * k + 1) 0) (rw place h))
+
+  pub not-newer-cell : getD ws (2 * k + 1) 0 ≤ s → counted 1 (k + 1) ≡ counted 1 k
+  unfolding cond
+  not-newer-cell h = cells-miss (passedOver 1 s) ws 0 k (le-ltb s (getD ws (0 + 2 * k + 1) 0) (rw place h))
 
 -- the cells of a part of the words, from its start
 pub cells-part : (ws : List ℕ) (n at k : ℕ) → 2 * k ≤ n → cellItems (take n (drop at ws)) 0 k ≡ cellItems ws at k
@@ -84,37 +94,6 @@ cells-part ws n at (suc k) h =
       word (0 + 2 * k + 1) (at + 2 * k + 1) (omega arith) (omega arith),
     )
     refl
-
--- ---- older and newer stamps by those up to a bound
-pub older-none : (xs : List Item) → countItems (passedOver 0 0) xs ≡ 0
-unfolding countItems cond
-older-none [] = refl
-older-none (x ∷ xs) = rw (le-ltb (x .stamp) 0 (omega arith)) (omega (arith, older-none xs))
-
-pub older-upto : (s : ℕ) (xs : List Item) → countItems (passedOver 0 (s + 1)) xs ≡ countItems (stampUpTo s) xs
-unfolding countItems cond
-older-upto s [] = refl
-older-upto s (x ∷ xs) = go (leb (x .stamp) s) refl (older-upto s xs)
-  where
-    go : (b : Bool) → leb (x .stamp) s ≡ b → countItems (passedOver 0 (s + 1)) xs ≡ countItems (stampUpTo s) xs
-        → cond (ltb (x .stamp) (s + 1)) 1 0 + countItems (passedOver 0 (s + 1)) xs ≡ cond (leb (x .stamp) s) 1 0 + countItems (stampUpTo s) xs
-    go true e rest = let h = leb-true (x .stamp) s e in rw (e, lt-ltb (x .stamp) (s + 1) (omega arith)) (omega arith)
-    go false e rest = let h = leb-false (x .stamp) s e in rw (e, le-ltb (x .stamp) (s + 1) (omega arith)) (omega arith)
-
-pub newer-rest : (s : ℕ) (xs : List Item) → countItems (passedOver 1 s) xs + countItems (stampUpTo s) xs ≡ length xs
-unfolding countItems cond
-newer-rest s [] = refl
-newer-rest s (x ∷ xs) = go (leb (x .stamp) s) refl (newer-rest s xs)
-  where
-    go : (b : Bool) → leb (x .stamp) s ≡ b → countItems (passedOver 1 s) xs + countItems (stampUpTo s) xs ≡ length xs
-        → cond (ltb s (x .stamp)) 1 0 + countItems (passedOver 1 s) xs + (cond (leb (x .stamp) s) 1 0 + countItems (stampUpTo s) xs) ≡ length (x ∷ xs)
-    go true e rest = let h = leb-true (x .stamp) s e in rw (e, le-ltb s (x .stamp) h) (omega arith)
-    go false e rest = let h = leb-false (x .stamp) s e in rw (e, lt-ltb s (x .stamp) h) (omega arith)
-
-pub cells-length : (ws : List ℕ) (at k : ℕ) → length (cellItems ws at k) ≡ k
-unfolding cellItems
-cells-length ws at zero = refl
-cells-length ws at (suc k) = rw (length-append (cellItems ws at k) _) (omega (arith, cells-length ws at k))
 
 -- one sub more
 pub subs-none : (p : Item → Bool) (ws : List ℕ) (g : Settings) → countItems p (heldBelow ws g 0) ≡ 0

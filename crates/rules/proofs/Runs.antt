@@ -18,7 +18,7 @@ use Rattle.rules.specs.Sequential.{Contents}
 use Rattle.rules.specs.Run.{Call, beginPut, beginTake, step, callOf, run, at}
 use Rattle.rules.specs.Consequences.{wordsAfter, itemIn, itemsIn, hasStamp, NoSumWraps}
 use Rattle.rules.proofs.Types.{Settings, Side, Putting, Taking, Effect, Outcome}
-use Rattle.rules.specs.declared.Outcome.the-variants.{Refused, Moving, Landed, Removed, Empty, Full}
+use Rattle.rules.specs.declared.Outcome.the-variants.{Refused, Moving, Shifted, Landed, Removed, Empty, Full}
 use Rattle.rules.proofs.counts.Sums.{bit, bit-le}
 use Rattle.rules.proofs.order.Law.{Next}
 use Rattle.rules.proofs.Fitness.{settings-bounds}
@@ -26,7 +26,7 @@ use Rattle.rules.proofs.Cells.{count-append, held-fits}
 use Rattle.rules.proofs.machine.Machine.{State, viewIn, belowIn, applyIn, applyInBy, stepIn, beginIn, nextIn}
 use Rattle.rules.proofs.counts.Held.{count-none, held-count}
 use Rattle.rules.proofs.machine.Turns.{Common, Counts, Safe, Kind}
-use Rattle.rules.proofs.machine.Does.{SubAfter, rule-in}
+use Rattle.rules.proofs.machine.Does.{SharedAfter, rule-in}
 use Rattle.rules.proofs.order.Given.{item-of, item-not}
 use Rattle.rules.proofs.Transfer.{Related, next-related}
 use Rattle.rules.proofs.words.Says.{held-same}
@@ -121,11 +121,12 @@ module _ (g : Settings) (limits : settingsFit g ≡ true) (k : Kind g) where
   abbrev Fine : Next State → Type 0
   Fine o = (numberOf (o .answer) ≢ 21) × (numberOf (o .answer) ≢ 23)
 
-  not-21 : (s : State) (i : ℕ) (e : Effect) (o : Outcome) → SubAfter g (viewIn s i) e o → numberOf (applyInBy g s i e o .answer) ≢ 21
+  not-21 : (s : State) (i : ℕ) (e : Effect) (o : Outcome) → SharedAfter g (viewIn s i) e o → numberOf (applyInBy g s i e o .answer) ≢ 21
   unfolding applyInBy
   not-21 s i e (Refused n) (inl h) u = omega arith
   not-21 s i e (Refused n) (inr h) u = omega arith
   not-21 s i e Moving h u = omega arith
+  not-21 s i e Shifted h u = omega arith
   not-21 s i e Landed h u = omega arith
   not-21 s i e Removed h u = omega arith
   not-21 s i e Empty h u = omega arith
@@ -135,7 +136,7 @@ module _ (g : Settings) (limits : settingsFit g ≡ true) (k : Kind g) where
   unfolding applyIn
   fine-rule s q common inv i = (
     not-21 s i (ruleOf g (viewIn s i)) (ruleOf g (viewIn s i) .outcome)
-        (rule-in g (settings-bounds g limits) s common (k .counts s q inv) i .sub),
+        (rule-in g (settings-bounds g limits) s common (k .counts s q inv) i .shared),
     k .safe s q common inv .able i,
   )
 

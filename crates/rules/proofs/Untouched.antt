@@ -17,7 +17,7 @@ use Rattle.rules.specs.Worker.{putSlot, wordsOf}
 use Rattle.rules.specs.Fit.{checkedOf, FitPool}
 use Rattle.rules.specs.Make.{zeroed, newHead, indexed, madeWords, makeOf}
 use Rattle.rules.specs.Begin.{stepsSpent, slotBegin, fitBegin, checkedBegin, beginOf}
-use Rattle.rules.specs.Apply.{putItem, putView, applyBy, applyOf}
+use Rattle.rules.specs.Apply.{putItem, putSub, putLanded, putShifted, putWorker, applyBy, applyOf}
 use Rattle.rules.specs.Step.{slotStep, fitStep, checkedStep, stepOf}
 use Rattle.rules.specs.Untouched.{Beyond, MakeKeeps, BeginKeeps, StepKeeps}
 use Rattle.rules.specs.declared.Settings.{Settings}
@@ -25,7 +25,7 @@ use Rattle.rules.specs.declared.Side.{Side}
 use Rattle.rules.specs.declared.Slot.{Slot}
 use Rattle.rules.specs.declared.Effect.{Effect}
 use Rattle.rules.specs.declared.Outcome.{Outcome}
-use Rattle.rules.specs.declared.Outcome.the-variants.{Refused, Moving, Landed, Removed, Empty, Full}
+use Rattle.rules.specs.declared.Outcome.the-variants.{Refused, Moving, Shifted, Landed, Removed, Empty, Full}
 use Rattle.rules.specs.declared.Checked.{Checked}
 use Rattle.rules.specs.declared.Checked.the-variants.{Unfit, Fit}
 use Rattle.rules.proofs.Cells.{cell-lt}
@@ -100,16 +100,17 @@ begin-keeps ws i side value = go (checkedOf ws) refl
         (begin-fit-keeps g ws i side value)
 
 module _ (g : Settings) (ws : List ℕ) (fit : FitPool g ws) (i j : ℕ) (li : i < g .workers) (lj : j < g .width) where
-  view-keeps : (e : Effect) (after : List ℕ) → Beyond (needed g) ws after → Beyond (needed g) ws (putView after (workerAt g i) j e)
-  unfolding putView
-  view-keeps e after b =
-      slot-keeps g i (e .slot) ws _ li
-      (store-keeps _ _ _ ws _ (omega arith)
-      (store-keeps _ _ _ ws _ (omega arith)
-      (store-keeps _ _ _ ws _ (omega arith)
-      (store-keeps _ _ _ ws _ (omega arith)
-      (store-keeps _ _ _ ws _ (omega arith)
-      (store-keeps _ _ _ ws after (omega arith) b))))))
+  sub-keeps : (e : Effect) (after : List ℕ) → Beyond (needed g) ws after → Beyond (needed g) ws (putSub after j e)
+  unfolding putSub
+  sub-keeps e after b = store-keeps _ _ _ ws _ (omega arith) (store-keeps _ _ _ ws after (omega arith) b)
+
+  shifted-keeps : (e : Effect) → Beyond (needed g) ws (putShifted ws e)
+  unfolding putShifted
+  shifted-keeps e = store-keeps _ _ _ ws _ (omega arith) (store-keeps _ _ _ ws ws (omega arith) (unchanged _ ws))
+
+  worker-keeps : (e : Effect) (after : List ℕ) → Beyond (needed g) ws after → Beyond (needed g) ws (putWorker after (workerAt g i) e)
+  unfolding putWorker
+  worker-keeps e after b = slot-keeps g i (e .slot) ws _ li (store-keeps _ _ _ ws after (omega arith) b)
 
   item-keeps : (e : Effect) → Beyond (needed g) ws (putItem ws g j (e .value) (e .row) (record { 0 = e .puts }))
   unfolding putItem
@@ -117,14 +118,19 @@ module _ (g : Settings) (ws : List ℕ) (fit : FitPool g ws) (i j : ℕ) (li : i
       let low = cell-lt g j (sub32 (e .row .0) 1) (fit .bounds) lj in
       store-keeps _ _ _ ws _ (omega arith) (store-keeps _ _ _ ws ws (omega arith) (unchanged _ ws))
 
+  landed-keeps : (e : Effect) → Beyond (needed g) ws (putLanded ws g j e)
+  unfolding putLanded
+  landed-keeps e = sub-keeps e _ (store-keeps _ _ _ ws _ (omega arith) (item-keeps e))
+
   apply-keeps : (e : Effect) (o : Outcome) → Beyond (needed g) ws (applyBy ws g (workerAt g i) j e o .words)
   unfolding applyBy
   apply-keeps e (Refused n) = unchanged _ ws
-  apply-keeps e Moving = view-keeps e ws (unchanged _ ws)
-  apply-keeps e Landed = view-keeps e _ (item-keeps e)
-  apply-keeps e Removed = view-keeps e ws (unchanged _ ws)
-  apply-keeps e Empty = view-keeps e ws (unchanged _ ws)
-  apply-keeps e Full = view-keeps e ws (unchanged _ ws)
+  apply-keeps e Moving = worker-keeps e ws (unchanged _ ws)
+  apply-keeps e Shifted = worker-keeps e _ (shifted-keeps e)
+  apply-keeps e Landed = worker-keeps e _ (landed-keeps e)
+  apply-keeps e Removed = worker-keeps e _ (sub-keeps e ws (unchanged _ ws))
+  apply-keeps e Empty = worker-keeps e ws (unchanged _ ws)
+  apply-keeps e Full = worker-keeps e ws (unchanged _ ws)
 
 step-fit-keeps : (g : Settings) (ws : List ℕ) → FitPool g ws → (i : ℕ) → Beyond (needed g) ws (fitStep ws g i .words)
 unfolding fitStep slotStep applyOf

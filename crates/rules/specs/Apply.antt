@@ -12,7 +12,7 @@ use Rattle.rules.specs.declared.Row.{Row}
 use Rattle.rules.specs.declared.Stamp.{Stamp}
 use Rattle.rules.specs.declared.Effect.{Effect}
 use Rattle.rules.specs.declared.Outcome.{Outcome}
-use Rattle.rules.specs.declared.Outcome.the-variants.{Refused as Stays, Moving as Moves, Landed, Removed, Empty as NoItem, Full as NoRoom}
+use Rattle.rules.specs.declared.Outcome.the-variants.{Refused as Stays, Moving as Moves, Shifted, Landed, Removed, Empty as NoItem, Full as NoRoom}
 use Rattle.rules.specs.declared.Answer.{Answer}
 use Rattle.rules.specs.declared.Answer.the-variants.{Moving, Put, Taken, Empty, Full}
 
@@ -20,25 +20,24 @@ use Rattle.rules.specs.declared.Answer.the-variants.{Moving, Put, Taken,
 unfoldable pub putItem : List ℕ → Settings → ℕ → ℕ → Row → Stamp → List ℕ
 putItem ws g j value row stamp = set (set ws (cellAt g j (row .0)) value) (cellAt g j (row .0) + 1) (stamp .0)
 
--- all that the step read of the worker at `at` and of sub j, as it is afterwards, and the step counted
-unfoldable pub putView : List ℕ → ℕ → ℕ → Effect → List ℕ
-putView ws at j e =
-    putSlot
-    (set
-    (set
-    (set
-    (set
-    (set
-    (set ws stepsAt (add32 (getD ws stepsAt 0) 1))
-    putsAt (e .puts))
-    topAt (e .top))
-    markAt (e .mark))
-    (subAt j) (e .first))
-    (subAt j + 1) (e .second))
-    at (e .slot)
-
 abbrev pub stampOf : Effect → Stamp
 stampOf e = record { 0 = e .puts }
+
+-- the two words of sub j
+unfoldable pub putSub : List ℕ → ℕ → Effect → List ℕ
+putSub ws j e = set (set ws (subAt j) (e .first)) (subAt j + 1) (e .second)
+
+-- the item, the count of puts, and sub j
+unfoldable pub putLanded : List ℕ → Settings → ℕ → Effect → List ℕ
+putLanded ws g j e = putSub (set (putItem ws g j (e .value) (e .row) (stampOf e)) putsAt (e .puts)) j e
+
+-- the window's two words
+unfoldable pub putShifted : List ℕ → Effect → List ℕ
+putShifted ws e = set (set ws topAt (e .top)) markAt (e .mark)
+
+-- the worker's words, and the step counted
+unfoldable pub putWorker : List ℕ → ℕ → Effect → List ℕ
+putWorker ws at e = putSlot (set ws stepsAt (add32 (getD ws stepsAt 0) 1)) at (e .slot)
 
 -- 2: the row's item, and the distance just before
 unfoldable pub takenOf : List ℕ → Settings → ℕ → Row → Answer
@@ -48,12 +47,12 @@ takenOf ws g j row =
 
 unfoldable pub applyBy : List ℕ → Settings → ℕ → ℕ → Effect → Outcome → Out
 applyBy ws g at j e (Stays n) = refuse n ws
-applyBy ws g at j e Moves = out Moving (putView ws at j e)
-applyBy ws g at j e Landed =
-    out (Put (e .value) j (e .row) (stampOf e)) (putView (putItem ws g j (e .value) (e .row) (stampOf e)) at j e)
-applyBy ws g at j e Removed = out (takenOf ws g j (e .row)) (putView ws at j e)
-applyBy ws g at j e NoItem = out Empty (putView ws at j e)
-applyBy ws g at j e NoRoom = out Full (putView ws at j e)
+applyBy ws g at j e Moves = out Moving (putWorker ws at e)
+applyBy ws g at j e Shifted = out Moving (putWorker (putShifted ws e) at e)
+applyBy ws g at j e Landed = out (Put (e .value) j (e .row) (stampOf e)) (putWorker (putLanded ws g j e) at e)
+applyBy ws g at j e Removed = out (takenOf ws g j (e .row)) (putWorker (putSub ws j e) at e)
+applyBy ws g at j e NoItem = out Empty (putWorker ws at e)
+applyBy ws g at j e NoRoom = out Full (putWorker ws at e)
 
 -- an effect of the worker whose words start at `at` and whose sub is j
 unfoldable pub applyOf : List ℕ → Settings → ℕ → ℕ → Effect → Out

@@ -16,9 +16,13 @@ use Rattle.rules.specs.declared.Checked.the-variants.{Unfit, Fit}
 unfoldable pub headFit : List ℕ → Bool
 headFit ws = both (settingsFit (settingsOf ws)) (both (eqb (getD ws 10 0) 0) (eqb (getD ws 11 0) 0))
 
--- items taken at most items put, and put minus taken at most R; or held at most R
+-- items taken at most items put, and put minus taken at most R
+abbrev pub queueSubFit : ℕ → ℕ → ℕ → Bool
+queueSubFit rows put taken = both (leb taken put) (leb (put - taken) rows)
+
+-- or held at most R
 unfoldable pub subFit : Settings → ℕ → ℕ → Bool
-subFit g first second = cond (eqb (g .kind) 0) (both (leb second first) (leb (first - second) (g .rows))) (leb first (g .rows))
+subFit g first second = cond (eqb (g .kind) 0) (queueSubFit (g .rows) first second) (leb first (g .rows))
 
 unfoldable pub subsFit : List ℕ → Settings → Bool
 subsFit ws g = allBelow (g .width) (λ j. subFit g (firstOf ws j) (secondOf ws j))

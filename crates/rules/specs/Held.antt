@@ -3,7 +3,7 @@ use Prim.Native.Nat.{ℕ, zero, suc, _+_, _*_, _-_}
 use mathlib.Core.List.{List, [], _∷_, _++_}
 use mathlib.Core.Bool.{Bool}
 use lib.ListN.{getD}
-use lib.Dec.{leb, ltb, eqb}
+use lib.Dec.{ltb, eqb}
 use Rattle.laws.specs.Choice.{cond}
 use Rattle.rules.specs.Layout.{cellAt, firstOf, secondOf}
 use Rattle.rules.specs.declared.Settings.{Settings}
@@ -55,7 +55,3 @@ distanceOf ws g s = countItems (passedOver (g .kind) s) (heldItems ws g)
 unfoldable pub cellItems : List ℕ → ℕ → ℕ → List Item
 cellItems ws at zero = []
 cellItems ws at (suc k) = cellItems ws at k ++ (record { value = getD ws (at + 2 * k) 0; stamp = getD ws (at + 2 * k + 1) 0 } ∷ [])
-
--- a stamp of at most s
-abbrev pub stampUpTo : ℕ → Item → Bool
-stampUpTo s x = leb (x .stamp) s

@@ -14,13 +14,13 @@ use Rattle.rules.specs.declared.Phase.the-variants.{Window, Confirm}
 use Rattle.rules.specs.declared.Version.{Version}
 use Rattle.rules.specs.declared.View.{View}
 use Rattle.rules.specs.declared.Effect.{Effect}
-use Rattle.rules.specs.declared.Outcome.the-variants.{Moving}
+use Rattle.rules.specs.declared.Outcome.the-variants.{Shifted}
 
 -- a restart with the window words moved
 abbrev pub shiftedOf : View → Side → ℕ → ℕ → Effect
 shiftedOf v side top mark =
     record {
-      outcome = Moving;
+      outcome = Shifted;
       slot = encode (record { value = v .slot .value; index = v .slot .index; phase = Window side }) (v .slot);
       top = top;
       mark = mark;

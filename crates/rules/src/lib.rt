@@ -115,10 +115,12 @@ pub struct View {
     pub slot: Slot,
 }
 
-// How a step ends.
+// How a step ends, and so which words it writes: the worker's and the step count, where the window moved its two words,
+// where an item landed or was removed the two of its sub.
 pub enum Outcome {
     Refused(u32),
     Moving,
+    Shifted,
     Landed,
     Removed,
     Empty,

@@ -1,10 +1,11 @@
-//! The compiled library's four calls, with the same types as the second
-//! implementation's, so that the two can stand in one table.
+//! The compiled library's four calls: as a C caller makes them, with an area
+//! for the answer's fields, and with the types of the second implementation, so
+//! that the two can stand in one table.
 
 use second::{Answer, Settings};
 
 /// Value, sub, row, stamp and distance.
-type Fields = [u32; 5];
+pub type Fields = [u32; 5];
 
 /// The library must write every field: none of them starts as zero.
 const UNWRITTEN: Fields = [0xdead_beef; 5];
@@ -32,7 +33,11 @@ extern "C" {
     fn pool_step(words: *mut u32, len: usize, worker: u32, fields: *mut u32) -> u32;
 }
 
-pub fn make(words: &mut [u32], settings: Settings) -> Answer {
+// As C calls them. Safety, of each: the pointer and length are those of a live,
+// unshared slice, and `fields` has five words.
+
+#[inline]
+pub fn make_into(words: &mut [u32], settings: Settings, fields: &mut Fields) -> u32 {
     let Settings {
         kind,
         width,
@@ -41,38 +46,45 @@ pub fn make(words: &mut [u32], settings: Settings) -> Answer {
         rows,
         workers,
     } = settings;
-    answer(|fields| {
-        // Safety: the pointer and length are those of a live, unshared slice,
-        // and `fields` has five words; so it is in each call below.
-        unsafe {
-            pool_make(
-                words.as_mut_ptr(),
-                words.len(),
-                kind,
-                width,
-                depth,
-                shift,
-                rows,
-                workers,
-                fields.as_mut_ptr(),
-            )
-        }
-    })
+    let (start, len) = (words.as_mut_ptr(), words.len());
+    let fields = fields.as_mut_ptr();
+    unsafe { pool_make(start, len, kind, width, depth, shift, rows, workers, fields) }
+}
+
+#[inline]
+pub fn begin_put_into(words: &mut [u32], worker: u32, value: u32, fields: &mut Fields) -> u32 {
+    let (start, len) = (words.as_mut_ptr(), words.len());
+    unsafe { pool_begin_put(start, len, worker, value, fields.as_mut_ptr()) }
+}
+
+#[inline]
+pub fn begin_take_into(words: &mut [u32], worker: u32, fields: &mut Fields) -> u32 {
+    let (start, len) = (words.as_mut_ptr(), words.len());
+    unsafe { pool_begin_take(start, len, worker, fields.as_mut_ptr()) }
+}
+
+#[inline]
+pub fn step_into(words: &mut [u32], worker: u32, fields: &mut Fields) -> u32 {
+    let (start, len) = (words.as_mut_ptr(), words.len());
+    unsafe { pool_step(start, len, worker, fields.as_mut_ptr()) }
+}
+
+// With the second implementation's answer.
+
+pub fn make(words: &mut [u32], settings: Settings) -> Answer {
+    answer(|fields| make_into(words, settings, fields))
 }
 
 pub fn begin_put(words: &mut [u32], worker: u32, value: u32) -> Answer {
-    let (start, len) = (words.as_mut_ptr(), words.len());
-    answer(|fields| unsafe { pool_begin_put(start, len, worker, value, fields.as_mut_ptr()) })
+    answer(|fields| begin_put_into(words, worker, value, fields))
 }
 
 pub fn begin_take(words: &mut [u32], worker: u32) -> Answer {
-    let (start, len) = (words.as_mut_ptr(), words.len());
-    answer(|fields| unsafe { pool_begin_take(start, len, worker, fields.as_mut_ptr()) })
+    answer(|fields| begin_take_into(words, worker, fields))
 }
 
 pub fn step(words: &mut [u32], worker: u32) -> Answer {
-    let (start, len) = (words.as_mut_ptr(), words.len());
-    answer(|fields| unsafe { pool_step(start, len, worker, fields.as_mut_ptr()) })
+    answer(|fields| step_into(words, worker, fields))
 }
 
 fn answer(call: impl FnOnce(&mut Fields) -> u32) -> Answer {

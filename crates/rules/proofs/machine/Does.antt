@@ -16,7 +16,7 @@ use Rattle.rules.specs.Limits.{Bounds}
 use Rattle.rules.specs.Fit.{phaseFit, SubFits}
 use Rattle.rules.specs.Held.{rowsBelow}
 use Rattle.rules.specs.Worker.{phaseOf, fresh, zeroSlot}
-use Rattle.rules.specs.Effects.{movedOf, finishedOf, nothingFor, nextOf}
+use Rattle.rules.specs.Effects.{keepOf, movedOf, finishedOf, nothingFor, nextOf}
 use Rattle.rules.specs.Window.{windowRule, queueSeen}
 use Rattle.rules.specs.Read.{missOf, queuePutRead, queueTakeMiss, queueTakeRead, stackRead}
 use Rattle.rules.specs.Check.{checkRule}
@@ -26,7 +26,7 @@ use Rattle.rules.specs.Confirm.{counted, confirmRule, confirmedOf}
 use Rattle.rules.specs.Step.{ruleBy, ruleOf}
 use Rattle.rules.specs.Run.{Call, beginPut, beginTake, step}
 use Rattle.rules.proofs.Types.{Settings, Side, Putting, Taking, Phase, Idle, Window, QueuePutRead, QueueTakeRead, StackRead, Check, QueueCommit, StackCommit, QueueShift, StackShift, Confirm, Version, Slot, View, Effect, Outcome}
-use Rattle.rules.specs.declared.Outcome.the-variants.{Refused, Moving, Landed, Removed, Empty, Full}
+use Rattle.rules.specs.declared.Outcome.the-variants.{Refused, Moving, Shifted, Landed, Removed, Empty, Full}
 use Rattle.rules.proofs.counts.Sums.{upd, upd-all}
 use Rattle.rules.proofs.counts.Wraps.{add32-suc, sub32-is, next-lt}
 use Rattle.rules.proofs.order.Law.{Next}
@@ -36,13 +36,28 @@ use Rattle.rules.proofs.machine.Good.{queue-below, stack-below}
 use Rattle.rules.proofs.machine.Turns.{SlotFits, Common, Counts}
 use Rattle.rules.proofs.machine.Slots.{OfKind, phase-from, of-both, encode-fits}
 
+-- no item came or went
+pub record SameItems (v : View) (e : Effect) : Type 0 where
+  pub puts : e .puts ≡ v .puts
+  pub first : e .first ≡ v .first
+  pub second : e .second ≡ v .second
+
+-- the window is where it was
+pub record SameWindow (v : View) (e : Effect) : Type 0 where
+  pub top : e .top ≡ v .top
+  pub mark : e .mark ≡ v .mark
+
 -- no row is held that was not held
 pub record Keeps (g : Settings) (v : View) (e : Effect) : Type 0 where
   pub below : rowsBelow g (v .second) ≤ rowsBelow g (e .second)
   pub first : e .first ≤ v .first
 
+pub same-keeps : (g : Settings) (v : View) (e : Effect) → SameItems v e → Keeps g v e
+same-keeps g v e h = record { below = rw (h .second) (le-refl _); first = rw (h .first) (le-refl _) }
+
 -- the row above is held as well
 pub record Lands (g : Settings) (v : View) (e : Effect) : Type 0 where
+  pub window : SameWindow v e
   pub below : rowsBelow g (e .second) ≡ rowsBelow g (v .second)
   pub first : e .first ≡ suc (v .first)
   pub row : e .row .0 ≡ suc (v .first)
@@ -50,34 +65,37 @@ pub record Lands (g : Settings) (v : View) (e : Effect) : Type 0 where
 
 -- the removed row was held
 pub record Removes (g : Settings) (v : View) (e : Effect) : Type 0 where
+  pub window : SameWindow v e
+  pub puts : e .puts ≡ v .puts
   pub keeps : Keeps g v e
   pub low : rowsBelow g (v .second) < e .row .0
   pub high : e .row .0 ≤ v .first
 
-abbrev pub SubAfter : Settings → View → Effect → Outcome → Type 0
-SubAfter g v e (Refused n) = (n ≡ 23) ⊎ (n ≡ 26)
-SubAfter g v e Moving = Keeps g v e
-SubAfter g v e Landed = Lands g v e
-SubAfter g v e Removed = Removes g v e
-SubAfter g v e Empty = Keeps g v e
-SubAfter g v e Full = Keeps g v e
+abbrev pub SharedAfter : Settings → View → Effect → Outcome → Type 0
+SharedAfter g v e (Refused n) = (n ≡ 23) ⊎ (n ≡ 26)
+SharedAfter g v e Moving = SameItems v e × SameWindow v e
+SharedAfter g v e Shifted = SameItems v e
+SharedAfter g v e Landed = Lands g v e
+SharedAfter g v e Removed = Removes g v e
+SharedAfter g v e Empty = SameItems v e × SameWindow v e
+SharedAfter g v e Full = SameItems v e × SameWindow v e
 
 pub record Does (g : Settings) (v : View) (e : Effect) : Type 0 where
   pub slot : SlotFits g (e .slot)
-  pub sub : SubAfter g v e (e .outcome)
+  pub shared : SharedAfter g v e (e .outcome)
 
 module _ (g : Settings) (b : Bounds g) (v : View) (fits : SlotFits g (v .slot)) (sub : SubFits g (v .first) (v .second))
     (first-few : v .first ≤ 4000000000) (second-few : v .second ≤ 4000000000) where
   abbrev D : Effect → Type 0
   D e = Does g v e
 
-  -- the sub's words as they were
-  still : (e : Effect) → e .first ≡ v .first → e .second ≡ v .second → Keeps g v e
-  still e a b = record { below = rw b (le-refl _); first = rw a (le-refl _) }
+  -- all that is shared as it was
+  still : (o : Outcome) (x : Slot) → SameItems v (keepOf v o x) × SameWindow v (keepOf v o x)
+  still o x = (record { puts = refl; first = refl; second = refl }, record { top = refl; mark = refl })
 
   -- ---- the ways in which a rule ends
   moved : (x : ℕ) (p : Phase) (o : Slot) → x < g .width → scanIn p (o .scan) < g .width → OfKind (g .kind) p → D (movedOf v x p o)
-  moved x p o l m t = record { slot = encode-fits g (v .slot .value) x p o l m t; sub = still _ refl refl }
+  moved x p o l m t = record { slot = encode-fits g (v .slot .value) x p o l m t; shared = still _ _ }
 
   here : (p : Phase) (o : Slot) → scanIn p (o .scan) < g .width → OfKind (g .kind) p → D (movedOf v (v .slot .index) p o)
   here p o m t = moved (v .slot .index) p o (fits .index) m t
@@ -92,8 +110,8 @@ module _ (g : Settings) (b : Bounds g) (v : View) (fits : SlotFits g (v .slot)) 
   rested x l = encode-fits g 0 x Idle _ l (b .width1) ((λ k. tt), (λ n. tt))
 
   finished : (side : Side) (x : ℕ) → x < g .width → D (finishedOf v (nothingFor side) x)
-  finished Putting x l = record { slot = rested x l; sub = still _ refl refl }
-  finished Taking x l = record { slot = rested x l; sub = still _ refl refl }
+  finished Putting x l = record { slot = rested x l; shared = still _ _ }
+  finished Taking x l = record { slot = rested x l; shared = still _ _ }
 
   miss : (scan : ℕ) (next after : Phase) (kept : Slot) → OfKind (g .kind) next → OfKind (g .kind) after
       → (add32 scan 1 < g .width → scanIn next (kept .scan) < g .width) → scanIn after (kept .scan) < g .width → D (missOf g v scan next after kept)
@@ -120,15 +138,15 @@ module _ (g : Settings) (b : Bounds g) (v : View) (fits : SlotFits g (v .slot)) 
   unfolding shiftBy
   shift-by side same able top mark stuck d =
       cases D same _ _
-      (λ e. cases D able _ _ (λ e. record { slot = again _ (fits .index) side _ (fits .scan) .slot; sub = still _ refl refl }) (λ e. d))
+      (λ e. cases D able _ _ (λ e. record { slot = again _ (fits .index) side _ (fits .scan) .slot; shared = record { puts = refl; first = refl; second = refl } }) (λ e. d))
       (λ e. again _ (fits .index) side _ (fits .scan))
 
   -- ---- commits
-  commit-by : (side : Side) (matches able : Bool) (done : Effect) → SlotFits g (done .slot) → (able ≡ true → SubAfter g v done (done .outcome))
+  commit-by : (side : Side) (matches able : Bool) (done : Effect) → SlotFits g (done .slot) → (able ≡ true → SharedAfter g v done (done .outcome))
       → D (commitBy g v side matches able done)
   unfolding commitBy
   commit-by side matches able done l d =
-      cases D matches _ _ (λ e. cases D able _ _ (λ e. record { slot = l; sub = d e }) (λ e. record { slot = fits; sub = inl refl }))
+      cases D matches _ _ (λ e. cases D able _ _ (λ e. record { slot = l; shared = d e }) (λ e. record { slot = fits; shared = inl refl }))
       (λ e. again _ on side _ (fits .scan))
 
   queue-does : g .kind ≡ 0 → (side : Side) (seen : ℕ) → D (queueCommit g v side seen)
@@ -136,6 +154,7 @@ module _ (g : Settings) (b : Bounds g) (v : View) (fits : SlotFits g (v .slot)) 
   queue-does k Putting seen = commit-by Putting _ _ _ (rested _ (fits .index)) (λ e.
       let free : sub32 (v .first) (v .second) < g .rows = ltb-true _ _ e in
       record {
+        window = record { top = refl; mark = refl };
         below = refl;
         first = add32-suc (v .first) (omega arith);
         row = add32-suc (v .first) (omega arith);
@@ -145,6 +164,8 @@ module _ (g : Settings) (b : Bounds g) (v : View) (fits : SlotFits g (v .slot)) 
       let more : add32 (v .second) 1 ≡ suc (v .second) = add32-suc (v .second) (omega arith) in
       let some : v .second < v .first = ltb-true _ _ e in
       record {
+        window = record { top = refl; mark = refl };
+        puts = refl;
         keeps = record { below = rw (queue-below g k (v .second), queue-below g k (add32 (v .second) 1)) (omega arith); first = le-refl _ };
         low = rw (queue-below g k (v .second)) (omega arith);
         high = omega arith;
@@ -155,6 +176,7 @@ module _ (g : Settings) (b : Bounds g) (v : View) (fits : SlotFits g (v .slot)) 
   stack-does k Putting seen = commit-by Putting _ _ _ (rested _ (fits .index)) (λ e.
       let free : v .first < g .rows = ltb-true _ _ e in
       record {
+        window = record { top = refl; mark = refl };
         below = stack-below g k _ ∙ sym (stack-below g k _);
         first = add32-suc (v .first) (omega arith);
         row = add32-suc (v .first) (omega arith);
@@ -164,6 +186,8 @@ module _ (g : Settings) (b : Bounds g) (v : View) (fits : SlotFits g (v .slot)) 
       let some : 0 < v .first = ltb-true _ _ e in
       let less : sub32 (v .first) 1 ≡ v .first - 1 = sub32-is (v .first) 1 some (omega arith) in
       record {
+        window = record { top = refl; mark = refl };
+        puts = refl;
         keeps = record { below = rw (stack-below g k (v .second), stack-below g k (add32 (v .second) 1)) (le-refl _); first = omega arith };
         low = rw (stack-below g k (v .second)) some;
         high = le-refl _;
@@ -183,7 +207,7 @@ module _ (g : Settings) (b : Bounds g) (v : View) (fits : SlotFits g (v .slot)) 
 
   rule-by-does : (p : Phase) → OfKind (g .kind) p → scanIn p (v .slot .scan) ≡ v .slot .scan → D (ruleBy g v p)
   unfolding ruleBy queuePutRead queueTakeRead stackRead checkRule queueShift stackShift confirmRule confirmedOf
-  rule-by-does Idle t s = record { slot = fits; sub = inr refl }
+  rule-by-does Idle t s = record { slot = fits; shared = inr refl }
   rule-by-does (Window side) t s = looks side
   rule-by-does (QueuePutRead window scan) t s =
       cases D _ _ _ (λ e. here _ _ (fits .scan) ((λ k. tt), (λ n. absurd (t .1 n)))) (λ e. miss scan _ _ _ t ((λ k. tt), (λ n. absurd (t .1 n))) (λ l. l) (b .width1))
@@ -226,6 +250,7 @@ module _ (g : Settings) (b : Bounds g) (s : State) (common : Common g s) (counts
   unfolding applyInBy
   common-apply i few e l (Refused n) = common
   common-apply i few e l Moving = record { slots = slots-upd i (e .slot) l; steps-few = few }
+  common-apply i few e l Shifted = record { slots = slots-upd i (e .slot) l; steps-few = few }
   common-apply i few e l Landed = record { slots = slots-upd i (e .slot) l; steps-few = few }
   common-apply i few e l Removed = record { slots = slots-upd i (e .slot) l; steps-few = few }
   common-apply i few e l Empty = record { slots = slots-upd i (e .slot) l; steps-few = few }

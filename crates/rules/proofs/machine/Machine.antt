@@ -15,7 +15,7 @@ use Rattle.rules.specs.Step.{ruleOf}
 use Rattle.rules.specs.Apply.{stampOf}
 use Rattle.rules.specs.Run.{Call, beginPut, beginTake, step}
 use Rattle.rules.proofs.Types.{Settings, Side, Putting, Taking, Phase, Idle, Window, Slot, View, Effect, Outcome, Answer}
-use Rattle.rules.specs.declared.Outcome.the-variants.{Refused as Stays, Moving as Moves, Landed, Removed, Empty as NoItem, Full as NoRoom}
+use Rattle.rules.specs.declared.Outcome.the-variants.{Refused as Stays, Moving as Moves, Shifted, Landed, Removed, Empty as NoItem, Full as NoRoom}
 use Rattle.rules.specs.declared.Answer.the-variants.{Moving, Put, Taken, Empty, Full, Refused}
 use Rattle.rules.proofs.counts.Sums.{upd, upd-self, sumN, upTo}
 use Rattle.rules.proofs.order.Law.{Next}
@@ -99,6 +99,7 @@ takenIn g s j row =
 unfoldable pub applyInBy : Settings → State → ℕ → Effect → Outcome → Next State
 applyInBy g s i e (Stays n) = next (Refused n) s
 applyInBy g s i e Moves = next Moving (afterIn s i e)
+applyInBy g s i e Shifted = next Moving (afterIn s i e)
 applyInBy g s i e Landed =
     next (Put (e .value) (subIn s i) (e .row) (stampOf e))
     (afterIn (withItem s (subIn s i) (e .row .0) (record { value = e .value; stamp = e .puts })) i e)

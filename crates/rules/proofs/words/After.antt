@@ -12,14 +12,13 @@ use Rattle.laws.specs.Wrap.{add32}
 use Rattle.rules.specs.Layout.{subAt, workerAt, cellsAt, cellAt, settingsOf, firstOf, secondOf}
 use Rattle.rules.specs.Worker.{slotAt}
 use Rattle.rules.specs.Held.{itemAt, rowsBelow}
-use Rattle.rules.specs.Apply.{putView}
 use Rattle.rules.proofs.Types.{Settings, Effect}
 use Rattle.rules.proofs.counts.Sums.{upd, upd-same, upd-other}
 use Rattle.rules.proofs.counts.Wraps.{add32-suc}
 use Rattle.rules.proofs.machine.Machine.{State, subIn, viewIn, belowIn, afterIn}
 use Rattle.rules.proofs.machine.Does.{Keeps}
 use Rattle.rules.proofs.words.Says.{Says}
-use Rattle.rules.proofs.words.Writes.{slot-kept, view-length, view-off, view-steps, view-puts, view-top, view-mark, view-first, view-second, view-slot}
+use Rattle.rules.proofs.words.Writes.{allSet, slot-kept, all-length, all-off, all-steps, all-puts, all-top, all-mark, all-first, all-second, all-slot}
 
 -- the cells of the held rows have their items
 abbrev pub CellsSay : Settings → List ℕ → State → Type 0
@@ -33,7 +32,7 @@ module _ (g : Settings) (ws : List ℕ) (s : State) (says : Says g ws s) (i : �
   at = workerAt g i
 
   abbrev vs : List ℕ
-  vs = putView ws at j e
+  vs = allSet ws at j e
 
   above : subAt j + 1 < at
   above = omega arith
@@ -43,17 +42,17 @@ module _ (g : Settings) (ws : List ℕ) (s : State) (says : Says g ws s) (i : �
 
   -- words 0 to 5, 10 and 11
   head : (m : ℕ) → m < 12 → m ≢ 6 → m ≢ 7 → m ≢ 8 → m ≢ 9 → getD vs m 0 ≡ getD ws m 0
-  head m l a b c d = view-off ws at j e m a b c d (λ u. omega arith) (λ u. omega arith) (inl (omega arith))
+  head m l a b c d = all-off ws at j e m a b c d (λ u. omega arith) (λ u. omega arith) (inl (omega arith))
 
   other-sub : (k : ℕ) → k < g .width → k ≢ j → (firstOf vs k ≡ firstOf ws k) × (secondOf vs k ≡ secondOf ws k)
   other-sub k l n = (
-    view-off ws at j e (subAt k) (λ u. omega arith) (λ u. omega arith) (λ u. omega arith) (λ u. omega arith) (λ u. n (omega arith)) (λ u. omega arith) (inl (omega arith)),
-    view-off ws at j e (subAt k + 1) (λ u. omega arith) (λ u. omega arith) (λ u. omega arith) (λ u. omega arith) (λ u. omega arith) (λ u. n (omega arith)) (inl (omega arith)),
+    all-off ws at j e (subAt k) (λ u. omega arith) (λ u. omega arith) (λ u. omega arith) (λ u. omega arith) (λ u. n (omega arith)) (λ u. omega arith) (inl (omega arith)),
+    all-off ws at j e (subAt k + 1) (λ u. omega arith) (λ u. omega arith) (λ u. omega arith) (λ u. omega arith) (λ u. omega arith) (λ u. n (omega arith)) (inl (omega arith)),
   )
 
   other-slot : (m : ℕ) → m ≢ i → slotAt vs (workerAt g m) ≡ slotAt ws (workerAt g m)
   other-slot m n =
-      slot-kept ws vs (workerAt g m) (λ k l. view-off ws at j e (workerAt g m + k)
+      slot-kept ws vs (workerAt g m) (λ k l. all-off ws at j e (workerAt g m + k)
       (λ u. omega arith) (λ u. omega arith) (λ u. omega arith) (λ u. omega arith) (λ u. omega arith) (λ u. omega arith) (side k l (decLe m i)))
     where
       side : (k : ℕ) → k < 8 → Dec (m ≤ i) → (workerAt g m + k < at) ⊎ (at + 8 ≤ workerAt g m + k)
@@ -62,7 +61,7 @@ module _ (g : Settings) (ws : List ℕ) (s : State) (says : Says g ws s) (i : �
 
   cells-off : (m : ℕ) → cellsAt g ≤ m → getD vs m 0 ≡ getD ws m 0
   cells-off m l =
-      view-off ws at j e m (λ u. omega arith) (λ u. omega arith) (λ u. omega arith) (λ u. omega arith) (λ u. omega arith) (λ u. omega arith) (inr (omega arith))
+      all-off ws at j e m (λ u. omega arith) (λ u. omega arith) (λ u. omega arith) (λ u. omega arith) (λ u. omega arith) (λ u. omega arith) (inr (omega arith))
 
   same-item : (k r : ℕ) → itemAt vs g k r ≡ itemAt ws g k r
   same-item k r =
@@ -86,24 +85,24 @@ module _ (g : Settings) (ws : List ℕ) (s : State) (says : Says g ws s) (i : �
   pub after-says : s .steps < 4000000000 → CellsSay g ws (afterIn s i e) → Says g vs (afterIn s i e)
   after-says few cells =
       record {
-        long = rw (view-length ws at j e) (says .long);
+        long = rw (all-length ws at j e) (says .long);
         settings = settings-kept ∙ says .settings;
         tenth = head 10 (omega arith) (λ u. omega arith) (λ u. omega arith) (λ u. omega arith) (λ u. omega arith) ∙ says .tenth;
         eleventh = head 11 (omega arith) (λ u. omega arith) (λ u. omega arith) (λ u. omega arith) (λ u. omega arith) ∙ says .eleventh;
-        steps = view-steps ws at j e above long ∙ ap (λ (x : ℕ). add32 x 1) (says .steps) ∙ add32-suc (s .steps) (omega arith);
-        puts = view-puts ws at j e above long;
-        top = view-top ws at j e above long;
-        mark = view-mark ws at j e above long;
+        steps = all-steps ws at j e above long ∙ ap (λ (x : ℕ). add32 x 1) (says .steps) ∙ add32-suc (s .steps) (omega arith);
+        puts = all-puts ws at j e above long;
+        top = all-top ws at j e above long;
+        mark = all-mark ws at j e above long;
         first = λ k l. elim (ℕ-discrete k j) [
-          | yes y ↦ rw y (view-first ws at j e above long ∙ sym (upd-same (s .first) j (e .first)))
+          | yes y ↦ rw y (all-first ws at j e above long ∙ sym (upd-same (s .first) j (e .first)))
           | no n ↦ other-sub k l n .0 ∙ says .first k l ∙ sym (upd-other (s .first) j (e .first) k n)
         ];
         second = λ k l. elim (ℕ-discrete k j) [
-          | yes y ↦ rw y (view-second ws at j e above long ∙ sym (upd-same (s .second) j (e .second)))
+          | yes y ↦ rw y (all-second ws at j e above long ∙ sym (upd-same (s .second) j (e .second)))
           | no n ↦ other-sub k l n .1 ∙ says .second k l ∙ sym (upd-other (s .second) j (e .second) k n)
         ];
         slot = λ m l. elim (ℕ-discrete m i) [
-          | yes y ↦ rw y (view-slot ws at j e above long ∙ sym (upd-same (s .slot) i (e .slot)))
+          | yes y ↦ rw y (all-slot ws at j e above long ∙ sym (upd-same (s .slot) i (e .slot)))
           | no n ↦ other-slot m n ∙ says .slot m l ∙ sym (upd-other (s .slot) i (e .slot) m n)
         ];
         cell = λ k r l a b. same-item k r ∙ cells k r l a b;

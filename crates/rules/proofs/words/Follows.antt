@@ -18,23 +18,23 @@ use Rattle.rules.specs.Worker.{slotAt, putSlot, fresh}
 use Rattle.rules.specs.Held.{Item, itemAt, distanceOf}
 use Rattle.rules.specs.Fit.{checkedOf}
 use Rattle.rules.specs.Effects.{viewOf}
-use Rattle.rules.specs.Apply.{takenOf, applyBy, applyOf}
+use Rattle.rules.specs.Apply.{putItem, stampOf, putLanded, putWorker, takenOf, applyBy, applyOf}
 use Rattle.rules.specs.Begin.{slotBegin, fitBegin, checkedBegin, beginOf}
 use Rattle.rules.specs.Step.{ruleOf, slotStep, fitStep, checkedStep, stepOf}
 use Rattle.rules.specs.Run.{Call, beginPut, beginTake, step, callOf}
 use Rattle.rules.proofs.Types.{Settings, Side, Putting, Taking, Window, Slot, Effect, Outcome}
-use Rattle.rules.specs.declared.Outcome.the-variants.{Refused, Moving, Landed, Removed, Empty, Full}
+use Rattle.rules.specs.declared.Outcome.the-variants.{Refused, Moving, Shifted, Landed, Removed, Empty, Full}
 use Rattle.rules.specs.declared.Checked.the-variants.{Fit}
 use Rattle.rules.specs.declared.Answer.the-variants.{Moving as Moves, Taken, Refused as NotDone}
 use Rattle.rules.proofs.counts.Sums.{upd-same, upd-other}
 use Rattle.rules.proofs.order.Law.{Next}
 use Rattle.rules.proofs.Fitness.{settings-bounds}
 use Rattle.rules.proofs.Cells.{held-fits}
-use Rattle.rules.proofs.machine.Machine.{State, next, subIn, viewIn, belowIn, takenIn, applyIn, applyInBy, stepIn, withSlot, beginIn, nextIn}
+use Rattle.rules.proofs.machine.Machine.{State, next, subIn, viewIn, belowIn, takenIn, afterIn, applyIn, applyInBy, stepIn, withSlot, beginIn, nextIn}
 use Rattle.rules.proofs.machine.Turns.{Common, Counts}
-use Rattle.rules.proofs.machine.Does.{SubAfter, rule-in}
+use Rattle.rules.proofs.machine.Does.{SameItems, SameWindow, Keeps, same-keeps, SharedAfter, rule-in}
 use Rattle.rules.proofs.words.Says.{Says, distance-same}
-use Rattle.rules.proofs.words.Writes.{slot-length, slot-off, slot-on, slot-kept}
+use Rattle.rules.proofs.words.Writes.{slot-length, slot-off, slot-on, slot-kept, sharedSet, SamePuts, SameTop, SameSub, still-shared, shifted-shared, landed-shared, removed-shared}
 use Rattle.rules.proofs.words.Fit.{checked-fit}
 use Rattle.rules.proofs.words.After.{after-says, keeps-cells}
 use Rattle.rules.proofs.words.Landed.{landed-says, landed-cells}
@@ -90,24 +90,46 @@ module _ (g : Settings) (limits : settingsFit g ≡ true) (ws : List ℕ) (s : S
           ∙ ap (λ (d : ℕ). Taken (s .item (subIn s i) r .value) (subIn s i) (record { 0 = r }) (record { 0 = s .item (subIn s i) r .stamp }) d)
           (distance-same g ws s says order (s .item (subIn s i) r .stamp))
 
-      follow-apply : (o : Outcome) → SubAfter g (viewIn s i) e o → Follows g (applyBy ws g (workerAt g i) (subIn s i) e o) (applyInBy g s i e o)
-      unfolding applyBy applyInBy
+      -- where the words are as they were
+      puts-as : e .puts ≡ s .puts → SamePuts ws (subIn s i) e
+      puts-as h = says .puts ∙ sym h
+
+      top-as : SameWindow (viewIn s i) e → SameTop ws (subIn s i) e
+      top-as h = (says .top ∙ sym (h .top), says .mark ∙ sym (h .mark))
+
+      sub-as : SameItems (viewIn s i) e → SameSub ws (subIn s i) e
+      sub-as h = (says .first _ lj ∙ sym (h .first), says .second _ lj ∙ sym (h .second))
+
+      -- from what an outcome stores to all that a step may store
+      stores : (vs : List ℕ) → vs ≡ sharedSet ws (subIn s i) e → Keeps g (viewIn s i) e → Says g (putWorker vs (workerAt g i) e) (afterIn s i e)
+      stores vs same h = rw same (after-says g ws s says i li lj e few (keeps-cells g ws s says i li lj e h))
+
+      stores-worker : SameItems (viewIn s i) e × SameWindow (viewIn s i) e → Says g (putWorker ws (workerAt g i) e) (afterIn s i e)
+      stores-worker h =
+          stores _ (still-shared ws (subIn s i) e (puts-as (h .0 .puts)) (top-as (h .1)) (sub-as (h .0))) (same-keeps g (viewIn s i) e (h .0))
+
+      follow-apply : (o : Outcome) → SharedAfter g (viewIn s i) e o → Follows g (applyBy ws g (workerAt g i) (subIn s i) e o) (applyInBy g s i e o)
+      unfolding putLanded applyBy applyInBy
       follow-apply (Refused n) h = record { answer = refl; says = says }
-      follow-apply Moving h = record { answer = refl; says = after-says g ws s says i li lj e few (keeps-cells g ws s says i li lj e h) }
+      follow-apply Moving h = record { answer = refl; says = stores-worker h }
+      follow-apply Shifted h =
+          record { answer = refl; says = stores _ (shifted-shared ws (subIn s i) e (puts-as (h .puts)) (sub-as h)) (same-keeps g (viewIn s i) e h) }
       follow-apply Landed h =
+          let stored = landed-says g ws s says bounds i lj (counts .first-few _ lj) (order _ lj) e h in
+          let top : SameTop (putItem ws g (subIn s i) (e .value) (e .row) (stampOf e)) (subIn s i) e =
+          (stored .top ∙ sym (h .window .top), stored .mark ∙ sym (h .window .mark)) in
           record {
             answer = refl;
-            says =
-                after-says g _ _ (landed-says g ws s says bounds i lj (counts .first-few _ lj) (order _ lj) e h) i li lj e few
-                (landed-cells g ws s says bounds i lj (counts .first-few _ lj) (order _ lj) e h);
+            says = rw (landed-shared _ (subIn s i) e top) (after-says g _ _ stored i li lj e few
+                (landed-cells g ws s says bounds i lj (counts .first-few _ lj) (order _ lj) e h));
           }
       follow-apply Removed h =
           record {
             answer = taken-same (e .row .0) (h .low) (h .high);
-            says = after-says g ws s says i li lj e few (keeps-cells g ws s says i li lj e (h .keeps));
+            says = stores _ (removed-shared ws (subIn s i) e (puts-as (h .puts)) (top-as (h .window))) (h .keeps);
           }
-      follow-apply Empty h = record { answer = refl; says = after-says g ws s says i li lj e few (keeps-cells g ws s says i li lj e h) }
-      follow-apply Full h = record { answer = refl; says = after-says g ws s says i li lj e few (keeps-cells g ws s says i li lj e h) }
+      follow-apply Empty h = record { answer = refl; says = stores-worker h }
+      follow-apply Full h = record { answer = refl; says = stores-worker h }
 
     follow-rule : s .steps < 4000000000
         → Follows g (applyOf ws g (workerAt g i) (getD ws (workerAt g i + 2) 0) (ruleOf g (viewOf ws (workerAt g i)))) (applyIn g s i (ruleOf g (viewIn s i)))
@@ -115,7 +137,7 @@ module _ (g : Settings) (limits : settingsFit g ≡ true) (ws : List ℕ) (s : S
     follow-rule few =
         rw (view-same, index-same)
         (follow-apply few (ruleOf g (viewIn s i)) (ruleOf g (viewIn s i) .outcome)
-        (rule-in g bounds s common counts i .sub))
+        (rule-in g bounds s common counts i .shared))
 
     follow-step : Follows g (slotStep ws g (workerAt g i))
         (cond (eqb (s .slot i .number) 0) (next (NotDone 26) s)

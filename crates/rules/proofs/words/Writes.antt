@@ -1,16 +1,16 @@
 -- What a step's stores leave: the places of a pool's parts do not overlap, so each store is read back at its own place and
 -- every other word is as it was.
-use mathlib.Core.Path.{_≡_, _∙_}
+use mathlib.Core.Path.{_≡_, refl, sym, ap, _∙_}
 use mathlib.Core.Logic.{_≢_, _⊎_, inl}
 use mathlib.Core.List.{List}
 use Prim.Native.Nat.{ℕ, _+_, _≤_, _<_}
 use native.Mathlib.Omega.{arith}
 use lib.ListN.{length, getD, set, length-set}
-use lib.Seq.{getD-set-same, getD-set-other, length-sets}
+use lib.Seq.{getD-set-same, getD-set-other, set-getD, length-sets}
 use Rattle.laws.specs.Wrap.{add32}
 use Rattle.rules.specs.Layout.{stepsAt, putsAt, topAt, markAt, subAt}
 use Rattle.rules.specs.Worker.{slotAt, putSlot, wordsOf}
-use Rattle.rules.specs.Apply.{putView}
+use Rattle.rules.specs.Apply.{putSub, putShifted, putWorker}
 use Rattle.rules.proofs.Types.{Slot, Effect}
 use Rattle.rules.proofs.words.Lists.{sets-out, sets-in}
 
@@ -62,11 +62,8 @@ abbrev Apart : ℕ → ℕ → Type 0
 Apart m n = m ≢ n
 
 module _ (ws : List ℕ) (j : ℕ) (e : Effect) where
-  abbrev counted : List ℕ
-  counted = set ws 6 (add32 (getD ws 6 0) 1)
-
   abbrev stamped : List ℕ
-  stamped = set counted 7 (e .puts)
+  stamped = set ws 7 (e .puts)
 
   abbrev topped : List ℕ
   topped = set stamped 8 (e .top)
@@ -77,27 +74,21 @@ module _ (ws : List ℕ) (j : ℕ) (e : Effect) where
   abbrev firsts : List ℕ
   firsts = set marked (subAt j) (e .first)
 
-  abbrev sharedSet : List ℕ
+  abbrev pub sharedSet : List ℕ
   sharedSet = set firsts (subAt j + 1) (e .second)
 
-  shared-off : (m : ℕ) → m ≢ 6 → m ≢ 7 → m ≢ 8 → m ≢ 9 → m ≢ subAt j → m ≢ subAt j + 1 → getD sharedSet m 0 ≡ getD ws m 0
-  shared-off m a b c d f h = simp getD-set-other
+  shared-off : (m : ℕ) → m ≢ 7 → m ≢ 8 → m ≢ 9 → m ≢ subAt j → m ≢ subAt j + 1 → getD sharedSet m 0 ≡ getD ws m 0
+  shared-off m b c d f h = simp getD-set-other
 
   shared-length : length sharedSet ≡ length ws
   shared-length = simp length-set
 
   module _ (long : subAt j + 1 < length ws) where
-    shared-steps : getD sharedSet 6 0 ≡ add32 (getD ws 6 0) 1
-    shared-steps =
-        let a : Apart 6 7 = λ u. omega arith in let b : Apart 6 8 = λ u. omega arith in let c : Apart 6 9 = λ u. omega arith in
-        let d : Apart 6 (subAt j) = λ u. omega arith in let f : Apart 6 (subAt j + 1) = λ u. omega arith in
-        simp getD-set-other (getD-set-same ws 6 (add32 (getD ws 6 0) 1) 0 (omega arith))
-
     shared-puts : getD sharedSet 7 0 ≡ e .puts
     shared-puts =
         let b : Apart 7 8 = λ u. omega arith in let c : Apart 7 9 = λ u. omega arith in
         let d : Apart 7 (subAt j) = λ u. omega arith in let f : Apart 7 (subAt j + 1) = λ u. omega arith in
-        simp getD-set-other (getD-set-same counted 7 (e .puts) 0 (simp length-set (omega arith)))
+        simp getD-set-other (getD-set-same ws 7 (e .puts) 0 (omega arith))
 
     shared-top : getD sharedSet 8 0 ≡ e .top
     shared-top =
@@ -118,40 +109,98 @@ module _ (ws : List ℕ) (j : ℕ) (e : Effect) where
     shared-second : getD sharedSet (subAt j + 1) 0 ≡ e .second
     shared-second = getD-set-same firsts (subAt j + 1) (e .second) 0 (simp length-set (omega arith))
 
--- ---- all that a step stores of what it read: the worker's words lie above its sub's
-module _ (ws : List ℕ) (at j : ℕ) (e : Effect) where
-  pub view-length : length (putView ws at j e) ≡ length ws
-  unfolding putView
-  view-length = slot-length (sharedSet ws j e) at (e .slot) ∙ shared-length ws j e
+-- ---- an outcome that leaves some of them alone stores the others: to store those too, as they are, would change nothing
+set-kept : (xs : List ℕ) (m x : ℕ) → getD xs m 0 ≡ x → set xs m x ≡ xs
+set-kept xs m x h = ap (λ (y : ℕ). set xs m y) (sym h) ∙ set-getD xs m 0
 
-  pub view-off : (m : ℕ) → m ≢ 6 → m ≢ 7 → m ≢ 8 → m ≢ 9 → m ≢ subAt j → m ≢ subAt j + 1 → (m < at) ⊎ (at + 8 ≤ m)
-      → getD (putView ws at j e) m 0 ≡ getD ws m 0
-  unfolding putView
-  view-off m a b c d f h o = slot-off (sharedSet ws j e) at (e .slot) m o ∙ shared-off ws j e m a b c d f h
+module _ (ws : List ℕ) (j : ℕ) (e : Effect) where
+  abbrev pub SamePuts : Type 0
+  SamePuts = getD ws putsAt 0 ≡ e .puts
+
+  abbrev pub SameTop : Type 0
+  SameTop = (getD ws topAt 0 ≡ e .top) × (getD ws markAt 0 ≡ e .mark)
+
+  abbrev pub SameSub : Type 0
+  SameSub = (getD ws (subAt j) 0 ≡ e .first) × (getD ws (subAt j + 1) 0 ≡ e .second)
+
+  pub still-shared : SamePuts → SameTop → SameSub → ws ≡ sharedSet ws j e
+  still-shared p t f =
+      let b = set-kept ws 8 (e .top) (t .0) in
+      let c = set-kept ws 9 (e .mark) (t .1) in
+      let d = set-kept ws (subAt j) (e .first) (f .0) in
+      let k = set-kept ws (subAt j + 1) (e .second) (f .1) in
+      rw (set-kept ws 7 (e .puts) p, b, c, d, k) refl
+
+  pub shifted-shared : SamePuts → SameSub → putShifted ws e ≡ sharedSet ws j e
+  unfolding putShifted
+  shifted-shared p f =
+      let moved : List ℕ = set (set ws 8 (e .top)) 9 (e .mark) in
+      let off : (m : ℕ) → m ≢ 8 → m ≢ 9 → getD moved m 0 ≡ getD ws m 0 = λ m y z. simp getD-set-other in
+      let d : set moved (subAt j) (e .first) ≡ moved = set-kept moved (subAt j) (e .first) (off (subAt j) (λ u. omega arith) (λ u. omega arith) ∙ f .0) in
+      let k : set moved (subAt j + 1) (e .second) ≡ moved =
+      set-kept moved (subAt j + 1) (e .second) (off (subAt j + 1) (λ u. omega arith) (λ u. omega arith) ∙ f .1) in
+      rw (set-kept ws 7 (e .puts) p, d, k) refl
+
+  pub landed-shared : SameTop → putSub (set ws putsAt (e .puts)) j e ≡ sharedSet ws j e
+  unfolding putSub
+  landed-shared t =
+      let off : (m : ℕ) → m ≢ 7 → getD (stamped ws j e) m 0 ≡ getD ws m 0 = λ m y. simp getD-set-other in
+      let b : topped ws j e ≡ stamped ws j e = set-kept (stamped ws j e) 8 (e .top) (off 8 (λ u. omega arith) ∙ t .0) in
+      let c : set (stamped ws j e) 9 (e .mark) ≡ stamped ws j e = set-kept (stamped ws j e) 9 (e .mark) (off 9 (λ u. omega arith) ∙ t .1) in
+      rw (b, c) refl
+
+  pub removed-shared : SamePuts → SameTop → putSub ws j e ≡ sharedSet ws j e
+  unfolding putSub
+  removed-shared p t =
+      let b = set-kept ws 8 (e .top) (t .0) in
+      let c = set-kept ws 9 (e .mark) (t .1) in
+      rw (set-kept ws 7 (e .puts) p, b, c) refl
+
+-- ---- all that a step may store: the worker's words lie above its sub's
+module _ (ws : List ℕ) (at j : ℕ) (e : Effect) where
+  abbrev shared : List ℕ
+  shared = sharedSet ws j e
+
+  abbrev counted : List ℕ
+  counted = set shared 6 (add32 (getD shared 6 0) 1)
+
+  abbrev pub allSet : List ℕ
+  allSet = putWorker shared at e
+
+  pub all-length : length allSet ≡ length ws
+  unfolding putWorker
+  all-length = slot-length counted at (e .slot) ∙ length-set shared 6 _ ∙ shared-length ws j e
+
+  pub all-off : (m : ℕ) → m ≢ 6 → m ≢ 7 → m ≢ 8 → m ≢ 9 → m ≢ subAt j → m ≢ subAt j + 1 → (m < at) ⊎ (at + 8 ≤ m) → getD allSet m 0 ≡ getD ws m 0
+  unfolding putWorker
+  all-off m a b c d f h o = slot-off counted at (e .slot) m o ∙ simp getD-set-other
 
   module _ (above : subAt j + 1 < at) (long : at + 8 ≤ length ws) where
-    shared-at : (m : ℕ) → m < at → getD (putView ws at j e) m 0 ≡ getD (sharedSet ws j e) m 0
-    unfolding putView
-    shared-at m l = slot-off (sharedSet ws j e) at (e .slot) m (inl l)
+    pub all-steps : getD allSet stepsAt 0 ≡ add32 (getD ws stepsAt 0) 1
+    unfolding putWorker
+    all-steps =
+        slot-off counted at (e .slot) 6 (inl (omega arith)) ∙ getD-set-same shared 6 _ 0 (simp length-set (omega arith))
+        ∙ ap (λ (x : ℕ). add32 x 1) (shared-off ws j e 6 (λ u. omega arith) (λ u. omega arith) (λ u. omega arith) (λ u. omega arith) (λ u. omega arith))
 
-    pub view-steps : getD (putView ws at j e) stepsAt 0 ≡ add32 (getD ws stepsAt 0) 1
-    view-steps = shared-at 6 (omega arith) ∙ shared-steps ws j e (omega arith)
+    shared-at : (m : ℕ) → m ≢ 6 → m < at → getD allSet m 0 ≡ getD shared m 0
+    unfolding putWorker
+    shared-at m a l = slot-off counted at (e .slot) m (inl l) ∙ simp getD-set-other
 
-    pub view-puts : getD (putView ws at j e) putsAt 0 ≡ e .puts
-    view-puts = shared-at 7 (omega arith) ∙ shared-puts ws j e (omega arith)
+    pub all-puts : getD allSet putsAt 0 ≡ e .puts
+    all-puts = shared-at 7 (λ u. omega arith) (omega arith) ∙ shared-puts ws j e (omega arith)
 
-    pub view-top : getD (putView ws at j e) topAt 0 ≡ e .top
-    view-top = shared-at 8 (omega arith) ∙ shared-top ws j e (omega arith)
+    pub all-top : getD allSet topAt 0 ≡ e .top
+    all-top = shared-at 8 (λ u. omega arith) (omega arith) ∙ shared-top ws j e (omega arith)
 
-    pub view-mark : getD (putView ws at j e) markAt 0 ≡ e .mark
-    view-mark = shared-at 9 (omega arith) ∙ shared-mark ws j e (omega arith)
+    pub all-mark : getD allSet markAt 0 ≡ e .mark
+    all-mark = shared-at 9 (λ u. omega arith) (omega arith) ∙ shared-mark ws j e (omega arith)
 
-    pub view-first : getD (putView ws at j e) (subAt j) 0 ≡ e .first
-    view-first = shared-at (subAt j) (omega arith) ∙ shared-first ws j e (omega arith)
+    pub all-first : getD allSet (subAt j) 0 ≡ e .first
+    all-first = shared-at (subAt j) (λ u. omega arith) (omega arith) ∙ shared-first ws j e (omega arith)
 
-    pub view-second : getD (putView ws at j e) (subAt j + 1) 0 ≡ e .second
-    view-second = shared-at (subAt j + 1) (omega arith) ∙ shared-second ws j e (omega arith)
+    pub all-second : getD allSet (subAt j + 1) 0 ≡ e .second
+    all-second = shared-at (subAt j + 1) (λ u. omega arith) (omega arith) ∙ shared-second ws j e (omega arith)
 
-    pub view-slot : slotAt (putView ws at j e) at ≡ e .slot
-    unfolding putView
-    view-slot = slot-on (sharedSet ws j e) at (e .slot) (simp length-set (omega arith))
+    pub all-slot : slotAt allSet at ≡ e .slot
+    unfolding putWorker
+    all-slot = slot-on counted at (e .slot) (simp length-set (omega arith))

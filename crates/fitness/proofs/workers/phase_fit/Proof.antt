@@ -1,13 +1,16 @@
 -- `fitness::workers::phase_fit` meets its contract: at each return the tests that led there pick the same branch of `phaseFit`, and each call stands for what it ensures.
+use borrow.Author.Needs.{needs}
 use Rattle.laws.specs.Choice.{cond}
 use Rattle.laws.specs.Tests.{tests}
 use Rattle.rules.specs.Fit.{phaseFit}
 use Rattle.fitness.proofs.workers.phase_fit.Statement.{statement}
 use Rattle.fitness.proofs.workers.phase_fit.Tie as tie
 
+queue-phase-fit-requires : tie.Need-queue-phase-fit-requires
+queue-phase-fit-requires c κs = search needs
+
 returns : tie.Need-returns
-unfolding phaseFit cond
-returns c = search tests
+returns c = rw (c .before .if1 .taken) (c .queue-phase-fit .ensures)
 
 returns-2 : tie.Need-returns-2
 unfolding phaseFit cond
@@ -25,19 +28,6 @@ returns-5 : tie.Need-returns-5
 unfolding phaseFit cond
 returns-5 c = search tests
 
-returns-6 : tie.Need-returns-6
-unfolding phaseFit cond
-returns-6 c = search tests
-
-returns-7 : tie.Need-returns-7
-unfolding phaseFit cond
-returns-7 c = search tests
-
-returns-8 : tie.Need-returns-8
-unfolding phaseFit cond
-returns-8 c = search tests
-
 pub phase-fit-spec : {M : Type 1} → statement M
 phase-fit-spec =
-    tie.close
-    (tie.spec returns returns-2 returns-3 returns-4 returns-5 returns-6 returns-7 returns-8)
+    tie.close (tie.spec queue-phase-fit-requires returns returns-2 returns-3 returns-4 returns-5)

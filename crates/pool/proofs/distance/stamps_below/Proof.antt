@@ -1,16 +1,16 @@
--- `pool::distance::stamps_upto` meets its contract: the loop's invariant is the count over the cells passed.
+-- `pool::distance::stamps_below` meets its contract: the loop's invariant is the count over the cells passed.
 use mathlib.Core.Logic.{⊎-elim}
 use mathlib.Core.Path.{sym, _≡_}
 use Prim.Native.Nat.{_-_, _≤_}
 use borrow.Author.Needs.{needs}
 use native.Mathlib.Omega.{arith}
-use Rattle.rules.proofs.Cells.{cells-none, stamp-above, stamp-within}
-use Rattle.rules.specs.Held.{cellItems, countItems, stampUpTo}
-use Rattle.pool.proofs.distance.stamps_upto.Statement.{statement}
-use Rattle.pool.proofs.distance.stamps_upto.Tie as tie
+use Rattle.rules.proofs.Cells.{cells-none, not-older-cell, older-cell}
+use Rattle.rules.specs.Held.{cellItems, countItems, passedOver}
+use Rattle.pool.proofs.distance.stamps_below.Statement.{statement}
+use Rattle.pool.proofs.distance.stamps_below.Tie as tie
 
 abbrev Inv-loop : tie.InvT-loop
-Inv-loop cells count s n₀ k₀ n k = (k ≤ count) × (n ≤ k) × (n ≡ countItems (stampUpTo s) (cellItems cells 0 k))
+Inv-loop cells count s n₀ k₀ n k = (k ≤ count) × (n ≤ k) × (n ≡ countItems (passedOver 0 s) (cellItems cells 0 k))
 
 abbrev μ-loop : tie.MeasureT-loop
 μ-loop cells count s n₀ k₀ n k = count - k
@@ -44,8 +44,8 @@ loop-again c =
     let a = c .before .before .before .before .args in
     let k = c .before .before .before .loop .k in
     ⊎-elim
-    (λ w. omega (arith, stamp-within (a .cells .now) k (a .s) (w .0 .taken)))
-    (λ w. omega (arith, stamp-above (a .cells .now) k (a .s) (w .0 .left)))
+    (λ w. omega (arith, older-cell (a .cells .now) k (a .s) (w .0 .taken)))
+    (λ w. omega (arith, not-older-cell (a .cells .now) k (a .s) (w .0 .left)))
     (c .if1 .came)
 
 returns : tie.Need-returns Inv-loop μ-loop
@@ -53,8 +53,8 @@ returns c =
     let all : c .before .loop .k ≡ c .before .before .args .count = omega arith in
     (rw all at (c .before .loop .inv .2), omega arith)
 
-pub stamps-upto-spec : {M : Type 1} → statement M
-stamps-upto-spec =
+pub stamps-below-spec : {M : Type 1} → statement M
+stamps-below-spec =
     tie.close
     (tie.spec
     Inv-loop
