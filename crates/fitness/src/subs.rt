@@ -67,7 +67,30 @@ fn queue_subs_fit(words: &[u32], g: Settings) -> bool
     true
 }
 
-// Whether each sub of a stack is fit.
+// Whether a stack's sub `j` is fit.
+fn stack_sub_fit(words: &[u32], rows: u32, j: u32) -> bool
+    requires { ⌜ (j < 16) × (12 + 2 * j + 2 ≤ length (now words)) ⌝ }
+    ensures { λ r. ⌜ r ≡ leb (firstOf (now (words .entry)) j) rows ⌝ }
+{
+    words[12 + 2 * (j as usize)] <= rows
+}
+
+// Whether the four subs of a stack from `j` on are fit.
+fn stack_four_fit(words: &[u32], rows: u32, j: u32) -> bool
+    requires { ⌜ (j < 13) × (12 + 2 * j + 8 ≤ length (now words)) ⌝ }
+    ensures { λ r. ⌜ r ≡ fourFrom j (λ k. leb (firstOf (now (words .entry)) k) rows) ⌝ }
+{
+    if stack_sub_fit(words, rows, j) {
+        if stack_sub_fit(words, rows, j + 1) {
+            if stack_sub_fit(words, rows, j + 2) {
+                return stack_sub_fit(words, rows, j + 3);
+            }
+        }
+    }
+    false
+}
+
+// Whether each sub of a stack is fit, four subs a turn.
 fn stack_subs_fit(words: &[u32], g: Settings) -> bool
     requires { ⌜ (g .width ≤ 16) × (12 + 2 * g .width ≤ length (now words)) ⌝ }
     ensures { λ r. ⌜ r ≡ allBelow (g .width) (λ j. leb (firstOf (now (words .entry)) j) (g .rows)) ⌝ }
@@ -75,9 +98,15 @@ fn stack_subs_fit(words: &[u32], g: Settings) -> bool
     let width = g.width;
     let rows = g.rows;
     let mut j: u32 = 0;
+    while j + 3 < width {
+        if stack_four_fit(words, rows, j) {
+            j += 4;
+        } else {
+            return false;
+        }
+    }
     while j < width {
-        let held = words[12 + 2 * (j as usize)];
-        if held <= rows {
+        if stack_sub_fit(words, rows, j) {
             j += 1;
         } else {
             return false;
