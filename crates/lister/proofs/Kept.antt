@@ -3,7 +3,7 @@ use Prim.Native.Nat.{ℕ, _+_, _≤_}
 use mathlib.Core.List.{List}
 use mathlib.Core.Path.{_≡_, sym, ap, _∙_}
 use native.Mathlib.Omega.{arith}
-use lib.ListN.{length, getD, drop}
+use lib.ListN.{length, getD}
 use lib.Seq.{paste, drop-paste, getD-drop}
 
 pub byte-kept : (src text : List ℕ) (i k : ℕ) → i ≤ length text → getD (paste src 0 text i) (k + i) 0 ≡ getD src (k + i) 0

@@ -1,12 +1,12 @@
 -- How many items a pool holds: sub by sub, as many as its held rows.
 use Prim.Native.Nat.{ℕ, zero, suc, _+_}
 use mathlib.Core.List.{List}
-use mathlib.Core.Path.{_≡_, refl, _∙_}
+use mathlib.Core.Path.{_≡_, refl}
 use native.Mathlib.Numerals.{add-one}
 use native.Mathlib.Omega.{arith}
 use lib.ListN.{length, length-append}
 use Rattle.rules.specs.Layout.{firstOf, secondOf}
-use Rattle.rules.specs.Held.{rowsBelow, rowsHeld, itemsAbove, heldSub, heldBelow}
+use Rattle.rules.specs.Held.{rowsHeld, itemsAbove, heldSub, heldBelow}
 use Rattle.rules.specs.declared.Settings.{Settings}
 
 rows-items : (ws : List ℕ) (g : Settings) (j t k : ℕ) → length (itemsAbove ws g j t k) ≡ k

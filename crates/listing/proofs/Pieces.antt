@@ -6,19 +6,17 @@ use mathlib.Core.List.{List, [], _∷_, _++_, append-assoc, append-nil}
 use mathlib.Core.Path.{_≡_, refl, sym, ap, subst, _∙_}
 use native.Mathlib.Omega.{arith}
 use lib.ListN.{length, take, replicate, length-append}
-use lib.Seq.{paste, take-paste, take-length}
+use lib.Seq.{take-paste, take-length}
 use Rattle.laws.specs.Choice.{cond, cases}
 use Rattle.runfile.specs.Words.{readsOf, readAt}
-use Rattle.runfile.specs.declared.word.Read.{Read}
-use Rattle.listing.specs.Listing.{Line, textOf, linesOf, listingOf, lentWords}
+use Rattle.listing.specs.Listing.{Line, textOf, listingOf, lentWords}
 use Rattle.listing.specs.Turn.{Turned, turnOf}
 use Rattle.listing.specs.Turns.{listedThen, turnsFrom, turnsOf}
-use Rattle.listing.specs.Stretch.{newStretch, listedText, endsWith, putAt, Stretched, stretched, turnPut, stretchTurn, goesOn, stretchFrom, turnsIn, stretchOf}
+use Rattle.listing.specs.Stretch.{newStretch, listedText, endsWith, putAt, Stretched, stretched, stretchTurn, goesOn, stretchFrom, turnsIn, stretchOf}
 use Rattle.listing.specs.Progress.{ToCome, Progress, Piece}
 use Rattle.listing.specs.declared.answer.Lister.{Lister}
 use Rattle.listing.specs.declared.answer.Listed.{Listed}
 use Rattle.listing.specs.declared.answer.Listed.the-variants.{Nothing, Line as OneLine, Last, Closing}
-use Rattle.listing.specs.declared.stretch.Stretch.{Stretch}
 use Rattle.listing.proofs.Whole.{turns-list}
 use Rattle.listing.proofs.Stretches.{goes-room, goes-incomplete}
 

@@ -1,10 +1,10 @@
 -- ONE WORD AT A TIME GIVES THE LISTING: the turns over a file, in order, print exactly its lines (`turns-list`).
 -- By induction on the bytes, four at a time. A turn at a word is the first step of `linesFrom` at the word's item: `answer-lines` says so of
 -- every answer, and the items differ in their calls alone. The lister after a turn is that of the next word, since no file has 2^64 words.
-use Prim.Native.Nat.{ℕ, zero, suc, _+_, _/_, _%_, _^_, _<_, _≤_, max}
+use Prim.Native.Nat.{ℕ, zero, suc, _+_, _/_, _%_, _^_, _<_, max}
 use mathlib.Core.Bool.{Bool, true, false}
 use mathlib.Core.List.{List, [], _∷_}
-use mathlib.Core.Path.{_≡_, refl, sym, ap, _∙_}
+use mathlib.Core.Path.{_≡_, refl, ap, _∙_}
 use native.Mathlib.Nat.{max-zero, mod-eq-of-lt}
 use native.Mathlib.Omega.{arith}
 use lib.Dec.{eqb}
@@ -15,9 +15,7 @@ use Rattle.rules.specs.declared.Answer.{Answer}
 use Rattle.rules.specs.declared.Answer.the-variants.{Moving, Put, Taken, Empty, Full, Refused}
 use Rattle.runfile.specs.Words.{wordOf, readsOf, readAt}
 use Rattle.runfile.specs.Items.{itemOf}
-use Rattle.runfile.specs.File.{File, faultOf, placeAfter, joins, fileFrom, fileOf}
-use Rattle.runfile.specs.declared.word.Read.{Read}
-use Rattle.runfile.specs.declared.word.Read.the-variants.{Word, Cut, End as NoMore}
+use Rattle.runfile.specs.File.{placeAfter, joins, fileFrom, fileOf}
 use Rattle.runfile.specs.declared.item.Place.{Place}
 use Rattle.runfile.specs.declared.item.Item.{Item}
 use Rattle.runfile.specs.declared.item.Item.the-variants.{Open, Make, BeginPut, BeginTake, Step, End, Bad}

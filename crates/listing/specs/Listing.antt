@@ -3,11 +3,11 @@
 -- The lister stops after 22, 28, 29, 30, else ends with held H worst D."
 use Prim.Native.Nat.{ℕ, _+_, _*_, max}
 use mathlib.Core.List.{List, [], _∷_, _++_}
-use mathlib.Core.Bool.{Bool, true, false}
+use mathlib.Core.Bool.{Bool, true}
 use lib.ListN.{length, replicate}
 use lib.Dec.{eqb, ltb}
 use Rattle.laws.specs.Choice.{cond}
-use Rattle.rules.specs.Answers.{Out, out, numberOf, fieldsOf, noFields}
+use Rattle.rules.specs.Answers.{Out, out, fieldsOf, noFields}
 use Rattle.rules.specs.Limits.{settingsFit}
 use Rattle.rules.specs.Fit.{checkedOf}
 use Rattle.rules.specs.Make.{makeOf}
@@ -20,7 +20,7 @@ use Rattle.rules.specs.declared.Checked.{Checked}
 use Rattle.rules.specs.declared.Checked.the-variants.{Unfit, Fit}
 use Rattle.rules.specs.declared.Answer.{Answer}
 use Rattle.rules.specs.declared.Answer.the-variants.{Moving, Put, Taken, Empty, Full, Refused}
-use Rattle.runfile.specs.File.{File, fileOf}
+use Rattle.runfile.specs.File.{fileOf}
 use Rattle.runfile.specs.declared.item.Item.{Item}
 use Rattle.runfile.specs.declared.item.Item.the-variants.{Open, Make, BeginPut, BeginTake, Step, End, Bad}
 use Rattle.lines.specs.Lines.{lineOf, closingOf}

@@ -19,7 +19,6 @@ use Rattle.runfile.specs.declared.item.Item.the-variants.{Open, Make, BeginPut,
 use Rattle.lines.specs.declared.line.Entry.{Entry}
 use Rattle.listing.specs.Listing.{callOf, cappedOf, stops, heldOf}
 use Rattle.listing.specs.declared.answer.Lister.{Lister}
-use Rattle.listing.specs.declared.answer.Listed.{Listed}
 use Rattle.listing.specs.declared.answer.Listed.the-variants.{Nothing, Line, Last, Closing}
 use Rattle.listing.specs.declared.answer.Turn.{Turn}
 

@@ -7,10 +7,10 @@ use mathlib.Core.Bool.{Bool, true, false}
 use native.Mathlib.Nat.{mod-lt, mod-add-mod, mod-eq-of-lt, mod-self, mul-le-mul-right, suc-mul, add-zero, add-suc}
 use native.Mathlib.Numerals.{add-one}
 use native.Mathlib.Omega.{arith}
-use lib.ListN.{getD, length, take, drop, length-append}
+use lib.ListN.{getD, take, drop}
 use lib.Seq.{getD-drop, getD-take}
-use lib.Dec.{leb, ltb, eqb}
-use borrow.Author.Tests.{eq-eqb, ne-eqb, eqb-true, eqb-false, leb-true, leb-false, lt-ltb, le-ltb, le-leb, lt-leb}
+use lib.Dec.{eqb}
+use borrow.Author.Tests.{eqb-true, eqb-false, lt-ltb, le-ltb}
 use Rattle.laws.specs.Choice.{cond, cond-true, cond-false}
 use Rattle.laws.specs.Wrap.{sub32}
 use Rattle.rules.specs.Layout.{cellsAt, cellAt, firstOf, secondOf}
@@ -172,13 +172,11 @@ module _ (ws : List ℕ) (g : Settings) (j t : ℕ) (is : t ≡ rowsBelow g (sec
       ∙ rw (above-straight ws g j t room (omega arith) (omega arith), above-straight ws g j (t + room) (held - room) (omega arith) (omega (arith, wraps)), from) refl)
 
 -- ---- by kind
-pub queue-rows-below : (g : Settings) (second : ℕ) → g .kind ≡ 0 → second ≡ rowsBelow g second
-unfolding cond
-queue-rows-below g second e = rw (eq-eqb (g .kind) 0 e) refl
+pub queue-below : (g : Settings) → g .kind ≡ 0 → (x : ℕ) → rowsBelow g x ≡ x
+queue-below g k x = rw k (cond-true x 0)
 
-stack-rows-below : (g : Settings) (second : ℕ) → 1 ≤ g .kind → 0 ≡ rowsBelow g second
-unfolding cond
-stack-rows-below g second k = rw (ne-eqb (g .kind) 0 (λ e. omega arith)) refl
+pub stack-below : (g : Settings) → g .kind ≡ 1 → (x : ℕ) → rowsBelow g x ≡ 0
+stack-below g k x = rw k (cond-false x 0)
 
 -- a stack's held rows are its first cells
 pub stack-one-run : (ws : List ℕ) (g : Settings) (j : ℕ) → Bounds g → 1 ≤ g .kind → firstOf ws j ≤ g .rows
@@ -187,5 +185,5 @@ stack-one-run ws g j b k h =
     let zero-start : 0 % g .rows ≡ 0 = mod-eq-of-lt {n = 0} (rows-pos g b) in
     let from : cellsAt g + 2 * (j * g .rows) + 2 * (0 % g .rows) ≡ cellsAt g + 2 * (j * g .rows) = omega (arith, zero-start) in
     let all : firstOf ws j - 0 ≡ firstOf ws j = omega arith in
-    held-one-run ws g j 0 (stack-rows-below g (secondOf ws j) k) (omega (arith, b .rows1024)) (omega arith) (omega (arith, zero-start, rows-pos g b)) (omega (arith, zero-start))
+    held-one-run ws g j 0 (sym (stack-below g (omega (arith, b .kind1)) (secondOf ws j))) (omega (arith, b .rows1024)) (omega arith) (omega (arith, zero-start, rows-pos g b)) (omega (arith, zero-start))
     ∙ rw (from, all) refl

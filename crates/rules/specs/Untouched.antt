@@ -3,7 +3,6 @@ use Prim.Native.Nat.{ℕ, _≤_}
 use mathlib.Core.Path.{_≡_}
 use mathlib.Core.List.{List}
 use lib.ListN.{getD, length}
-use Rattle.rules.specs.Answers.{Out}
 use Rattle.rules.specs.Layout.{needed, settingsOf}
 use Rattle.rules.specs.Make.{makeOf}
 use Rattle.rules.specs.Begin.{beginOf}

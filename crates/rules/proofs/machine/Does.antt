@@ -26,13 +26,13 @@ use Rattle.rules.specs.Confirm.{counted, confirmRule, confirmedOf}
 use Rattle.rules.specs.Step.{ruleBy, ruleOf}
 use Rattle.rules.specs.Run.{Call, beginPut, beginTake, step}
 use Rattle.rules.proofs.Types.{Settings, Side, Putting, Taking, Phase, Idle, Window, QueuePutRead, QueueTakeRead, StackRead, Check, QueueCommit, StackCommit, QueueShift, StackShift, Confirm, Version, Slot, View, Effect, Outcome}
+use Rattle.rules.proofs.Cells.{queue-below, stack-below}
 use Rattle.rules.specs.declared.Outcome.the-variants.{Refused, Moving, Shifted, Landed, Removed, Empty, Full}
 use Rattle.rules.proofs.counts.Sums.{upd, upd-all}
 use Rattle.rules.proofs.counts.Wraps.{add32-suc, sub32-is, next-lt}
 use Rattle.rules.proofs.order.Law.{Next}
 use Rattle.rules.proofs.machine.Machine.{State, subIn, viewIn, applyIn, applyInBy, stepIn, beginIn, nextIn, madeIn}
 use Rattle.rules.proofs.machine.Phases.{scanIn}
-use Rattle.rules.proofs.machine.Good.{queue-below, stack-below}
 use Rattle.rules.proofs.machine.Turns.{SlotFits, Common, Counts}
 use Rattle.rules.proofs.machine.Slots.{OfKind, phase-from, of-both, encode-fits}
 

@@ -4,9 +4,8 @@ use mathlib.Core.Bool.{true}
 use Prim.Native.Nat.{ℕ, _+_, _-_, _*_, _/_, _≤_}
 use native.Mathlib.Nat.{div-add-mod'}
 use native.Mathlib.Omega.{arith}
-use Rattle.laws.specs.Choice.{cond, cond-true, cond-false}
+use Rattle.laws.specs.Choice.{cond}
 use Rattle.rules.specs.Limits.{settingsFit, Bounds}
-use Rattle.rules.specs.Held.{rowsBelow}
 use Rattle.rules.specs.Sequential.{mostPassed, leastFull}
 use Rattle.rules.proofs.Types.{Settings}
 use Rattle.rules.proofs.Fitness.{settings-bounds, queue-limits}
@@ -27,15 +26,8 @@ good g e =
       queue-rows = λ k. omega (arith, queue-limits g e k .1, div-add-mod' (g .rows) (g .depth));
     }
 
--- ---- what a definition says of a kind
+-- ---- demand 3's numbers against what a kind shows
 module _ (g : Settings) where
-  pub queue-below : g .kind ≡ 0 → (x : ℕ) → rowsBelow g x ≡ x
-  queue-below k x = rw k (cond-true x 0)
-
-  pub stack-below : g .kind ≡ 1 → (x : ℕ) → rowsBelow g x ≡ 0
-  stack-below k x = rw k (cond-false x 0)
-
-  -- demand 3's numbers against what a kind shows
   pub queue-most : g .kind ≡ 0 → (g .width - 1) * g .depth ≤ mostPassed g
   unfolding mostPassed cond
   queue-most k = rw k (omega arith)

@@ -21,7 +21,7 @@
 -- a landed or removed item. A slot `encode k o` is in phase `k .phase` by `queue-phase` or `stack-phase` (Phases), with
 -- `encode-value` and `encode-index`; so Inv best speaks of `phaseIn g s i` and of `s .slot i .index`, never of the other words.
 -- Sums: `add32-is`, `add32-suc`, `sub32-is` (Wraps). Passes: `Summed`, `Pass` (Passes). The list: `Holds` and `find-row`
--- (Held), with `belowIn g s` as the rows not held: `queue-below`, `stack-below` (Good). Stamps: `Stamped` (Stamps).
+-- (Held), with `belowIn g s` as the rows not held: `queue-below`, `stack-below` (Cells). Stamps: `Stamped` (Stamps).
 -- What the specification gives: `gives-put`, `gives-taken`, `gives-empty`, `gives-full` (Gives).
 -- How a step may end, for both kinds, with `Snap` as the pass of a worker in confirm: `by-walk`, `by-try` and the others (Ways).
 use mathlib.Core.Path.{_≡_, refl, ap, _∙_}

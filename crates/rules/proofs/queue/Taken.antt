@@ -20,13 +20,14 @@ use Rattle.rules.specs.Effects.{hopOf}
 use Rattle.rules.specs.Commit.{queueCommit, commitBy, removedOf}
 use Rattle.rules.specs.Sequential.{taking, Contents, mostPassed, passedBy}
 use Rattle.rules.proofs.Types.{Settings, Taking, Idle, Window, QueueCommit, Effect}
+use Rattle.rules.proofs.Cells.{queue-below}
 use Rattle.rules.proofs.counts.Sums.{upd, upd-same, upd-other, upd-self, upTo, sum-within-but, rows-more, rows-flat, times-pred}
 use Rattle.rules.proofs.machine.Machine.{State, next, subIn, viewIn, phaseIn, belowIn, takenIn, distanceIn, applyIn, applyInBy}
 use Rattle.rules.proofs.counts.Wraps.{add32-suc}
 use Rattle.rules.proofs.counts.Held.{Holds, rowsOf, holds-low, holds-ext, RowFound, find-row, distance-held}
 use Rattle.rules.proofs.counts.Stamps.{single}
 use Rattle.rules.proofs.order.Gives.{takenOff, gives-taken, final-taken}
-use Rattle.rules.proofs.machine.Good.{Good, queue-below, queue-most}
+use Rattle.rules.proofs.machine.Good.{Good, queue-most}
 use Rattle.rules.proofs.machine.Turns.{Common}
 use Rattle.rules.proofs.queue.Inv.{Windows, Pool, TakeCommits, Knows, Inv, Grown, taken-few}
 use Rattle.rules.proofs.queue.Moves.{Stepped, walk, end}

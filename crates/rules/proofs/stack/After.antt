@@ -11,12 +11,13 @@ use Rattle.rules.specs.Effects.{movedOf, restartOf}
 use Rattle.rules.specs.Sequential.{Contents}
 use Rattle.rules.specs.Run.{step}
 use Rattle.rules.proofs.Types.{Settings, Side, Phase, Window, Worker, Slot, Effect}
+use Rattle.rules.proofs.Cells.{stack-below}
 use Rattle.rules.proofs.counts.Sums.{upd, sumN, sum-gap-at, sum-zero}
 use Rattle.rules.proofs.order.Law.{Next, pending}
 use Rattle.rules.proofs.machine.Machine.{State, belowIn, subIn, viewIn, phaseIn, applyIn, turnedIn, apply-moved}
 use Rattle.rules.proofs.machine.Phases.{OfStack, operationOf, statusOf, worker, stack-phase}
 use Rattle.rules.proofs.counts.Held.{Holds, holds-ext}
-use Rattle.rules.proofs.machine.Good.{Good, stack-below}
+use Rattle.rules.proofs.machine.Good.{Good}
 use Rattle.rules.proofs.machine.Turns.{Common, Turned}
 use Rattle.rules.proofs.machine.Ways.{Snap, Written, each-after, by-walk}
 use Rattle.rules.proofs.stack.Inv.{Ghost, sight, Pool, Knows, Inv, versionsIn}

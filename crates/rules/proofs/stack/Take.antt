@@ -9,13 +9,14 @@ use Rattle.rules.specs.Held.{Item}
 use Rattle.rules.specs.Commit.{removedOf}
 use Rattle.rules.specs.Sequential.{Contents, passedBy}
 use Rattle.rules.proofs.Types.{Settings, Taking, StackCommit, Version}
+use Rattle.rules.proofs.Cells.{stack-below}
 use Rattle.rules.proofs.counts.Sums.{upd, upd-same, upd-other, upd-all}
 use Rattle.rules.proofs.machine.Machine.{State, next, subIn, viewIn, phaseIn, takenIn, distanceIn, applyIn, applyInBy}
 use Rattle.rules.proofs.counts.Wraps.{add32-suc, sub32-is}
 use Rattle.rules.proofs.counts.Held.{RowFound, find-row, holds-top, distance-held}
 use Rattle.rules.proofs.counts.Stamps.{Stamped, single, stamped-less}
 use Rattle.rules.proofs.order.Gives.{takenOff, gives-taken, final-taken}
-use Rattle.rules.proofs.machine.Good.{Good, stack-below}
+use Rattle.rules.proofs.machine.Good.{Good}
 use Rattle.rules.proofs.machine.Turns.{Holding}
 use Rattle.rules.proofs.stack.Inv.{Pairs, Inv}
 use Rattle.rules.proofs.stack.After.{version-few, held-le, held-rows, rows-held, Stepping, On}

@@ -2,7 +2,6 @@
 use Prim.Native.Nat.{_+_, _<_, _≤_}
 use lib.ListN.{length}
 use Rattle.lines.specs.Area.{lineBytes}
-use mathlib.Core.Path.{sym}
 use native.Mathlib.Omega.{arith}
 use borrow.Author.Tests.{le-leb, lt-leb}
 use Rattle.laws.specs.Choice.{cond}

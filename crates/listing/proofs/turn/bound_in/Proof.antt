@@ -1,6 +1,6 @@
 -- `listing::turn::bound_in` meets its contract: settings within limits have the bounds that `most_passed` asks for. Assumes nothing.
 use Rattle.laws.specs.Choice.{cond}
-use mathlib.Core.Path.{_≡_, refl, sym, _∙_}
+use mathlib.Core.Path.{sym, _∙_}
 use Rattle.rules.proofs.Fitness.{settings-bounds}
 use Rattle.listing.specs.Listing.{boundIn}
 use borrow.Author.Needs.{needs}

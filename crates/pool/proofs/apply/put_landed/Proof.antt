@@ -2,7 +2,6 @@
 use mathlib.Core.Path.{_∙_}
 use lib.ListN.{length-set}
 use borrow.Author.Needs.{needs}
-use native.Mathlib.Omega.{arith}
 use Rattle.rules.specs.Apply.{putLanded}
 use Rattle.pool.proofs.apply.put_landed.Statement.{statement}
 use Rattle.pool.proofs.apply.put_landed.Tie as tie

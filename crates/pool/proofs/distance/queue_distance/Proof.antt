@@ -4,7 +4,7 @@ use mathlib.Core.Path.{ap, ap₂, sym, _∙_}
 use Prim.Native.Nat.{ℕ, _%_, _*_, _+_, _-_, _<_, _^_, _≤_}
 use native.Mathlib.Omega.{arith}
 use borrow.Author.Needs.{needs}
-use Rattle.rules.proofs.Cells.{count-append, held-one-run, held-two-runs, queue-rows-below, rows-pos, sub-cells-le}
+use Rattle.rules.proofs.Cells.{count-append, held-one-run, held-two-runs, queue-below, rows-pos, sub-cells-le}
 use Rattle.rules.specs.Held.{countItems, passedOver}
 use Rattle.rules.specs.Layout.{firstOf, secondOf}
 use Rattle.pool.proofs.distance.queue_distance.Statement.{statement}
@@ -124,7 +124,7 @@ returns c =
     let start : t % s .args .g .rows < s .args .g .rows = mod-lt t (rows-pos (s .args .g) (s .pre .0 .1)) in
     let cells = sub-cells-le (s .args .g) (s .args .j) (s .pre .1 .0 .1) in
     let few : first < 2 ^ 32 = c .before .before .before .before .before .shared-slice-known3 .given (12 + 2 * s .args .j) .fits in
-    let is = queue-rows-below (s .args .g) t (s .pre .0 .0) in
+    let is = sym (queue-below (s .args .g) (s .pre .0 .0) t) in
     let run = simp (c .before .before .before .before .sub-cells .ensures) at (c .older .ensures .0) in
     let all = held-one-run (s .args .words .now) (s .args .g) (s .args .j) t is few low start (c .before .if1 .taken) in
     (run ∙ ap (countItems (passedOver 0 (s .args .s))) (sym all), omega arith)
@@ -197,7 +197,7 @@ returns-2 c =
     let start : t % s .args .g .rows < s .args .g .rows = mod-lt t (rows-pos (s .args .g) (s .pre .0 .1)) in
     let cells = sub-cells-le (s .args .g) (s .args .j) (s .pre .1 .0 .1) in
     let few : first < 2 ^ 32 = c .before .before .before .before .before .before .shared-slice-known3 .given (12 + 2 * s .args .j) .fits in
-    let is = queue-rows-below (s .args .g) t (s .pre .0 .0) in
+    let is = sym (queue-below (s .args .g) (s .pre .0 .0) t) in
     let one = simp (c .before .before .before .before .before .sub-cells .ensures) at (c .before .older2 .ensures .0) in
     let two = simp (c .before .before .before .before .before .sub-cells .ensures) at (c .older3 .ensures .0) in
     let all = held-two-runs (s .args .words .now) (s .args .g) (s .args .j) t is few low start (c .before .before .if1 .left) (omega arith) in
