@@ -90,13 +90,5 @@ pub fn step(words: &mut [u32], worker: u32) -> Answer {
 fn answer(call: impl FnOnce(&mut Fields) -> u32) -> Answer {
     let mut fields = UNWRITTEN;
     let number = call(&mut fields);
-    let [value, sub, row, stamp, distance] = fields;
-    Answer {
-        number,
-        value,
-        sub,
-        row,
-        stamp,
-        distance,
-    }
+    Answer::with(number, fields)
 }

@@ -10,9 +10,11 @@ mod queue;
 mod stack;
 
 use admit::{admit, Parts};
-use second::layout::{self, HEADER_WORDS, INDEX, PHASE, STEPS_COUNTED, WORKER_WORDS};
+use second::layout::WORKER_WORDS;
+use second::layout::{self, HEADER_WORDS, INDEX, PHASE, PUTS_MADE, STEPS_COUNTED, SUM, VALUE};
+use second::TOO_SHORT;
 use second::{Answer, Settings};
-use second::{BUSY, IDLE, MOVING, NO_WORKER, OFF_LIMITS, QUEUE, SPENT, STEP_LIMIT, TOO_SHORT};
+use second::{BUSY, IDLE, MOVING, NO_WORKER, OFF_LIMITS, PUT, QUEUE, SPENT, STEP_LIMIT, TAKEN};
 
 type Header = [u32; HEADER_WORDS];
 type Worker = [u32; WORKER_WORDS];
@@ -115,4 +117,60 @@ fn scanned_all(worker: &mut Worker, width: usize) -> bool {
     let all = scan as usize == width;
     worker[layout::SCAN] = if all { 0 } else { scan };
     all
+}
+
+/// A commit that another one came before.
+fn lost(worker: &mut Worker, width: usize, restart: u32) -> Answer {
+    next_index(worker, width);
+    worker[PHASE] = restart;
+    Answer::of(MOVING)
+}
+
+/// The worker's item lands in a row and its cell; the sub's words are then `words`.
+fn landed(parts: &mut Parts, number: usize, row: u32, cell: usize, words: [u32; 2]) -> Answer {
+    let worker = &mut parts.workers[number];
+    let (value, sub) = (worker[VALUE], worker[INDEX]);
+    let stamp = parts.header[PUTS_MADE].wrapping_add(1);
+    parts.cells[cell] = [value, stamp];
+    parts.subs[sub as usize] = words;
+    parts.header[PUTS_MADE] = stamp;
+    idle(worker, Answer::with(PUT, [value, sub, row, stamp, 0]))
+}
+
+/// The row's item is taken, with the distance of its stamp just before; the
+/// sub's words are then `words`.
+fn taken(
+    parts: &mut Parts,
+    number: usize,
+    row: u32,
+    cell: usize,
+    words: [u32; 2],
+    passed: fn(&[[u32; 2]], &[[u32; 2]], usize, u32) -> u32,
+) -> Answer {
+    let [value, stamp] = parts.cells[cell];
+    let rows = parts.header[layout::ROWS] as usize;
+    let distance = passed(parts.subs, parts.cells, rows, stamp);
+    let worker = &mut parts.workers[number];
+    let sub = worker[INDEX];
+    parts.subs[sub as usize] = words;
+    idle(
+        worker,
+        Answer::with(TAKEN, [value, sub, row, stamp, distance]),
+    )
+}
+
+/// Takes one of the sub's two words off the sum; the last sub decides.
+fn confirm(parts: &mut Parts, number: usize, which: usize, restart: u32, none: u32) -> Answer {
+    let worker = &mut parts.workers[number];
+    let count = parts.subs[worker[INDEX] as usize][which];
+    worker[SUM] = worker[SUM].wrapping_sub(count);
+    let width = parts.subs.len();
+    next_index(worker, width);
+    if scanned_all(worker, width) {
+        if worker[SUM] == 0 {
+            return idle(worker, Answer::of(none));
+        }
+        worker[PHASE] = restart;
+    }
+    Answer::of(MOVING)
 }

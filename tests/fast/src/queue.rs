@@ -1,11 +1,11 @@
 //! A step of a queue.
 
 use crate::distance::older;
-use crate::{idle, next_index, scanned_all, Parts};
+use crate::{confirm, idle, landed, lost, next_index, scanned_all, taken, Parts};
 use crate::{PUT_WINDOW_PHASE, TAKE_WINDOW_PHASE};
-use second::layout::{DEPTH, EXTRA, INDEX, PHASE, PUTS_MADE, PUT_WINDOW, ROWS, SCAN};
-use second::layout::{SEEN, SEEN_WINDOW, SUM, TAKE_WINDOW, VALUE};
-use second::{Answer, EMPTY, FULL, MOVING, PUT, TAKEN, UNFIT};
+use second::layout::{DEPTH, EXTRA, INDEX, PHASE, PUT_WINDOW, ROWS, SCAN, SEEN, SEEN_WINDOW};
+use second::layout::{SUM, TAKE_WINDOW};
+use second::{Answer, EMPTY, FULL, MOVING, UNFIT};
 
 pub fn step(parts: &mut Parts, number: usize) -> Answer {
     match parts.workers[number][PHASE] {
@@ -17,7 +17,7 @@ pub fn step(parts: &mut Parts, number: usize) -> Answer {
         10 => read_take(parts, number),
         12 => commit_take(parts, number),
         13 => shift_take(parts, number),
-        _ => confirm(parts, number),
+        _ => confirm(parts, number, 0, TAKE_WINDOW_PHASE, EMPTY),
     }
 }
 
@@ -72,64 +72,31 @@ fn commit_put(parts: &mut Parts, number: usize) -> Answer {
     let sub = worker[INDEX];
     let [put, taken] = parts.subs[sub as usize];
     if put != worker[SEEN] {
-        next_index(worker, parts.subs.len());
-        worker[PHASE] = PUT_WINDOW_PHASE;
-        return Answer::of(MOVING);
+        return lost(worker, parts.subs.len(), PUT_WINDOW_PHASE);
     }
     let rows = parts.header[ROWS];
     if put - taken == rows {
         return Answer::of(UNFIT);
     }
-    let value = worker[VALUE];
-    let stamp = parts.header[PUTS_MADE].wrapping_add(1);
-    parts.cells[(sub * rows + put % rows) as usize] = [value, stamp];
+    let cell = (sub * rows + put % rows) as usize;
     let row = put.wrapping_add(1);
-    parts.subs[sub as usize][0] = row;
-    parts.header[PUTS_MADE] = stamp;
-    let number = PUT;
-    let distance = 0;
-    idle(
-        worker,
-        Answer {
-            number,
-            value,
-            sub,
-            row,
-            stamp,
-            distance,
-        },
-    )
+    landed(parts, number, row, cell, [row, taken])
 }
 
 fn commit_take(parts: &mut Parts, number: usize) -> Answer {
     let worker = &mut parts.workers[number];
     let sub = worker[INDEX];
-    let [put, taken] = parts.subs[sub as usize];
-    if taken != worker[SEEN] {
-        next_index(worker, parts.subs.len());
-        worker[PHASE] = TAKE_WINDOW_PHASE;
-        return Answer::of(MOVING);
+    let [put, was_taken] = parts.subs[sub as usize];
+    if was_taken != worker[SEEN] {
+        return lost(worker, parts.subs.len(), TAKE_WINDOW_PHASE);
     }
-    if put == taken {
+    if put == was_taken {
         return Answer::of(UNFIT);
     }
     let rows = parts.header[ROWS];
-    let [value, stamp] = parts.cells[(sub * rows + taken % rows) as usize];
-    let distance = older(parts.subs, parts.cells, rows as usize, stamp);
-    let row = taken + 1;
-    parts.subs[sub as usize][1] = row;
-    let number = TAKEN;
-    idle(
-        worker,
-        Answer {
-            number,
-            value,
-            sub,
-            row,
-            stamp,
-            distance,
-        },
-    )
+    let cell = (sub * rows + was_taken % rows) as usize;
+    let row = was_taken + 1;
+    taken(parts, number, row, cell, [put, row], older)
 }
 
 fn shift_put(parts: &mut Parts, number: usize) -> Answer {
@@ -158,20 +125,5 @@ fn shift_take(parts: &mut Parts, number: usize) -> Answer {
         header[TAKE_WINDOW] = take_window.wrapping_add(header[DEPTH]);
     }
     worker[PHASE] = TAKE_WINDOW_PHASE;
-    Answer::of(MOVING)
-}
-
-fn confirm(parts: &mut Parts, number: usize) -> Answer {
-    let worker = &mut parts.workers[number];
-    let [put, _] = parts.subs[worker[INDEX] as usize];
-    worker[SUM] = worker[SUM].wrapping_sub(put);
-    let width = parts.subs.len();
-    next_index(worker, width);
-    if scanned_all(worker, width) {
-        if worker[SUM] == 0 {
-            return idle(worker, Answer::of(EMPTY));
-        }
-        worker[PHASE] = TAKE_WINDOW_PHASE;
-    }
     Answer::of(MOVING)
 }

@@ -1,11 +1,11 @@
 //! A step of a stack.
 
 use crate::distance::newer;
-use crate::{idle, next_index, scanned_all, Parts};
+use crate::{confirm, landed, lost, next_index, scanned_all, taken, Parts};
 use crate::{PUT_WINDOW_PHASE, TAKE_WINDOW_PHASE};
-use second::layout::{DEPTH, EXTRA, INDEX, PHASE, PUTS_MADE, ROWS, SCAN, SEEN, SEEN_WINDOW};
-use second::layout::{SHIFT, SUM, VALUE, WINDOW, WINDOW_VERSION};
-use second::{Answer, EMPTY, FULL, MOVING, PUT, TAKEN, UNFIT};
+use second::layout::{DEPTH, EXTRA, INDEX, PHASE, ROWS, SCAN, SEEN, SEEN_WINDOW, SHIFT, SUM};
+use second::layout::{WINDOW, WINDOW_VERSION};
+use second::{Answer, EMPTY, FULL, MOVING, UNFIT};
 
 pub fn step(parts: &mut Parts, number: usize) -> Answer {
     match parts.workers[number][PHASE] {
@@ -17,8 +17,8 @@ pub fn step(parts: &mut Parts, number: usize) -> Answer {
         12 => commit_take(parts, number),
         5 => shift(parts, number, true),
         13 => shift(parts, number, false),
-        6 => confirm(parts, number, PUT_WINDOW_PHASE, FULL),
-        _ => confirm(parts, number, TAKE_WINDOW_PHASE, EMPTY),
+        6 => confirm(parts, number, 1, PUT_WINDOW_PHASE, FULL),
+        _ => confirm(parts, number, 1, TAKE_WINDOW_PHASE, EMPTY),
     }
 }
 
@@ -71,33 +71,14 @@ fn commit_put(parts: &mut Parts, number: usize) -> Answer {
     let sub = worker[INDEX];
     let [held, version] = parts.subs[sub as usize];
     if version != worker[SEEN] {
-        next_index(worker, parts.subs.len());
-        worker[PHASE] = PUT_WINDOW_PHASE;
-        return Answer::of(MOVING);
+        return lost(worker, parts.subs.len(), PUT_WINDOW_PHASE);
     }
     let rows = parts.header[ROWS];
     if held == rows {
         return Answer::of(UNFIT);
     }
-    let value = worker[VALUE];
-    let stamp = parts.header[PUTS_MADE].wrapping_add(1);
-    let row = held + 1;
-    parts.cells[(sub * rows + held) as usize] = [value, stamp];
-    parts.subs[sub as usize] = [row, version.wrapping_add(1)];
-    parts.header[PUTS_MADE] = stamp;
-    let number = PUT;
-    let distance = 0;
-    idle(
-        worker,
-        Answer {
-            number,
-            value,
-            sub,
-            row,
-            stamp,
-            distance,
-        },
-    )
+    let (row, cell) = (held + 1, (sub * rows + held) as usize);
+    landed(parts, number, row, cell, [row, version.wrapping_add(1)])
 }
 
 fn commit_take(parts: &mut Parts, number: usize) -> Answer {
@@ -105,29 +86,14 @@ fn commit_take(parts: &mut Parts, number: usize) -> Answer {
     let sub = worker[INDEX];
     let [row, version] = parts.subs[sub as usize];
     if version != worker[SEEN] {
-        next_index(worker, parts.subs.len());
-        worker[PHASE] = TAKE_WINDOW_PHASE;
-        return Answer::of(MOVING);
+        return lost(worker, parts.subs.len(), TAKE_WINDOW_PHASE);
     }
     if row == 0 {
         return Answer::of(UNFIT);
     }
-    let rows = parts.header[ROWS];
-    let [value, stamp] = parts.cells[(sub * rows + row - 1) as usize];
-    let distance = newer(parts.subs, parts.cells, rows as usize, stamp);
-    parts.subs[sub as usize] = [row - 1, version.wrapping_add(1)];
-    let number = TAKEN;
-    idle(
-        worker,
-        Answer {
-            number,
-            value,
-            sub,
-            row,
-            stamp,
-            distance,
-        },
-    )
+    let cell = (sub * parts.header[ROWS] + row - 1) as usize;
+    let after = [row - 1, version.wrapping_add(1)];
+    taken(parts, number, row, cell, after, newer)
 }
 
 fn shift(parts: &mut Parts, number: usize, put: bool) -> Answer {
@@ -150,20 +116,5 @@ fn shift(parts: &mut Parts, number: usize, put: bool) -> Answer {
         header[WINDOW_VERSION] = version.wrapping_add(1);
     }
     worker[PHASE] -= 4;
-    Answer::of(MOVING)
-}
-
-fn confirm(parts: &mut Parts, number: usize, restart: u32, none: u32) -> Answer {
-    let worker = &mut parts.workers[number];
-    let [_, version] = parts.subs[worker[INDEX] as usize];
-    worker[SUM] = worker[SUM].wrapping_sub(version);
-    let width = parts.subs.len();
-    next_index(worker, width);
-    if scanned_all(worker, width) {
-        if worker[SUM] == 0 {
-            return idle(worker, Answer::of(none));
-        }
-        worker[PHASE] = restart;
-    }
     Answer::of(MOVING)
 }

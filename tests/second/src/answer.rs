@@ -39,6 +39,19 @@ pub const SPENT: u32 = 27;
 pub const STEP_LIMIT: u32 = 4_000_000_000;
 
 impl Answer {
+    /// With its fields: value, sub, row, stamp and distance.
+    #[inline]
+    pub fn with(number: u32, [value, sub, row, stamp, distance]: [u32; 5]) -> Answer {
+        Answer {
+            number,
+            value,
+            sub,
+            row,
+            stamp,
+            distance,
+        }
+    }
+
     pub fn of(number: u32) -> Answer {
         Answer {
             number,
