@@ -3,6 +3,7 @@
 
 mod machine;
 mod measure;
+mod reading;
 mod side;
 mod tables;
 mod workload;
@@ -24,4 +25,5 @@ fn main() {
     println!("  take's last call counts its distance over all held items.\n");
     tables::all_sizes();
     tables::growth();
+    reading::table();
 }

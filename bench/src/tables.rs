@@ -5,8 +5,8 @@ use crate::workload::{workload, Fill};
 use second::{Settings, QUEUE, STACK};
 
 /// Cells of a pool, however wide it is, unless a table says otherwise.
-const CELLS: u32 = 1024;
-const KINDS: [(u32, &str); 2] = [(QUEUE, "queue"), (STACK, "stack")];
+pub const CELLS: u32 = 1024;
+pub const KINDS: [(u32, &str); 2] = [(QUEUE, "queue"), (STACK, "stack")];
 
 /// Both sides and their ratio, for puts and takes on both kinds.
 pub fn all_sizes() {
@@ -89,7 +89,7 @@ fn grows(what: &str, sizes: [u32; 5], fixed: &str, at: impl Fn(u32, u32) -> (Set
 }
 
 /// Depth 4 throughout; a stack shifts by half of it.
-fn settings(kind: u32, width: u32, rows: u32, workers: u32) -> Settings {
+pub fn settings(kind: u32, width: u32, rows: u32, workers: u32) -> Settings {
     let depth = 4;
     let shift = if kind == QUEUE { depth } else { depth / 2 };
     Settings {
