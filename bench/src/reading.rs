@@ -1,5 +1,6 @@
 //! The check and the distance beside a plain read of the same words: a sum of
-//! them, in a loop of Rust's.
+//! them, in a loop of Rust's. Each is how much longer a call takes on a larger
+//! pool; both pools are timed in every round, and the median round counts.
 
 use crate::measure::{median, ROUNDS};
 use crate::side::{Compiled, Fast, Side};
@@ -9,16 +10,25 @@ use second::layout::CELL_WORDS;
 use second::Settings;
 use sides::Call;
 use std::hint::black_box;
+use std::ops::Range;
 use std::time::Instant;
 
 /// Calls timed per round.
 const CALLS: u32 = 2_000;
 
-/// Nanoseconds per call, or per item of what grows.
-struct Times {
-    compiled: f64,
-    fast: f64,
-    read: f64,
+/// A call that leaves the words as they were, once those that it changes are
+/// put back, and the words that it has to read.
+struct Case {
+    words: Vec<u32>,
+    call: Call,
+    changed: Vec<(usize, u32)>,
+    reads: Reads,
+}
+
+enum Reads {
+    All(Range<usize>),
+    /// The second word of each cell.
+    Stamps(Range<usize>),
 }
 
 pub fn table() {
@@ -36,99 +46,97 @@ pub fn table() {
     println!("| kind | what | for each | compiled | fast | reading |");
     println!("|---|---|---|---:|---:|---:|");
     for (kind, name) in KINDS {
-        let subs = [1, 16].map(|width| (width, check(&settings(kind, width, CELLS / width, 8))));
-        print_growth(name, "check", "sub", subs);
-        let workers =
-            [1, 32].map(|workers| (workers, check(&settings(kind, 4, CELLS / 4, workers))));
-        print_growth(name, "check", "worker", workers);
-        let items = [64, 3_900].map(|items| (items, distance(&settings(kind, 4, 1024, 8), items)));
-        print_growth(name, "distance", "held item", items);
+        let of_width = |width| check(&settings(kind, width, CELLS / width, 8));
+        print_row(name, "check", "sub", [1, 16], of_width);
+        let of_workers = |workers| check(&settings(kind, 4, CELLS / 4, workers));
+        print_row(name, "check", "worker", [1, 32], of_workers);
+        let of_items = |items| distance(&settings(kind, 4, 1024, 8), items);
+        print_row(name, "distance", "held item", [64, 3_900], of_items);
     }
     println!();
 }
 
-fn print_growth(
-    kind: &str,
-    what: &str,
-    each: &str,
-    [(few, least), (many, most)]: [(u32, Times); 2],
-) {
-    let more = f64::from(many - few);
-    let [compiled, fast, read] = [
-        most.compiled - least.compiled,
-        most.fast - least.fast,
-        most.read - least.read,
-    ]
-    .map(|time| time / more);
+fn print_row(kind: &str, what: &str, each: &str, sizes: [u32; 2], case: impl Fn(u32) -> Case) {
+    let more = f64::from(sizes[1] - sizes[0]);
+    let mut cases = sizes.map(case);
+    let mut rounds = [(); 3].map(|()| Vec::new());
+    for _ in 0..ROUNDS {
+        let [few, many] = cases.each_mut().map(times);
+        for (side, times) in rounds.iter_mut().enumerate() {
+            times.push((many[side] - few[side]) / more);
+        }
+    }
+    let [compiled, fast, read] = rounds.map(median);
     println!("| {kind} | {what} | {each} | {compiled:.2} | {fast:.2} | {read:.2} |");
 }
 
 /// A step of a worker that is not there: the whole check, then refusal 24.
-fn check(settings: &Settings) -> Times {
-    let mut words = held(settings, 256);
-    let none = Call::Step {
-        worker: settings.workers,
-    };
-    let checked = settings.cells_at();
-    times(&mut words, none, &[], |words| sum(&words[..checked]))
+fn check(settings: &Settings) -> Case {
+    Case {
+        words: held(settings, 256),
+        call: Call::Step {
+            worker: settings.workers,
+        },
+        changed: Vec::new(),
+        reads: Reads::All(0..settings.cells_at()),
+    }
 }
 
-/// The last step of a take; then the words that it changed are put back.
-fn distance(settings: &Settings, items: u32) -> Times {
+/// The last step of a take.
+fn distance(settings: &Settings, items: u32) -> Case {
     let Commit {
-        mut words,
+        words,
         call,
         changed,
     } = before_commit(settings, items);
     let cells = settings.cells_at();
-    let stamps = cells..cells + CELL_WORDS * items as usize;
-    times(&mut words, call, &changed, |words| {
-        words[stamps.clone()]
-            .chunks_exact(CELL_WORDS)
-            .fold(0, |sum: u32, cell| sum.wrapping_add(cell[1]))
-    })
-}
-
-fn sum(words: &[u32]) -> u32 {
-    words.iter().fold(0, |sum, word| sum.wrapping_add(*word))
-}
-
-fn times(
-    words: &mut [u32],
-    call: Call,
-    changed: &[(usize, u32)],
-    read: impl Fn(&[u32]) -> u32,
-) -> Times {
-    let (mut compiled, mut fast, mut reading) = (Vec::new(), Vec::new(), Vec::new());
-    for _ in 0..ROUNDS {
-        compiled.push(per_call(|| {
-            stepped(&mut Compiled::default(), words, call, changed)
-        }));
-        fast.push(per_call(|| stepped(&mut Fast, words, call, changed)));
-        reading.push(per_call(|| {
-            for _ in 0..CALLS {
-                black_box(read(black_box(words)));
-            }
-        }));
-    }
-    Times {
-        compiled: median(compiled),
-        fast: median(fast),
-        read: median(reading),
+    Case {
+        words,
+        call,
+        changed,
+        reads: Reads::Stamps(cells..cells + CELL_WORDS * items as usize),
     }
 }
 
-fn stepped(side: &mut impl Side, words: &mut [u32], call: Call, changed: &[(usize, u32)]) {
-    for _ in 0..CALLS {
-        side.call(black_box(&mut *words), call);
-        for (at, word) in changed {
-            words[*at] = *word;
-        }
-    }
+/// Nanoseconds per call: compiled, fast, and reading.
+fn times(case: &mut Case) -> [f64; 3] {
+    [
+        per_call(|| make_calls(&mut Compiled::default(), case)),
+        per_call(|| make_calls(&mut Fast, case)),
+        per_call(|| match &case.reads {
+            Reads::All(range) => add_up(&case.words[range.clone()], sum_of_words),
+            Reads::Stamps(range) => add_up(&case.words[range.clone()], sum_of_stamps),
+        }),
+    ]
 }
 
 fn per_call(calls: impl FnOnce()) -> f64 {
     let start = Instant::now();
     calls();
     start.elapsed().as_nanos() as f64 / f64::from(CALLS)
+}
+
+fn make_calls(side: &mut impl Side, case: &mut Case) {
+    let words = &mut case.words;
+    for _ in 0..CALLS {
+        side.call(black_box(&mut *words), case.call);
+        for (at, word) in &case.changed {
+            words[*at] = *word;
+        }
+    }
+}
+
+fn add_up(words: &[u32], sum: impl Fn(&[u32]) -> u32) {
+    for _ in 0..CALLS {
+        black_box(sum(black_box(words)));
+    }
+}
+
+fn sum_of_words(words: &[u32]) -> u32 {
+    words.iter().fold(0, |sum, word| sum.wrapping_add(*word))
+}
+
+fn sum_of_stamps(cells: &[u32]) -> u32 {
+    let cells = cells.chunks_exact(CELL_WORDS);
+    cells.fold(0, |sum, cell| sum.wrapping_add(cell[1]))
 }
