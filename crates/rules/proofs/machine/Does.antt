@@ -1,6 +1,7 @@
 -- What each rule does, read off the rules once: it leaves its worker at its index or the next, with a scan below the width and in
--- a phase of its kind; and of the rows of its sub, by how it ends, a put adds the row above, where a cell is free, a take removes
--- a held row, and any other step leaves the held rows as they are. A refusal is a 23 or a 26. So every pool from make has `Common`.
+-- a phase of its kind. By how it ends, a put adds the row above to its sub, where a cell is free, a take removes a held row, a shift
+-- moves the window, and each leaves the other shared words as they were; any other step leaves all of them. A refusal is a 23 or a
+-- 26. So every pool from make has `Common`.
 use mathlib.Core.Path.{_≡_, refl, sym, _∙_}
 use mathlib.Core.Logic.{_≢_, _⊎_, inl, inr}
 use mathlib.Core.Bool.{Bool, true}

@@ -1,5 +1,5 @@
--- The words after a step say the machine's state after it: first for what the step read and stores again, then for an effect
--- by how it ends.
+-- The words after a step that stores all that a step may store say the machine's state after it. An outcome that stores less
+-- leaves the same words (Writes, Follows).
 use mathlib.Core.Path.{_≡_, sym, ap, _∙_}
 use mathlib.Core.Logic.{_≢_, _⊎_, inl, inr}
 use mathlib.Core.List.{List}
