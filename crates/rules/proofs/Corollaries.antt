@@ -3,6 +3,8 @@ use Prim.Native.Nat.{ℕ}
 use mathlib.Core.List.{List}
 use native.Mathlib.Omega.{arith}
 use Rattle.rules.specs.Make.{makeOf}
+use Rattle.rules.specs.Sequential.{mostPassed}
+use Rattle.rules.specs.Newer.{exactBound}
 use Rattle.rules.specs.Run.{Call, run}
 use Rattle.rules.specs.Consequences.{wordsAfter, OfEveryRun, NothingLost, StampsOnce, hasStamp, WithinBound, InRealTime, NoSumWraps, NeverUnfit}
 use Rattle.rules.proofs.Types.{Settings}
@@ -10,7 +12,7 @@ use Rattle.rules.proofs.counts.Held.{count-none}
 use Rattle.rules.proofs.Transfer.{made-related}
 use Rattle.rules.proofs.Runs.{accounted, stamped-once, safe-after, fine-at}
 use Rattle.rules.proofs.order.Orders.{bounded, in-real-time}
-use Rattle.rules.proofs.Theorem.{kindOf, demand3}
+use Rattle.rules.proofs.Theorem.{kindOf, exact, demand3}
 use Rattle.rules.proofs.words.Made.{accepted}
 
 -- no item is lost or invented
@@ -27,13 +29,16 @@ stamps-once ws g cs made stamp =
     let once = stamped-once g (a .limits) (kindOf g (a .limits)) (made-related g (a .limits) (kindOf g (a .limits)) ws a) cs stamp in
     (omega arith, omega (arith, nothing-lost ws g cs made (hasStamp stamp)))
 
--- each distance reported is within the bound
-pub within-bound : OfEveryRun WithinBound
-within-bound ws g cs made = bounded g (run (makeOf ws g .words) cs) (demand3 ws g cs made)
+-- each distance reported is within demand 3's bound, and within the exact figure
+pub within-bound : OfEveryRun (WithinBound mostPassed)
+within-bound ws g cs made = bounded (mostPassed g) g (run (makeOf ws g .words) cs) (demand3 ws g cs made)
+
+pub within-exact : OfEveryRun (WithinBound exactBound)
+within-exact ws g cs made = bounded (exactBound g) g (run (makeOf ws g .words) cs) (exact ws g cs made)
 
 -- an operation that finished before another began stands before it
-pub real-time : (ws : List ℕ) (g : Settings) (cs : List Call) (made : _) → InRealTime g (run (makeOf ws g .words) cs) (demand3 ws g cs made)
-real-time ws g cs made = in-real-time g (run (makeOf ws g .words) cs) (demand3 ws g cs made)
+pub real-time : (ws : List ℕ) (g : Settings) (cs : List Call) (made : _) → InRealTime (mostPassed g) g (run (makeOf ws g .words) cs) (demand3 ws g cs made)
+real-time ws g cs made = in-real-time (mostPassed g) g (run (makeOf ws g .words) cs) (demand3 ws g cs made)
 
 -- no count and no sum of a step reaches 2^32, and no difference but confirm's passes below 0
 pub no-sum-wraps : OfEveryRun (λ g ws cs. NoSumWraps g (wordsAfter ws cs))

@@ -6,7 +6,9 @@ use mathlib.Core.Bool.{true}
 use native.Mathlib.Decide.{ℕ-discrete}
 use native.Mathlib.Omega.{arith}
 use Rattle.rules.specs.Limits.{settingsFit}
+use Rattle.rules.specs.Sequential.{mostPassed}
 use Rattle.rules.specs.Statement.{Demand3}
+use Rattle.rules.specs.Newer.{k14Bound, thesisBound, exactBound, K14, Thesis, Exact}
 use Rattle.rules.proofs.Types.{Settings}
 use Rattle.rules.proofs.Fitness.{settings-bounds}
 use Rattle.rules.proofs.machine.Good.{good}
@@ -15,6 +17,8 @@ use Rattle.rules.proofs.Transfer.{words-order}
 use Rattle.rules.proofs.words.Made.{accepted}
 use Rattle.rules.proofs.queue.Turn.{queueKind}
 use Rattle.rules.proofs.stack.Turn.{stackKind}
+use Rattle.rules.proofs.stack.Figures.{exact-thesis, thesis-k14, k14-most}
+use Rattle.rules.proofs.order.Relaxed.{relaxed}
 
 -- the law of one step, for settings within limits
 pub kindOf : (g : Settings) → settingsFit g ≡ true → Kind g
@@ -23,7 +27,18 @@ kindOf g limits = elim (ℕ-discrete (g .kind) 0) [
   | no n ↦ stackKind g (good g limits) (omega (arith, settings-bounds g limits .kind1))
 ]
 
-pub demand3 : Demand3
-demand3 ws g cs made =
+-- with the exact figure, the thesis', K14's and demand 3's own: each is in the order of the one before, for it is not below it
+pub exact : Exact
+exact ws g cs made =
     let a = accepted ws g made in
     words-order g (a .limits) (kindOf g (a .limits)) ws a cs
+
+pub thesis : Thesis
+thesis ws g cs made = relaxed (exactBound g) (thesisBound g) (exact-thesis g) g _ (exact ws g cs made)
+
+pub k14 : K14
+k14 ws g cs made =
+    relaxed (thesisBound g) (k14Bound g) (thesis-k14 g (settings-bounds g (accepted ws g made .limits) .depth1)) g _ (thesis ws g cs made)
+
+pub demand3 : Demand3
+demand3 ws g cs made = relaxed (k14Bound g) (mostPassed g) (k14-most g) g _ (k14 ws g cs made)

@@ -10,7 +10,8 @@ use Rattle.rules.specs.Limits.{settingsFit}
 use Rattle.rules.specs.Make.{makeOf}
 use Rattle.rules.specs.Sequential.{Contents, noItems}
 use Rattle.rules.specs.Run.{Call, callOf, run}
-use Rattle.rules.specs.Statement.{OneAtATime}
+use Rattle.rules.specs.Newer.{exactBound}
+use Rattle.rules.proofs.order.Closest.{OneAtATime}
 use Rattle.rules.proofs.Types.{Settings, Answer}
 use Rattle.rules.proofs.order.Law.{Next, events, idle, refused, opened, walks, tries, stays, loses, ends, wins, Others}
 use Rattle.rules.proofs.order.Order.{one-at-a-time}
@@ -61,23 +62,23 @@ module _ (g : Settings) (limits : settingsFit g ≡ true) (k : Kind g) where
   pub record Onward (s : State) (q : Contents) (o : Next State) : Type 0 where
     pub list : Contents
     pub whole : Whole (o .state) list
-    pub changed : Changed g q (o .answer) list
+    pub changed : Changed (exactBound g) q (o .answer) list
 
   idle-by : {s : State} {q : Contents} {o : Next State} → numberOf (o .answer) ≡ 0 → Whole (o .state) q → Onward s q o
   idle-by {q = q} {o = o} n h =
-      record { list = q; whole = h; changed = unchanged-by g q (o .answer) (λ e. omega arith) (λ e. omega arith) }
+      record { list = q; whole = h; changed = unchanged-by (exactBound g) q (o .answer) (λ e. omega arith) (λ e. omega arith) }
 
   onward-by : (s : State) (q : Contents) (c : Call) → Whole s q → After s q c (nextIn g s c) → Onward s q (nextIn g s c)
   onward-by s q c h (refused n e) =
-      record { list = q; whole = rw e h; changed = unchanged-by g q _ (λ u. omega arith) (λ u. omega arith) }
+      record { list = q; whole = rw e h; changed = unchanged-by (exactBound g) q _ (λ u. omega arith) (λ u. omega arith) }
   onward-by s q c h (opened i op u n a b w h′) = idle-by n h′
   onward-by s q c h (walks i op u n a b w h′) = idle-by n h′
   onward-by s q c h (tries i op u n a b w h′ z) = idle-by n h′
   onward-by s q c h (stays i op u n a b w h′ z) = idle-by n h′
   onward-by s q c h (loses i op u n a b w h′) = idle-by n h′
-  onward-by s q c h (ends i op u n a b w q′ give h′) = record { list = q′; whole = h′; changed = gives-changed g q _ q′ op give }
+  onward-by s q c h (ends i op u n a b w q′ give h′) = record { list = q′; whole = h′; changed = gives-changed (exactBound g) g q _ q′ op give }
   onward-by s q c h (wins i op u n l a b w h′ z) =
-      record { list = q; whole = h′; changed = unchanged-by g q _ (λ e. omega arith) (λ e. omega arith) }
+      record { list = q; whole = h′; changed = unchanged-by (exactBound g) q _ (λ e. omega arith) (λ e. omega arith) }
 
   pub onward : (s : State) (q : Contents) → Whole s q → (c : Call) → Onward s q (nextIn g s c)
   onward s q h c = onward-by s q c h (whole-turn s q h c)
@@ -102,7 +103,7 @@ module _ (g : Settings) (limits : settingsFit g ≡ true) (k : Kind g) where
   pub record Next-related (ws : List ℕ) (s : State) (q : Contents) (c : Call) : Type 0 where
     pub answer : callOf ws c .answer ≡ nextIn g s c .answer
     pub related : Related (callOf ws c .words) (nextIn g s c .state)
-    pub changed : Changed g q (callOf ws c .answer) (related .list)
+    pub changed : Changed (exactBound g) q (callOf ws c .answer) (related .list)
 
   pub next-related : {ws : List ℕ} {s : State} (r : Related ws s) (c : Call) → Next-related ws s (r .list) c
   next-related {ws} {s} r c =
@@ -112,10 +113,10 @@ module _ (g : Settings) (limits : settingsFit g ≡ true) (k : Kind g) where
       record {
         answer = f .answer;
         related = record { says = f .says; list = n .list; whole = n .whole };
-        changed = subst (λ (a : Answer). Changed g (r .list) a (n .list)) (sym (f .answer)) (n .changed);
+        changed = subst (λ (a : Answer). Changed (exactBound g) (r .list) a (n .list)) (sym (f .answer)) (n .changed);
       }
 
-  events-same : {ws : List ℕ} {s : State} → Related ws s → (cs : List Call) → run ws cs ≡ events (nextIn g) s cs
+  pub events-same : {ws : List ℕ} {s : State} → Related ws s → (cs : List Call) → run ws cs ≡ events (nextIn g) s cs
   unfolding run events
   events-same r [] = refl
   events-same r (c ∷ cs) =

@@ -7,7 +7,9 @@ pub mod Shift
 pub mod Confirm
 pub mod Commit
 pub mod Put
+pub mod Figures
 pub mod Distance
 pub mod Take
 pub mod Safe
 pub mod Turn
+pub mod Exactness

@@ -13,9 +13,8 @@ use Rattle.rules.specs.Worker.{slotAt, phaseOf}
 use Rattle.rules.specs.Effects.{viewOf, putWindow, takeWindow, stackWindow, windowVersion, itemsPut, itemsTaken, itemsHeld, subVersion}
 use Rattle.rules.specs.Held.{Item, heldItems, countItems}
 use Rattle.rules.specs.Make.{makeOf}
-use Rattle.rules.specs.Sequential.{mostPassed}
 use Rattle.rules.specs.Run.{Call, step, callOf, Event, run, at, valueIn, stampIn, distanceIn}
-use Rattle.rules.specs.Statement.{Placement, OneAtATime}
+use Rattle.rules.specs.Statement.{Placement, OneAtATimeWithin}
 use Rattle.rules.specs.declared.Settings.{Settings}
 use Rattle.rules.specs.declared.Side.the-variants.{Putting, Taking}
 use Rattle.rules.specs.declared.Phase.{Phase}
@@ -57,15 +56,15 @@ StampsOnce g ws cs =
     (stamp : ℕ)
     → (countItems (hasStamp stamp) (itemsIn 1 (run ws cs)) ≤ 1) × (countItems (hasStamp stamp) (itemsIn 2 (run ws cs)) ≤ 1)
 
--- ---- each distance reported is within the bound
-abbrev pub WithinBound : Settings → List ℕ → List Call → Type 0
-WithinBound g ws cs =
+-- ---- each distance reported is within a bound
+abbrev pub WithinBound : (Settings → ℕ) → Settings → List ℕ → List Call → Type 0
+WithinBound most g ws cs =
     (i f : ℕ) → at (run ws cs) f .call ≡ step i → numberOf (at (run ws cs) f .answer) ≡ 2
-    → distanceIn (at (run ws cs) f .answer) ≤ mostPassed g
+    → distanceIn (at (run ws cs) f .answer) ≤ most g
 
 -- ---- an operation that finished before another began stands before it in the order
-abbrev pub InRealTime : (g : Settings) → (es : List Event) → OneAtATime g es → Type 0
-InRealTime g es r =
+abbrev pub InRealTime : (most : ℕ) → (g : Settings) → (es : List Event) → OneAtATimeWithin most g es → Type 0
+InRealTime most g es r =
     (x y : Placement) → List·Memᴰ x (r .order) → List·Memᴰ y (r .order) → x .finished < y .begun → x .chosen < y .chosen
 
 -- ---- no sum that a step adds up reaches 2^32, and no difference that it takes, but confirm's, passes below 0

@@ -37,10 +37,13 @@ pub record Given : Type 0 where
   pub distance : ℕ
 
 -- ---- demand 3's numbers
--- the most items that a take may pass over: older ones in a queue, newer ones in a stack
+-- the items that a take may pass over: (w - 1) d older ones in a queue, so many newer ones of each other sub in a stack
+abbrev pub boundBy : Settings → ℕ → ℕ
+boundBy g each = cond (eqb (g .kind) 0) ((g .width - 1) * g .depth) ((g .width - 1) * each)
+
+-- the most that demand 3 allows; specs/Newer has closer figures
 unfoldable pub mostPassed : Settings → ℕ
-mostPassed g =
-    cond (eqb (g .kind) 0) ((g .width - 1) * g .depth) ((g .width - 1) * (2 * g .depth + 2 * g .shift))
+mostPassed g = boundBy g (2 * g .depth + 2 * g .shift)
 
 -- the least items held where a put is answered "full"
 unfoldable pub leastFull : Settings → ℕ
@@ -92,20 +95,21 @@ without g q f =
       distance = passedBy g q (f .item .stamp);
     }
 
--- an item with the fed stamp must be there, with no more passed over than demand 3 allows
-unfoldable pub leaving : Settings → Contents → Option Found → Option Given
-leaving g q none = none
-leaving g q (some f) = allowed (leb (passedBy g q (f .item .stamp)) (mostPassed g)) (without g q f)
+-- an item with the fed stamp must be there, with no more passed over than a bound allows
+unfoldable pub leaving : ℕ → Settings → Contents → Option Found → Option Given
+leaving most g q none = none
+leaving most g q (some f) = allowed (leb (passedBy g q (f .item .stamp)) most) (without g q f)
 
 -- a put may answer 1, or 4 where at least demand 3's number of items is there;
 -- a take may answer 2, or 3 where no item is there
-unfoldable pub giveBy : Settings → Contents → ℕ → ℕ → Operation → Option Given
-giveBy g q number stamp (putting v) =
+unfoldable pub giveBy : ℕ → Settings → Contents → ℕ → ℕ → Operation → Option Given
+giveBy most g q number stamp (putting v) =
     cond (eqb number 1) (some (joined q v))
     (cond (eqb number 4) (allowed (leb (leastFull g) (length (q .items))) (unchanged q)) none)
-giveBy g q number stamp taking =
-    cond (eqb number 2) (leaving g q (find stamp (q .items)))
+giveBy most g q number stamp taking =
+    cond (eqb number 2) (leaving most g q (find stamp (q .items)))
     (cond (eqb number 3) (allowed (eqb (length (q .items)) 0) (unchanged q)) none)
 
-abbrev pub give : Settings → Contents → Fed → Option Given
-give g q f = giveBy g q (f .number) (f .stamp) (f .operation)
+-- with a bound on what a take passes over; demand 3's is `mostPassed`
+abbrev pub giveWithin : ℕ → Settings → Contents → Fed → Option Given
+giveWithin most g q f = giveBy most g q (f .number) (f .stamp) (f .operation)

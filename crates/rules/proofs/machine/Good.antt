@@ -6,7 +6,8 @@ use native.Mathlib.Nat.{div-add-mod'}
 use native.Mathlib.Omega.{arith}
 use Rattle.laws.specs.Choice.{cond}
 use Rattle.rules.specs.Limits.{settingsFit, Bounds}
-use Rattle.rules.specs.Sequential.{mostPassed, leastFull}
+use Rattle.rules.specs.Sequential.{leastFull}
+use Rattle.rules.specs.Newer.{exactBound}
 use Rattle.rules.proofs.Types.{Settings}
 use Rattle.rules.proofs.Fitness.{settings-bounds, queue-limits}
 
@@ -28,8 +29,8 @@ good g e =
 
 -- ---- demand 3's numbers against what a kind shows
 module _ (g : Settings) where
-  pub queue-most : g .kind ≡ 0 → (g .width - 1) * g .depth ≤ mostPassed g
-  unfolding mostPassed cond
+  pub queue-most : g .kind ≡ 0 → (g .width - 1) * g .depth ≤ exactBound g
+  unfolding exactBound cond
   queue-most k = rw k (omega arith)
 
   pub queue-full : g .kind ≡ 0 → leastFull g ≤ g .width * (g .rows - g .depth)

@@ -18,7 +18,8 @@ use Rattle.rules.specs.Held.{Item, countItems, passedOver}
 use Rattle.rules.specs.Worker.{fresh}
 use Rattle.rules.specs.Effects.{hopOf}
 use Rattle.rules.specs.Commit.{queueCommit, commitBy, removedOf}
-use Rattle.rules.specs.Sequential.{taking, Contents, mostPassed, passedBy}
+use Rattle.rules.specs.Sequential.{taking, Contents, passedBy}
+use Rattle.rules.specs.Newer.{exactBound}
 use Rattle.rules.proofs.Types.{Settings, Taking, Idle, Window, QueueCommit, Effect}
 use Rattle.rules.proofs.Cells.{queue-below}
 use Rattle.rules.proofs.counts.Sums.{upd, upd-same, upd-other, upd-self, upTo, sum-within-but, rows-more, rows-flat, times-pred}
@@ -140,7 +141,7 @@ module _ (g : Settings) (good : Good g) (kind : g .kind ≡ 0) (s : State) (q : 
     distance =
         sym (distance-held g s (q .items) (it .stamp) (λ m l. rw (queue-below g kind (s .second m)) (o .held m l)) (holds-below g kind s q (inv .pool)))
 
-    distance-le : distanceIn g s (it .stamp) ≤ mostPassed g
+    distance-le : distanceIn g s (it .stamp) ≤ exactBound g
     distance-le = rw distance (le-trans bounded (queue-most g kind))
 
     -- ---- what is left

@@ -1,30 +1,27 @@
--- How many newer items a take passes over. Its row r is above lo - d, so every other sub holds at most lo + s ≤ r + d + s - 1
--- items, and by the pairs no newer item lies below row r - d - s + 1: at most 2d + 2s - 1 rows of each other sub, and none of
--- its own. That is (w - 1) * (2d + 2s - 1), and so within the (w - 1) * (2d + 2s) of demand 3.
+-- How many newer items a take passes over. Let lo = d + l * s at the take, of row r. Then l * s < r, and every other sub holds at
+-- most lo + s items. A newer item in row n was put in a corridor of foot c * s: c * s < n, and r ≤ d + s + c * s. So
+-- l * s < d + s + c * s, and with F = floor((d - 1) / s) the corridor rose by at most F + 1 shifts: l ≤ c + 1 + F. No newer item
+-- lies in the rows up to (l - 1 - F) * s, and at most lo + s - (l - 1 - F) * s = d + 2s + F * s rows of each other sub are newer,
+-- and none of its own. And lo + s is a window's height and at most R, so no sub holds more items than the highest window there is.
 use mathlib.Core.Path.{_≡_, ap, _∙_}
 use mathlib.Core.Logic.{_⊎_, inl, inr}
 use mathlib.Core.Bool.{Bool, false}
-use Prim.Native.Nat.{ℕ, _+_, _-_, _*_, _≤_, _<_}
-use native.Mathlib.Nat.{le-of-eq, eq-or-lt-of-le, le-refl, mul-le-mul-left}
+use Prim.Native.Nat.{ℕ, suc, _+_, _-_, _*_, _≤_, _<_}
+use native.Mathlib.Nat.{le-of-eq, eq-or-lt-of-le, le-refl}
 use native.Mathlib.Decide.{decLe}
 use native.Mathlib.Omega.{arith}
 use borrow.Author.Tests.{le-ltb}
-use Rattle.laws.specs.Choice.{cond, cond-false}
+use Rattle.laws.specs.Choice.{cond-false}
 use Rattle.rules.specs.Held.{Item, passedOver}
-use Rattle.rules.specs.Sequential.{Contents, mostPassed}
+use Rattle.rules.specs.Sequential.{Contents}
+use Rattle.rules.specs.Newer.{exactRows, exactBound}
 use Rattle.rules.proofs.Types.{Settings}
 use Rattle.rules.proofs.counts.Sums.{upTo, upTo-none, rows-more, rows-flat, sum-zero, sum-within-but, times-pred}
+use Rattle.rules.proofs.counts.Wraps.{multiple-lt}
 use Rattle.rules.proofs.machine.Machine.{State, countIn, distanceIn}
 use Rattle.rules.proofs.machine.Good.{Good}
 use Rattle.rules.proofs.stack.Inv.{Ghost, Pool}
-
--- the most newer items that a take passes over
-abbrev pub mostNewer : Settings → ℕ
-mostNewer g = (g .width - 1) * (2 * g .depth + 2 * g .shift - 1)
-
-pub newer-most : (g : Settings) → g .kind ≡ 1 → mostNewer g ≤ mostPassed g
-unfolding mostPassed cond
-newer-most g kind = rw kind (mul-le-mul-left (g .width - 1) (omega arith))
+use Rattle.rules.proofs.stack.Figures.{times, times-high, below-highest, bound-stack}
 
 -- no row from 1 to c passes a test
 no-row : (p : ℕ → Bool) (c : ℕ) → ((n : ℕ) → 1 ≤ n → n ≤ c → p n ≡ false) → upTo p c ≡ 0
@@ -49,33 +46,48 @@ module _ (g : Settings) (good : Good g) (kind : g .kind ≡ 1) {s : State} {q : 
   not-newer : (m n : ℕ) → s .item m n .stamp ≤ it .stamp → newer m n ≡ false
   not-newer m n l = rw kind (cond-false _ _ ∙ le-ltb _ _ l)
 
-  abbrev each : ℕ
-  each = 2 * g .depth + 2 * g .shift - 1
+  -- the corridor's foot
+  abbrev l : ℕ
+  l = o .window .lo-shifts
 
   -- the rows up to this one are older, in every sub
   abbrev old : ℕ
-  old = r - (g .depth + g .shift)
+  old = l * g .shift - (g .shift + g .shift * times g)
+
+  -- a corridor with row n, and with row r under its top, rose by at most 1 + F shifts
+  rose : (c n : ℕ) → c * g .shift < n → r ≤ g .depth + c * g .shift + g .shift → n ≤ old → ⊥
+  rose c n a b m =
+      let top : l * g .shift < r = omega (arith, o .window .lo-is) in
+      let split : (c + suc (times g)) * g .shift ≡ c * g .shift + (g .shift + g .shift * times g) = omega arith in
+      omega (
+        arith,
+        multiple-lt (c + suc (times g)) l (g .shift) (omega arith),
+        times-high g (good .bounds .shift1),
+        good .bounds .depth1,
+      )
 
   older : (m n : ℕ) → m < g .width → 1 ≤ n → n ≤ old → n ≤ s .first m → newer m n ≡ false
   older m n l a b c = not-newer m n (go (decLe (s .item m n .stamp) (it .stamp)))
     where
       go : Dec (s .item m n .stamp ≤ it .stamp) → s .item m n .stamp ≤ it .stamp
       go (yes y) = y
-      go (no y) = absurd (omega (arith, o .pairs .near j m r n lj l row-there (le-refl _) a c (omega arith)))
+      go (no y) = let p = o .pairs .near j m r n lj l row-there (le-refl _) a c (omega arith) in absurd (rose (p .0) n (p .1) (p .2) b)
 
-  within : (m : ℕ) → m < g .width → upTo (newer m) (s .first m) ≤ each
+  within : (m : ℕ) → m < g .width → upTo (newer m) (s .first m) ≤ exactRows g
   within m l = go (decLe (s .first m) old)
     where
-      go : Dec (s .first m ≤ old) → upTo (newer m) (s .first m) ≤ each
+      go : Dec (s .first m ≤ old) → upTo (newer m) (s .first m) ≤ exactRows g
       go (yes y) = omega (arith, no-row (newer m) (s .first m) (λ n a b. older m n l a (omega arith) b))
       go (no y) =
           omega (
             arith,
             no-row (newer m) old (λ n a b. older m n l a b (omega arith)),
             rows-more (newer m) old (s .first m) (omega arith) .1,
+            rows-more (newer m) 0 (s .first m) (omega arith) .1,
+            upTo-none (newer m),
             o .corridor .high m l,
-            good .bounds .depth1,
-            good .bounds .shift1,
+            o .window .lo-is,
+            below-highest g (suc (o .window .lo-shifts)) (good .bounds .shift1) (omega (arith, o .window .lo-is, o .window .lo-rows)),
           )
 
   none-own : upTo (newer j) r ≡ 0
@@ -85,13 +97,13 @@ module _ (g : Settings) (good : Good g) (kind : g .kind ≡ 1) {s : State} {q : 
       at-most n a (inl y) = le-of-eq (ap (λ (m : ℕ). s .item j m .stamp) y)
       at-most n a (inr y) = omega (arith, o .stamps .rise j n r lj a y (le-refl _))
 
-  pub newer-few : distanceIn g s (it .stamp) ≤ mostNewer g
-  unfolding distanceIn
+  pub newer-few : distanceIn g s (it .stamp) ≤ exactBound g
+  unfolding distanceIn exactBound
   newer-few =
-      omega (
+      rw (bound-stack g _ kind) (omega (
         arith,
-        times-pred (g .width) each (good .bounds .width1),
+        times-pred (g .width) (exactRows g) (good .bounds .width1),
         sum-zero (g .width),
-        sum-within-but (countIn g s (passedOver (g .kind) (it .stamp))) (λ m. 0) (g .width) each j lj
+        sum-within-but (countIn g s (passedOver (g .kind) (it .stamp))) (λ m. 0) (g .width) (exactRows g) j lj
             (λ m l. omega (arith, within m l)) (omega (arith, none-own)),
-      )
+      ))

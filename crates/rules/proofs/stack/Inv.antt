@@ -1,9 +1,9 @@
 -- The stack's invariant. All that the distance needs is one fact about every state, the corridor: each sub holds from lo - d to
--- lo + s items, where lo is the lower of the window G and the G before its last shift. So a put lands at most d + s - 1 rows
--- below any item there is, which bounds how far a newer item can lie below an older one (the pairs), and a take finds every
--- other sub at most d + s - 1 rows above its own row. Late commits keep the corridor too: a worker that checked an earlier window
--- is live only in a sub that has not changed since the last shift, and the pass that led to that shift found such a sub so
--- high, or so low, that one commit more does not leave the corridor.
+-- lo + s items, where lo is the lower of the window G and the G before its last shift. So an item and any newer one were in one
+-- corridor, that of the newer one's put (the pairs), and a take's row and every other sub are in one corridor, that of the take.
+-- Each of the two stands at d and some shifts, so they lie a multiple of s apart, which gives the exact bound. Late commits keep the
+-- corridor too: a worker that checked an earlier window is live only in a sub that has not changed since the last shift, and the
+-- pass that led to that shift found such a sub so high, or so low, that one commit more does not leave the corridor.
 use mathlib.Core.Path.{_≡_}
 use mathlib.Core.Logic.{_⊎_}
 use Prim.Native.Nat.{ℕ, _+_, _*_, _≤_, _<_}
@@ -55,10 +55,12 @@ Fits g Putting lo c = c < lo + g .shift
 Fits g Taking lo c = lo < c + g .depth
 
 -- ---- the pool
--- G is d and some shifts; lo is G or a shift below it, and not below d; the corridor ends at R at the latest
+-- G is d and some shifts, and so is lo; lo is G or a shift below it; the corridor ends at R at the latest
 pub record Windowed (g : Settings) (window lo : ℕ) : Type 0 where
   pub shifts : ℕ
   pub window-is : window ≡ g .depth + shifts * g .shift
+  pub lo-shifts : ℕ
+  pub lo-is : lo ≡ g .depth + lo-shifts * g .shift
   pub depth-lo : g .depth ≤ lo
   pub lo-window : lo ≤ window
   pub window-lo : window ≤ lo + g .shift
@@ -68,10 +70,14 @@ pub record Corridor (g : Settings) (held : ℕ → ℕ) (lo : ℕ) : Type 0 wher
   pub high : (j : ℕ) → j < g .width → held j ≤ lo + g .shift
   pub low : (j : ℕ) → j < g .width → lo ≤ held j + g .depth
 
--- a newer item lies less than d + s rows below an older one
+-- row r′ is above the foot of a corridor, lo - d = c * s, and row r is not above its top, lo + s
+abbrev pub Within : Settings → ℕ → ℕ → Type 0
+Within g r r′ = (c : ℕ) × (c * g .shift < r′) × (r ≤ g .depth + c * g .shift + g .shift)
+
+-- an older item and a newer one: the corridor in which the newer one was put had both
 pub record Pairs (g : Settings) (held : ℕ → ℕ) (item : ℕ → ℕ → Item) : Type 0 where
   pub near : (j k r r′ : ℕ) → j < g .width → k < g .width → 1 ≤ r → r ≤ held j → 1 ≤ r′ → r′ ≤ held k
-      → item j r .stamp < item k r′ .stamp → r < r′ + (g .depth + g .shift)
+      → item j r .stamp < item k r′ .stamp → Within g r r′
 
 -- each put changes a version, and each change of a version costs a step
 pub record Few (g : Settings) (s : State) : Type 0 where

@@ -29,14 +29,14 @@ use Rattle.rules.proofs.stack.Inv.{sight, Knows, Inv}
 use Rattle.rules.proofs.stack.After.{versions-few, version-few, window-ge, window-le, held-le}
 use Rattle.rules.proofs.stack.Moves.{sum-le-versions}
 use Rattle.rules.proofs.stack.Put.{put-room}
-use Rattle.rules.proofs.stack.Distance.{mostNewer}
+use Rattle.rules.specs.Newer.{exactBound}
 use Rattle.rules.proofs.stack.Take.{take-row, take-newer}
 
 -- what every answer of a step has
 abbrev pub Fine : Settings → Answer → Type 0
 Fine g Moving = Unit {0}
 Fine g (Put value sub row stamp) = Unit {0}
-Fine g (Taken value sub row stamp distance) = distance ≤ mostNewer g
+Fine g (Taken value sub row stamp distance) = distance ≤ exactBound g
 Fine g Empty = Unit {0}
 Fine g Full = Unit {0}
 Fine g (Refused n) = n ≢ 23
@@ -108,7 +108,7 @@ module _ {g : Settings} {s : State} {q : Contents} (good : Good g) (kind : g .ki
     fine-by (StackShift side version scan sum) e k = fine-shift side version scan sum
     fine-by (Confirm side scan sum) e k = fine-confirm side scan sum
 
-    -- of every step's answer: a take's distance is at most (w - 1) * (2d + 2s - 1), and no commit is refused
+    -- of every step's answer: a take's distance is at most the exact figure, and no commit is refused
     pub stack-answers : Fine g (applyIn g s i (ruleOf g (viewIn s i)) .answer)
     unfolding ruleOf
     stack-answers = fine-by (phaseIn g s i) refl (inv .knows i)

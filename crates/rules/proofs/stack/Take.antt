@@ -21,7 +21,8 @@ use Rattle.rules.proofs.machine.Turns.{Holding}
 use Rattle.rules.proofs.stack.Inv.{Pairs, Inv}
 use Rattle.rules.proofs.stack.After.{version-few, held-le, held-rows, rows-held, Stepping, On}
 use Rattle.rules.proofs.stack.Commit.{live-fits, committed, commits}
-use Rattle.rules.proofs.stack.Distance.{mostNewer, newer-most, row-there, newer-few}
+use Rattle.rules.specs.Newer.{exactBound}
+use Rattle.rules.proofs.stack.Distance.{row-there, newer-few}
 
 -- a live take has an item, and passes over few newer ones
 module _ {g : Settings} {s : State} {q : Contents} (good : Good g) (kind : g .kind ≡ 1) (inv : Inv g s q) (i : ℕ) (lj : subIn s i < g .width)
@@ -29,7 +30,7 @@ module _ {g : Settings} {s : State} {q : Contents} (good : Good g) (kind : g .ki
   pub take-row : 1 ≤ s .first (subIn s i)
   take-row = row-there g good kind (inv .pool) (subIn s i) lj (live-fits inv i Taking seen e live)
 
-  pub take-newer : distanceIn g s (s .item (subIn s i) (s .first (subIn s i)) .stamp) ≤ mostNewer g
+  pub take-newer : distanceIn g s (s .item (subIn s i) (s .first (subIn s i)) .stamp) ≤ exactBound g
   take-newer = newer-few g good kind (inv .pool) (subIn s i) lj (live-fits inv i Taking seen e live)
 
 module _ {g : Settings} {s : State} {q : Contents} {i : ℕ} (a : Stepping g s q i)
@@ -90,7 +91,7 @@ module _ {g : Settings} {s : State} {q : Contents} {i : ℕ} (a : Stepping g s q
       sym (distance-held g s (q .items) (it .stamp) (λ m l. rw (stack-below g (a .kind) (s .second m)) (omega arith)) (a .inv .pool .holding .held))
 
   -- ---- the step
-  apply-removed : applyIn g s i (removedOf (viewIn s i) (sub32 r 1) (add32 (s .second j) 1) r) ≡ next (takenIn g s j r) t
+  pub apply-removed : applyIn g s i (removedOf (viewIn s i) (sub32 r 1) (add32 (s .second j) 1) r) ≡ next (takenIn g s j r) t
   unfolding applyIn applyInBy
   apply-removed =
       let o = a .inv .pool in
@@ -104,4 +105,4 @@ module _ {g : Settings} {s : State} {q : Contents} {i : ℕ} (a : Stepping g s q
       (commits a Taking seen e live (s .puts) (s .item) (takenOff g q (found .out)) (omega arith) stamps pairs holding
       (takenIn g s j r) (final-taken _ _ _ _ _)
       (gives-taken g q it j (record { 0 = r }) (distanceIn g s (it .stamp)) found distance-is
-      (le-trans (take-newer (a .good) (a .kind) (a .inv) i j-lt seen e live) (newer-most g (a .kind)))))
+      (take-newer (a .good) (a .kind) (a .inv) i j-lt seen e live)))
