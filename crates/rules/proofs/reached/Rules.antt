@@ -1,0 +1,112 @@
+-- What a stack's rules do, by the outcome of their tests: the window's, a read's hit, miss and last miss, a check that finds the
+-- window as it was, a shift up, a put and a take that land; and a begin of an idle worker.
+use mathlib.Core.Path.{_≡_, refl, sym, _∙_, subst}
+use mathlib.Core.Logic.{_≢_}
+use mathlib.Core.Bool.{true, false}
+use Prim.Native.Nat.{ℕ, _<_}
+use lib.Dec.{ltb, leb, eqb}
+use borrow.Author.Tests.{lt-leb, eq-eqb, ne-eqb}
+use Rattle.laws.specs.Choice.{cond}
+use Rattle.laws.specs.Wrap.{add32, sub32}
+use Rattle.rules.specs.Worker.{zeroSlot, fresh}
+use Rattle.rules.specs.Effects.{movedOf, nextOf, withPass}
+use Rattle.rules.specs.Window.{windowRule}
+use Rattle.rules.specs.Read.{stackHit, stackRead, missOf}
+use Rattle.rules.specs.Check.{checkRule}
+use Rattle.rules.specs.Commit.{stackCommit, commitBy, landedOf, removedOf}
+use Rattle.rules.specs.Shift.{stackShift, shiftBy, shiftedOf}
+use Rattle.rules.specs.Step.{ruleBy, ruleOf}
+use Rattle.rules.specs.Run.{Call, beginPut, beginTake, step}
+use Rattle.rules.proofs.Types.{Settings, Side, Putting, Taking, Phase, Idle, Window, QueuePutRead, QueueTakeRead, StackRead, Check, QueueCommit, StackCommit, QueueShift, StackShift, Confirm, Version}
+use Rattle.rules.specs.declared.Answer.the-variants.{Moving}
+use Rattle.rules.proofs.machine.Machine.{State, next, subIn, viewIn, phaseIn, applyIn, stepIn, beginIn, nextIn, withSlot}
+use Rattle.rules.proofs.machine.Phases.{idle-phase}
+
+-- ---- a step of a busy worker is its phase's rule, applied
+abbrev pub Busy : Phase → Type 0
+Busy Idle = ⊥
+Busy (Window side) = Unit {0}
+Busy (QueuePutRead window scan) = Unit {0}
+Busy (QueueTakeRead window bare scan sum) = Unit {0}
+Busy (StackRead side window version scan sum) = Unit {0}
+Busy (Check side version seen) = Unit {0}
+Busy (QueueCommit side seen) = Unit {0}
+Busy (StackCommit side seen) = Unit {0}
+Busy (QueueShift side window) = Unit {0}
+Busy (StackShift side version scan sum) = Unit {0}
+Busy (Confirm side scan sum) = Unit {0}
+
+-- a pass' sum after worker i's read
+abbrev pub sumAfter : State → ℕ → ℕ → ℕ
+sumAfter s i sum = add32 sum (s .second (subIn s i))
+
+-- a begin of a side; the values put are all 1
+abbrev pub begins : ℕ → Side → Call
+begins i Putting = beginPut i 1
+begins i Taking = beginTake i
+
+abbrev pub valueBegun : Side → ℕ
+valueBegun Putting = 1
+valueBegun Taking = 0
+
+module _ (g : Settings) (s : State) (i : ℕ) where
+  pub step-is : i < g .workers → s .steps < 4000000000 → (p : Phase) → phaseIn g s i ≡ p → Busy p
+      → nextIn g s (step i) ≡ applyIn g s i (ruleBy g (viewIn s i) p)
+  unfolding nextIn stepIn ruleOf cond
+  step-is l time p e busy =
+      let awake : s .slot i .number ≢ 0 = λ z. subst Busy (sym e ∙ idle-phase (g .kind) (s .slot i) z) busy in
+      rw (lt-leb (g .workers) i l, ne-eqb (s .slot i .number) 0 awake, lt-leb 4000000000 (s .steps) time, e) refl
+
+  -- ---- a begin
+  pub begin-is : (side : Side) → i < g .workers → s .steps < 4000000000 → s .slot i .number ≡ 0
+      → nextIn g s (begins i side) ≡ next Moving (withSlot s i (fresh (valueBegun side) (subIn s i) (Window side)))
+  unfolding nextIn beginIn cond
+  begin-is Putting l time z = rw (lt-leb (g .workers) i l, eq-eqb (s .slot i .number) 0 z, lt-leb 4000000000 (s .steps) time) refl
+  begin-is Taking l time z = rw (lt-leb (g .workers) i l, eq-eqb (s .slot i .number) 0 z, lt-leb 4000000000 (s .steps) time) refl
+
+  -- ---- the rules
+  pub window-rule : g .kind ≡ 1 → (side : Side)
+      → ruleBy g (viewIn s i) (Window side) ≡ movedOf (viewIn s i) (subIn s i) (StackRead side (s .top) (record { 0 = s .mark }) 0 0) zeroSlot
+  unfolding ruleBy windowRule cond
+  window-rule kind side = rw kind refl
+
+  module _ (side : Side) (window : ℕ) (version : Version) (scan sum : ℕ) where
+    pub hit-rule : stackHit g (viewIn s i) side window ≡ true
+        → ruleBy g (viewIn s i) (StackRead side window version scan sum)
+        ≡ movedOf (viewIn s i) (subIn s i) (Check side version (record { 0 = s .second (subIn s i) })) (withPass (s .slot i) (version .0) scan (sumAfter s i sum))
+    unfolding ruleBy stackRead cond
+    hit-rule h = rw h refl
+
+    pub miss-rule : stackHit g (viewIn s i) side window ≡ false → ltb (add32 scan 1) (g .width) ≡ true
+        → ruleBy g (viewIn s i) (StackRead side window version scan sum)
+        ≡ movedOf (viewIn s i) (nextOf g (subIn s i)) (StackRead side window version (add32 scan 1) (sumAfter s i sum)) (s .slot i)
+    unfolding ruleBy stackRead missOf cond
+    miss-rule h more = rw (h, more) refl
+
+    pub last-rule : stackHit g (viewIn s i) side window ≡ false → ltb (add32 scan 1) (g .width) ≡ false
+        → ruleBy g (viewIn s i) (StackRead side window version scan sum)
+        ≡ movedOf (viewIn s i) (nextOf g (subIn s i)) (StackShift side version 0 (sumAfter s i sum)) (s .slot i)
+    unfolding ruleBy stackRead missOf cond
+    last-rule h more = rw (h, more) refl
+
+  pub check-rule : (side : Side) (version seen : Version) → eqb (s .mark) (version .0) ≡ true
+      → ruleBy g (viewIn s i) (Check side version seen) ≡ movedOf (viewIn s i) (subIn s i) (StackCommit side seen) (s .slot i)
+  unfolding ruleBy checkRule cond
+  check-rule side version seen h = rw h refl
+
+  pub shift-rule : (version : Version) (scan sum : ℕ) → eqb (s .mark) (version .0) ≡ true → leb (add32 (s .top) (g .shift)) (g .rows) ≡ true
+      → ruleBy g (viewIn s i) (StackShift Putting version scan sum) ≡ shiftedOf (viewIn s i) Putting (add32 (s .top) (g .shift)) (add32 (s .mark) 1)
+  unfolding ruleBy stackShift shiftBy cond
+  shift-rule version scan sum h able = rw (h, able) refl
+
+  pub put-rule : (seen : Version) → eqb (s .second (subIn s i)) (seen .0) ≡ true → ltb (s .first (subIn s i)) (g .rows) ≡ true
+      → ruleBy g (viewIn s i) (StackCommit Putting seen)
+      ≡ landedOf (viewIn s i) (add32 (s .first (subIn s i)) 1) (add32 (s .second (subIn s i)) 1) (add32 (s .first (subIn s i)) 1)
+  unfolding ruleBy stackCommit commitBy cond
+  put-rule seen h room = rw (h, room) refl
+
+  pub take-rule : (seen : Version) → eqb (s .second (subIn s i)) (seen .0) ≡ true → ltb 0 (s .first (subIn s i)) ≡ true
+      → ruleBy g (viewIn s i) (StackCommit Taking seen)
+      ≡ removedOf (viewIn s i) (sub32 (s .first (subIn s i)) 1) (add32 (s .second (subIn s i)) 1) (s .first (subIn s i))
+  unfolding ruleBy stackCommit commitBy cond
+  take-rule seen h some = rw (h, some) refl
