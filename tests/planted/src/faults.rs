@@ -76,8 +76,8 @@ pub const FAULTS: [Fault; 16] = [
     trap(
         "the framework paper's bound for a stack",
         "bounds.rs",
-        "2 * settings.depth + 2 * settings.shift",
-        "settings.depth + 2 * settings.shift",
+        "2 * settings.depth + 2 * settings.shift)",
+        "settings.depth + 2 * settings.shift)",
     ),
     trap(
         "a stack's version stays at a take",

@@ -1,16 +1,55 @@
-//! Demand 3's numbers, as paper 01 uses them (One at a time; number 30).
+//! How many items a take may pass over, and how many are held at a "full".
+//! Demand 3's numbers are the ones that paper 01 uses (One at a time; number
+//! 30). For a stack there are closer ones: K14's, the sources', and the exact
+//! one.
 
 use crate::pool::settings::{Settings, QUEUE};
 
-/// A take may pass over this many items: older ones of a queue, (w - 1) x d;
-/// newer ones of a stack, (w - 1) x (2d + 2s).
-pub fn distance_bound(settings: &Settings) -> u32 {
+/// What a take passes over stands in the other subs: d older items in each of
+/// a queue's, the same in every figure here, and so many newer ones in each of
+/// a stack's.
+fn in_other_subs(settings: &Settings, of_stack: u32) -> u32 {
     let per_sub = if settings.kind == QUEUE {
         settings.depth
     } else {
-        2 * settings.depth + 2 * settings.shift
+        of_stack
     };
     (settings.width - 1) * per_sub
+}
+
+/// Demand 3: a take may pass over this many items: older ones of a queue,
+/// (w - 1) x d; newer ones of a stack, (w - 1) x (2d + 2s).
+pub fn distance_bound(settings: &Settings) -> u32 {
+    in_other_subs(settings, 2 * settings.depth + 2 * settings.shift)
+}
+
+/// K14: one row less on the stack, (w - 1) x (2d + 2s - 1).
+pub fn closer_distance_bound(settings: &Settings) -> u32 {
+    in_other_subs(settings, 2 * settings.depth + 2 * settings.shift - 1)
+}
+
+/// Source 001, (w - 1) x (d + 2s). It is no bound: where the shift is below
+/// the depth and there are rows enough, a take passes over more.
+pub fn framework_figure(settings: &Settings) -> u32 {
+    in_other_subs(settings, settings.depth + 2 * settings.shift)
+}
+
+/// Source 003, (w - 1) x (d + 2s + s x floor((d - 1) / s)). A bound, and the
+/// exact one where the rows leave room for it.
+pub fn thesis_figure(settings: &Settings) -> u32 {
+    let Settings { depth, shift, .. } = *settings;
+    let back_in_reach = shift * ((depth - 1) / shift);
+    in_other_subs(settings, depth + 2 * shift + back_in_reach)
+}
+
+/// The greatest distance of a take, over all runs from make with two workers
+/// or more: a queue's bound; in a stack what source 003 says, unless G is at
+/// its highest below that. G goes from d in shifts while it stays within R.
+pub fn worst_distance(settings: &Settings) -> u32 {
+    let Settings { depth, shift, .. } = *settings;
+    let shifts = (settings.rows - depth) / shift;
+    let highest_window = depth + shift * shifts;
+    thesis_figure(settings).min(in_other_subs(settings, highest_window))
 }
 
 /// "Full" is answered with at least this many items held: w x (R - d) in a

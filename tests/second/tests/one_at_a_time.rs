@@ -5,6 +5,7 @@ mod common;
 
 use common::{put_answer, queue, stack, taken_answer};
 use second::phase::Side;
+use second::{closer_distance_bound, distance_bound, worst_distance};
 use second::{one_at_a_time, Answer, Event, Settings};
 use second::{EMPTY, FULL, MOVING, SPENT};
 
@@ -42,9 +43,9 @@ fn taken(stamp: u32, value: u32, distance: u32) -> Answer {
     taken_answer(value, 0, 1, stamp, distance)
 }
 
-/// Where the operations stand, in the order in which they finished.
+/// Where the operations stand by demand 3, in the order in which they finished.
 fn places(settings: Settings, events: &[Event]) -> Option<Vec<usize>> {
-    let placed = one_at_a_time(&settings, events);
+    let placed = one_at_a_time(&settings, distance_bound(&settings), events);
     placed.ok().map(|placed| placed.events)
 }
 
@@ -63,7 +64,7 @@ fn puts_and_takes_at_their_last_steps() {
         moves(1),
         ends(1, taken(1, 5, 0)),
     ];
-    let placed = one_at_a_time(&small(), &events).expect("it has places");
+    let placed = one_at_a_time(&small(), 1, &events).expect("it has places");
     assert_eq!(placed.events, [4, 6]);
     assert_eq!(placed.returns, 0);
 }
@@ -77,7 +78,7 @@ fn a_put_that_must_stand_before_its_last_step() {
         ends(1, taken(1, 5, 0)),
         ends(0, put(1, 5)),
     ];
-    let placed = one_at_a_time(&small(), &events).expect("it has places");
+    let placed = one_at_a_time(&small(), 1, &events).expect("it has places");
     assert_eq!(placed.events, [3, 2]);
     assert!(placed.returns > 0);
 }
@@ -159,24 +160,43 @@ fn a_full_needs_items() {
     }
 }
 
+/// So many puts, then a take of this stamp at this distance.
+fn a_take_of(items: u32, stamp: u32, distance: u32) -> Vec<Event> {
+    let mut events = Vec::new();
+    for put_stamp in 1..=items {
+        events.extend([begin_put(0, put_stamp), ends(0, put(put_stamp, put_stamp))]);
+    }
+    events.extend([begin_take(0), ends(0, taken(stamp, stamp, distance))]);
+    events
+}
+
 #[test]
 fn distances_and_their_bound() {
-    let run = |items: u32, stamp: u32, distance: u32| {
-        let mut events = Vec::new();
-        for put_stamp in 1..=items {
-            events.extend([begin_put(0, put_stamp), ends(0, put(put_stamp, put_stamp))]);
-        }
-        events.extend([begin_take(0), ends(0, taken(stamp, stamp, distance))]);
-        events
-    };
     // Queue w 2, d 1: at most 1 older. Stack w 2, d 1, s 1: at most 4 newer.
-    let of_queue = |items, stamp, distance| places(small(), &run(items, stamp, distance)).is_some();
+    let of_queue =
+        |items, stamp, distance| places(small(), &a_take_of(items, stamp, distance)).is_some();
     assert!(of_queue(3, 1, 0) && of_queue(3, 2, 1));
     assert!(!of_queue(3, 3, 2) && !of_queue(3, 2, 0) && !of_queue(3, 4, 0));
     let pile = stack(2, 1, 1, 2, 1);
-    let of_stack = |items, stamp, distance| places(pile, &run(items, stamp, distance)).is_some();
+    let of_stack =
+        |items, stamp, distance| places(pile, &a_take_of(items, stamp, distance)).is_some();
     assert!(of_stack(6, 6, 0) && of_stack(6, 2, 4));
     assert!(!of_stack(6, 1, 5) && !of_stack(6, 1, 0) && !of_stack(6, 7, 0));
+}
+
+#[test]
+fn a_lower_number_allows_less() {
+    // Stack w 2, d 1, s 1, R 2: demand 3 allows 4 newer ones, K14 3, and more
+    // than 2 are never passed.
+    let pile = stack(2, 1, 1, 2, 1);
+    let bounds = [distance_bound, closer_distance_bound, worst_distance];
+    for (bound, most) in bounds.into_iter().zip([4, 3, 2]) {
+        for distance in 0..6 {
+            let events = a_take_of(6, 6 - distance, distance);
+            let placed = one_at_a_time(&pile, bound(&pile), &events).is_ok();
+            assert_eq!(placed, distance <= most, "{distance} with {most} allowed");
+        }
+    }
 }
 
 #[test]

@@ -5,7 +5,8 @@ mod common;
 
 use common::{put_answer, queue, stack, taken_answer};
 use second::phase::Side;
-use second::{distance_bound, full_bound, one_at_a_time, Answer, Event, Settings};
+use second::{distance_bound, full_bound, worst_distance};
+use second::{one_at_a_time, Answer, Event, Settings};
 use second::{EMPTY, FULL, MOVING, PUT, QUEUE, TAKEN};
 
 /// An operation with the events of its own steps.
@@ -29,17 +30,22 @@ impl Numbers {
     }
 }
 
+/// The settings, and how many items a take may pass over.
+type Claim = (Settings, u32);
+
 /// The list as plainly as can be: stamps and values in order of joining.
 struct List {
     settings: Settings,
+    most_passed: u32,
     items: Vec<(u32, u32)>,
     puts: u32,
 }
 
 impl List {
-    fn new(settings: Settings) -> List {
+    fn new((settings, most_passed): Claim) -> List {
         List {
             settings,
+            most_passed,
             items: Vec::new(),
             puts: 0,
         }
@@ -68,7 +74,7 @@ impl List {
             }
             Side::Take => {
                 for (at, (stamp, value)) in self.items.iter().enumerate() {
-                    if self.distance(at) <= distance_bound(&self.settings) {
+                    if self.distance(at) <= self.most_passed {
                         answers.push(taken_answer(*value, 0, 0, *stamp, self.distance(at)));
                     }
                 }
@@ -136,17 +142,12 @@ fn plan(numbers: &mut Numbers) -> (Vec<Planned>, Vec<Event>) {
 }
 
 /// Gives the operations answers that some placing allows, then may spoil one.
-fn answer(
-    numbers: &mut Numbers,
-    settings: Settings,
-    planned: &mut [Planned],
-    events: &mut [Event],
-) {
+fn answer(numbers: &mut Numbers, claim: Claim, planned: &mut [Planned], events: &mut [Event]) {
     let mut order: Vec<(usize, usize)> = (0..planned.len())
         .map(|k| (planned[k].steps[numbers.below(planned[k].steps.len())], k))
         .collect();
     order.sort();
-    let mut list = List::new(settings);
+    let mut list = List::new(claim);
     for (_, k) in order {
         let answers = list.answers(planned[k].side, planned[k].value);
         // Nothing to take within the bound does not happen: the oldest, or the
@@ -172,19 +173,19 @@ fn answer(
 }
 
 /// Tries every choice of a step for every operation.
-fn some_placing(settings: Settings, planned: &[Planned], chosen: &mut Vec<(usize, usize)>) -> bool {
+fn some_placing(claim: Claim, planned: &[Planned], chosen: &mut Vec<(usize, usize)>) -> bool {
     let k = chosen.len();
     if k < planned.len() {
         return planned[k].steps.iter().any(|step| {
             chosen.push((*step, k));
-            let found = some_placing(settings, planned, chosen);
+            let found = some_placing(claim, planned, chosen);
             chosen.pop();
             found
         });
     }
     let mut order = chosen.clone();
     order.sort();
-    let mut list = List::new(settings);
+    let mut list = List::new(claim);
     order.into_iter().all(|(_, k)| {
         let operation = &planned[k];
         let allowed = list
@@ -207,11 +208,13 @@ fn the_search_agrees_with_enumeration() {
             stack(1, 1, 1, 2, 3),
         ];
         let settings = kinds[numbers.below(4)];
+        let most_passed = [distance_bound, worst_distance][numbers.below(2)](&settings);
+        let claim = (settings, most_passed);
         let (mut planned, mut events) = plan(&mut numbers);
-        answer(&mut numbers, settings, &mut planned, &mut events);
-        let expected = some_placing(settings, &planned, &mut Vec::new());
-        let found = one_at_a_time(&settings, &events);
-        assert_eq!(found.is_ok(), expected, "{settings:?} {events:?}");
+        answer(&mut numbers, claim, &mut planned, &mut events);
+        let expected = some_placing(claim, &planned, &mut Vec::new());
+        let found = one_at_a_time(&settings, most_passed, &events);
+        assert_eq!(found.is_ok(), expected, "{claim:?} {events:?}");
         match found {
             Ok(placed) if placed.returns > 0 => gone_back += 1,
             Ok(_) => right += 1,

@@ -34,7 +34,7 @@ impl Runs {
             events.push(event(call, answer));
             self.note_distance(&settings, answer.distance);
         }
-        let placed = one_at_a_time(&settings, &events)
+        let placed = one_at_a_time(&settings, distance_bound(&settings), &events)
             .map_err(|why| Failure::Said(format!("{settings:?}, one at a time: {why}")))?;
         self.runs += 1;
         self.operations += placed.events.len() as u64;

@@ -16,17 +16,23 @@ use history::History;
 use search::Search;
 use sequential::Sequential;
 
-/// The linearization points of a run, or why there are none.
-pub fn one_at_a_time(settings: &Settings, events: &[Event]) -> Result<Placed, String> {
+/// The linearization points of a run in which no take passes over more items
+/// than `most_passed`, or why there are none. Demand 3's own claim has the
+/// number `distance_bound`; a lower one makes a stronger claim.
+pub fn one_at_a_time(
+    settings: &Settings,
+    most_passed: u32,
+    events: &[Event],
+) -> Result<Placed, String> {
     let history = History::of(settings, events)?;
-    let placed = Search::new(settings, &history).run()?;
-    replay(settings, &history, &placed)?;
+    let list = || Sequential::new(settings, most_passed);
+    let placed = Search::new(list(), &history).run()?;
+    replay(list(), &history, &placed)?;
     Ok(placed)
 }
 
 /// The search need not be believed: its outcome is replayed from the start.
-fn replay(settings: &Settings, history: &History, placed: &Placed) -> Result<(), String> {
-    let mut list = Sequential::new(settings);
+fn replay(mut list: Sequential, history: &History, placed: &Placed) -> Result<(), String> {
     let mut fed = 0;
     for moment in &history.moments {
         if placed.events[moment.operation] == moment.event {

@@ -18,7 +18,6 @@
 use super::history::{History, Moment};
 use super::sequential::{Sequential, Undo};
 use crate::answer::{PUT, TAKEN};
-use crate::pool::settings::Settings;
 use std::collections::HashSet;
 
 /// The search gives up after this many visits to steps beyond the first walk,
@@ -58,10 +57,11 @@ pub(super) struct Search<'a> {
 }
 
 impl<'a> Search<'a> {
-    pub fn new(settings: &Settings, history: &'a History) -> Search<'a> {
+    /// The list has no items yet.
+    pub fn new(list: Sequential, history: &'a History) -> Search<'a> {
         Search {
             history,
-            list: Sequential::new(settings),
+            list,
             place: vec![None; history.operations.len()],
             early: 0,
             trail: Vec::new(),

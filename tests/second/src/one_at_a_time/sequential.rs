@@ -3,7 +3,7 @@
 
 use super::history::Operation;
 use crate::answer::{EMPTY, FULL, PUT, TAKEN};
-use crate::bounds::{distance_bound, full_bound};
+use crate::bounds::full_bound;
 use crate::pool::phase::Side;
 use crate::pool::settings::{Settings, QUEUE};
 
@@ -22,6 +22,8 @@ pub(super) enum Undo {
 
 pub(super) struct Sequential {
     settings: Settings,
+    /// A take may pass over this many items.
+    most_passed: u32,
     /// In the order of stamps, which is the order of joining.
     items: Vec<Item>,
     puts: u32,
@@ -31,9 +33,10 @@ pub(super) struct Sequential {
 type Given = (u32, u32, u32);
 
 impl Sequential {
-    pub fn new(settings: &Settings) -> Sequential {
+    pub fn new(settings: &Settings, most_passed: u32) -> Sequential {
         Sequential {
             settings: *settings,
+            most_passed,
             items: Vec::new(),
             puts: 0,
         }
@@ -88,7 +91,8 @@ impl Sequential {
     }
 
     /// "An item with the fed stamp must be there, with no more older ones
-    /// (line) or newer ones (pile) than demand 3 allows."
+    /// (line) or newer ones (pile) than demand 3 allows", or than a closer
+    /// bound does.
     fn gives_item(&self, stamp: u32) -> Option<Given> {
         let at = self.find(stamp)?;
         let ahead = if self.settings.kind == QUEUE {
@@ -97,8 +101,7 @@ impl Sequential {
             self.items.len() - 1 - at
         };
         let distance = ahead as u32;
-        (distance <= distance_bound(&self.settings))
-            .then(|| (self.items[at].value, stamp, distance))
+        (distance <= self.most_passed).then(|| (self.items[at].value, stamp, distance))
     }
 
     fn find(&self, stamp: u32) -> Option<usize> {
