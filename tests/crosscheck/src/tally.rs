@@ -2,7 +2,7 @@
 
 use crate::cases::files::Lister;
 use crate::cases::runs::Runs;
-use crate::cases::{images, makes};
+use crate::cases::{images, makes, scripts};
 use crate::coverage::Coverage;
 use crate::failure::Failure;
 use crate::options::Options;
@@ -15,18 +15,21 @@ use std::time::{Duration, Instant};
 /// Cases that are run however short the time is; they reach all there is to
 /// reach.
 const LEAST_CASES: u64 = 400;
-/// Images and makes are short: a case has this many of them.
+/// Images, makes and most scripts are short: a case has this many of them.
 const IMAGES: u64 = 160;
 const MAKES: u64 = 40;
+const SCRIPTS: u64 = 6;
 /// Which cases are of which sort goes by their number modulo this: most are
 /// runs, which say the most, and a case of run files takes as long as ten.
 const SORTS: u64 = 16;
 const RUN_FILES: u64 = 4;
+const OF_SCRIPTS: u64 = 5;
 
 pub struct Tally {
     checks: Checks,
     lister: Option<Lister>,
     images: u64,
+    scripts: u64,
     runs: Runs,
 }
 
@@ -42,6 +45,7 @@ impl Tally {
             },
             lister: options.lister.clone().map(Lister::new),
             images: 0,
+            scripts: 0,
             runs: Runs::default(),
         }
     }
@@ -97,6 +101,12 @@ impl Tally {
                     lister.run(rng)?;
                 }
             }
+            OF_SCRIPTS => {
+                for _ in 0..SCRIPTS {
+                    scripts::run(rng, &mut self.checks)?;
+                    self.scripts += 1;
+                }
+            }
             _ => self.runs.run(rng, &mut self.checks)?,
         }
         Ok(())
@@ -113,10 +123,11 @@ impl Tally {
         }
         self.report_runs();
         println!(
-            "crosscheck: {} calls, {} images, {} runs one at a time, {} run files: all equal",
+            "crosscheck: {} calls, {} images, {} runs one at a time, {} scripts, {} run files: all equal",
             self.checks.coverage.calls,
             self.images,
             self.runs.runs,
+            self.scripts,
             self.lister.as_ref().map_or(0, |lister| lister.files),
         );
         ExitCode::SUCCESS
@@ -127,7 +138,11 @@ impl Tally {
             "one at a time: {} operations of {} runs have places; {} runs need places before last steps",
             self.runs.operations, self.runs.runs, self.runs.not_at_last_steps,
         );
-        let [queue, stack] = self.runs.percent_of_bound;
-        println!("distances came up to {queue} % of the bound in queues, {stack} % in stacks");
+        let [queue, stack] = self.runs.percent_of_worst;
+        let [queues, stacks] = self.runs.at_worst;
+        println!(
+            "random runs: distances up to {queue} % of the worst one in queues, {stack} % in stacks; \
+             {queues} runs of queues and {stacks} of stacks came to it",
+        );
     }
 }

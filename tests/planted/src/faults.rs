@@ -7,8 +7,8 @@ pub struct Fault {
     /// Must stand in the file exactly once.
     pub old: &'static str,
     pub new: &'static str,
-    /// A wrong pool also by the runs one at a time, without a comparison: the
-    /// paper's "traps in the published text", and their like.
+    /// A wrong pool or figure also by the runs one at a time, without a
+    /// comparison: the paper's "traps in the published text", and their like.
     pub seen_alone: bool,
     /// Only run files show it.
     pub of_lister: bool,
@@ -54,7 +54,7 @@ const fn lister_fault(
     }
 }
 
-pub const FAULTS: [Fault; 16] = [
+pub const FAULTS: [Fault; 19] = [
     trap(
         "empty after one pass, without confirm",
         "stages/read.rs",
@@ -74,10 +74,22 @@ pub const FAULTS: [Fault; 16] = [
         "pool.words[layout::WINDOW] == worker.seen_window",
     ),
     trap(
-        "the framework paper's bound for a stack",
+        "the framework paper's figure for a stack",
         "bounds.rs",
-        "2 * settings.depth + 2 * settings.shift)",
-        "settings.depth + 2 * settings.shift)",
+        "depth + 2 * shift + back_in_reach",
+        "depth + 2 * shift",
+    ),
+    trap(
+        "the worst distance, less a row of each other sub",
+        "bounds.rs",
+        "depth + 2 * shift + back_in_reach",
+        "depth + 2 * shift + back_in_reach - 1",
+    ),
+    fault(
+        "the worst distance, without R's limit",
+        "bounds.rs",
+        "thesis_figure(settings).min(in_other_subs(settings, highest_window))",
+        "thesis_figure(settings)",
     ),
     trap(
         "a stack's version stays at a take",
@@ -144,6 +156,12 @@ pub const FAULTS: [Fault; 16] = [
         "listing/reader.rs",
         "self.fill(&mut [0])? > 0",
         "self.fill(&mut [0, 0])? > 1",
+    ),
+    lister_fault(
+        "the framework paper's figure as the listing's bound",
+        "bounds.rs",
+        "2 * settings.depth + 2 * settings.shift)",
+        "settings.depth + 2 * settings.shift)",
     ),
     lister_fault(
         "a spare bit of a step passes",

@@ -44,7 +44,8 @@ pub fn thesis_figure(settings: &Settings) -> u32 {
 
 /// The greatest distance of a take, over all runs from make with two workers
 /// or more: a queue's bound; in a stack what source 003 says, unless G is at
-/// its highest below that. G goes from d in shifts while it stays within R.
+/// its highest below that. G goes from d in shifts while it stays within R,
+/// which no source has.
 pub fn worst_distance(settings: &Settings) -> u32 {
     let Settings { depth, shift, .. } = *settings;
     let shifts = (settings.rows - depth) / shift;

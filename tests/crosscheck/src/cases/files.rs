@@ -3,10 +3,7 @@
 
 use crate::failure::Failure;
 use crate::make_up::run_file;
-use crate::make_up::schedule::{Numbers, Schedule};
-use crate::make_up::settings::{any, within, Size};
 use crate::rng::Rng;
-use sides::{Call, SECOND};
 use std::fs::{self, File};
 use std::path::{Path, PathBuf};
 use std::process::{self, Command};
@@ -33,7 +30,7 @@ impl Lister {
 
     /// A random run file whole, damaged, cut and with bytes after its end.
     pub fn run(&mut self, rng: &mut Rng) -> Result<(), Failure> {
-        let file = random_file(rng);
+        let file = run_file::whole(rng);
         self.compare(&file)?;
         for _ in 0..6 {
             self.compare(&run_file::one_bit_damaged(rng, &file))?;
@@ -90,40 +87,4 @@ impl Lister {
 
 fn shown(path: &Path) -> String {
     path.display().to_string()
-}
-
-fn random_file(rng: &mut Rng) -> Vec<u8> {
-    if rng.chance(10) {
-        return run_file::encode(&of_run_file(rng), &[]);
-    }
-    let (size, calls) = match rng.below(20) {
-        0 => (Size::Large, rng.between(1_000, 20_000)),
-        1..=6 => (Size::Medium, rng.between(50, 2_000)),
-        7..=12 => (Size::Small, rng.between(30, 400)),
-        _ => (Size::Small, rng.between(1, 27)),
-    };
-    let settings = within(rng, size);
-    let mut words = vec![0; settings.needed_words()];
-    SECOND.call(&mut words, Call::Make(settings));
-    let mut schedule = Schedule::new(rng, settings, Numbers::OfRunFile);
-    let mut run = Vec::new();
-    for _ in 0..calls {
-        let call = schedule.next(rng, &words);
-        SECOND.call(&mut words, call);
-        run.push(call);
-    }
-    run_file::encode(&settings, &run)
-}
-
-/// Settings that a header can hold, within limits or off.
-fn of_run_file(rng: &mut Rng) -> second::Settings {
-    let settings = any(rng);
-    second::Settings {
-        kind: settings.kind % 2,
-        width: settings.width % 32,
-        depth: settings.depth % 128,
-        shift: settings.shift % 128,
-        rows: settings.rows % 2048,
-        workers: settings.workers % 64,
-    }
 }

@@ -5,9 +5,9 @@ use super::Seen;
 use second::phase::{self, Side, Stage};
 use second::{layout, PUT, QUEUE, TAKEN};
 
-type Corner = (&'static str, fn(&Seen) -> bool);
+pub type Corner = (&'static str, fn(&Seen) -> bool);
 
-const CORNERS: [Corner; 10] = [
+pub const CORNERS: [Corner; 10] = [
     ("a put into row 0", |seen| {
         seen.answer.number == PUT && seen.answer.row == 0
     }),
@@ -49,28 +49,6 @@ const CORNERS: [Corner; 10] = [
         seen.answer.number == TAKEN && in_two_cells(seen)
     }),
 ];
-
-#[derive(Default)]
-pub struct Corners([u64; CORNERS.len()]);
-
-impl Corners {
-    pub fn record(&mut self, seen: &Seen) {
-        for (count, (_, reached)) in self.0.iter_mut().zip(CORNERS) {
-            *count += u64::from(reached(seen));
-        }
-    }
-
-    pub fn report(&self) -> Vec<String> {
-        let mut missing = Vec::new();
-        for (count, (name, _)) in self.0.iter().zip(CORNERS) {
-            println!("{count:9} times {name}");
-            if *count == 0 {
-                missing.push(name.to_string());
-            }
-        }
-        missing
-    }
-}
 
 fn is_queue(seen: &Seen) -> bool {
     seen.settings.kind == QUEUE

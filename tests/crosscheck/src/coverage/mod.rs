@@ -1,14 +1,19 @@
 //! What the cases have reached. A pass must have reached each outcome of each
-//! phase of both kinds, each number that each call can answer, and each corner
-//! where the paper's text is about words that no make leads to.
+//! phase of both kinds, each number that each call can answer, each corner
+//! where the paper's text is about words that no make leads to, and each sort
+//! of settings that a script can have.
 
 mod corners;
+mod counts;
 mod numbers;
 mod phases;
+mod scripts;
 
-use corners::Corners;
+use corners::CORNERS;
+use counts::Counts;
 use numbers::Numbers;
 use phases::Phases;
+use scripts::SCRIPTS;
 use second::{layout, Answer, Settings, NO_WORKER, UNFIT};
 use sides::{Call, SECOND};
 
@@ -28,7 +33,8 @@ pub struct Coverage {
     pub calls: u64,
     numbers: Numbers,
     phases: Phases,
-    corners: Corners,
+    corners: Counts<{ CORNERS.len() }>,
+    scripts: Counts<{ SCRIPTS.len() }>,
 }
 
 impl Coverage {
@@ -55,14 +61,20 @@ impl Coverage {
             answer,
         };
         self.phases.record(&seen);
-        self.corners.record(&seen);
+        self.corners.add(CORNERS.map(|(_, reached)| reached(&seen)));
+    }
+
+    /// A script that came to its end.
+    pub fn record_script(&mut self, settings: &Settings) {
+        self.scripts.add(SCRIPTS.map(|(_, has)| has(settings)));
     }
 
     /// Prints the counts; what is missing comes back.
     pub fn report(&self) -> Vec<String> {
         let mut missing = self.phases.report();
         missing.extend(self.numbers.report());
-        missing.extend(self.corners.report());
+        missing.extend(self.corners.report(CORNERS));
+        missing.extend(self.scripts.report(SCRIPTS));
         missing
     }
 }

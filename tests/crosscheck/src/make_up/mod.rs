@@ -1,10 +1,12 @@
 //! How cases are made up from random numbers.
 
+mod acts;
 mod ambush;
 pub mod image;
 pub mod junk;
 pub mod run_file;
 pub mod schedule;
+pub mod script;
 pub mod settings;
 mod turns;
 mod workers;

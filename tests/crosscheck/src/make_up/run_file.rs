@@ -1,11 +1,70 @@
 //! Run files, whole and damaged (paper 01, The run file and its listing).
 
+use super::schedule::{Numbers, Schedule};
+use super::script::Script;
+use super::settings::{any, of_script, within, Size};
 use crate::rng::Rng;
 use second::Settings;
-use sides::Call;
+use sides::{Call, SECOND};
+
+/// Mostly a run under a schedule; some have no call, some play a script.
+pub fn whole(rng: &mut Rng) -> Vec<u8> {
+    match rng.below(20) {
+        0..=1 => encode(&of_run_file(rng), &[]),
+        2 => scripted_file(rng),
+        _ => scheduled_file(rng),
+    }
+}
+
+/// A run whose distances may come up to the worst one.
+fn scripted_file(rng: &mut Rng) -> Vec<u8> {
+    let settings = of_script(rng);
+    let mut script = Script::new(settings);
+    of_run(settings, |words| script.next(rng, words))
+}
+
+fn scheduled_file(rng: &mut Rng) -> Vec<u8> {
+    let (size, calls) = match rng.below(20) {
+        0 => (Size::Large, rng.between(1_000, 20_000)),
+        1..=6 => (Size::Medium, rng.between(50, 2_000)),
+        7..=12 => (Size::Small, rng.between(30, 400)),
+        _ => (Size::Small, rng.between(1, 27)),
+    };
+    let settings = within(rng, size);
+    let mut schedule = Schedule::new(rng, settings, Numbers::OfRunFile);
+    let mut left = 0..calls;
+    of_run(settings, |words| {
+        left.next().map(|_| schedule.next(rng, words))
+    })
+}
+
+/// The calls that follow a make, each made up from the words before it.
+fn of_run(settings: Settings, mut next: impl FnMut(&[u32]) -> Option<Call>) -> Vec<u8> {
+    let mut words = vec![0; settings.needed_words()];
+    SECOND.call(&mut words, Call::Make(settings));
+    let mut run = Vec::new();
+    while let Some(call) = next(&words) {
+        SECOND.call(&mut words, call);
+        run.push(call);
+    }
+    encode(&settings, &run)
+}
+
+/// Settings that a header can hold, within limits or off.
+fn of_run_file(rng: &mut Rng) -> Settings {
+    let settings = any(rng);
+    Settings {
+        kind: settings.kind % 2,
+        width: settings.width % 32,
+        depth: settings.depth % 128,
+        shift: settings.shift % 128,
+        rows: settings.rows % 2048,
+        workers: settings.workers % 64,
+    }
+}
 
 /// The bytes of a run of calls after a make with these settings.
-pub fn encode(settings: &Settings, calls: &[Call]) -> Vec<u8> {
+fn encode(settings: &Settings, calls: &[Call]) -> Vec<u8> {
     let first =
         1 << 28 | settings.kind << 19 | settings.shift << 12 | settings.depth << 5 | settings.width;
     let second = 2 << 28 | settings.workers << 11 | settings.rows;

@@ -17,13 +17,34 @@ pub enum Size {
 
 /// Settings within limits.
 pub fn within(rng: &mut Rng, size: Size) -> Settings {
+    let kind = rng.pick(&[QUEUE, STACK]);
+    of_kind(rng, kind, size)
+}
+
+/// A stack with the workers that a script needs.
+pub fn of_script(rng: &mut Rng) -> Settings {
+    let size = match rng.below(10) {
+        0 => Size::Large,
+        1..=5 => Size::Medium,
+        _ => Size::Small,
+    };
+    let settings = of_kind(rng, STACK, size);
+    // Few rows are the limit of a script more often than many.
+    let fewer_rows = rng.between(2 * settings.depth, settings.rows);
+    Settings {
+        rows: rng.pick(&[settings.rows, fewer_rows]),
+        workers: settings.workers.max(2),
+        ..settings
+    }
+}
+
+fn of_kind(rng: &mut Rng, kind: u32, size: Size) -> Settings {
     let (widths, depths, depths_in_rows, workers) = match size {
         Size::Small => (4, 3, 4, 4),
         Size::Medium => (16, 8, 8, 32),
         Size::Deep => (2, 2, 24, 32),
         Size::Large => (16, 64, 1024, 32),
     };
-    let kind = rng.pick(&[QUEUE, STACK]);
     let width = up_to(rng, widths, size);
     let depth = up_to(rng, depths, size);
     let most_rows = (depth * depths_in_rows).min(1024).min(4096 / width);

@@ -1,4 +1,4 @@
-//! What a scheduler sees of the workers.
+//! What a scheduler sees of the workers, and of a stack.
 
 use second::phase::{self, Side, Stage};
 use second::{layout, Settings, STACK};
@@ -33,6 +33,11 @@ impl Workers<'_> {
     /// G; a queue's windows only go up and never come back.
     pub fn stack_window(&self) -> Option<u32> {
         (self.settings.kind == STACK).then(|| self.words[layout::WINDOW])
+    }
+
+    /// The items that a stack's sub holds.
+    pub fn held(&self, sub: u32) -> u32 {
+        self.words[self.settings.subs_at() + layout::SUB_WORDS * sub as usize + layout::ITEMS_HELD]
     }
 
     fn word(&self, worker: u32, which: usize) -> u32 {

@@ -1,0 +1,88 @@
+//! A run from make on all implementations: its calls, and then the same run one
+//! at a time.
+
+use crate::failure::Failure;
+use crate::make_up::junk;
+use crate::rng::Rng;
+use crate::side_by_side::{Checks, SideBySide};
+use second::phase::Side;
+use second::{one_at_a_time, worst_distance, Answer, Event, Placed, Settings};
+use sides::Call;
+
+pub struct FromMake {
+    /// What a failure calls it.
+    name: &'static str,
+    settings: Settings,
+    pools: SideBySide,
+    events: Vec<Event>,
+    /// The greatest distance of a take so far.
+    pub greatest: u32,
+}
+
+impl FromMake {
+    /// Words that held junk, made into a pool; some are lent beyond the needed.
+    pub fn new(
+        name: &'static str,
+        rng: &mut Rng,
+        settings: Settings,
+        checks: &mut Checks,
+    ) -> Result<FromMake, Failure> {
+        let len = settings.needed_words() + rng.pick(&[0, 0, 1, 7]);
+        let mut pools = SideBySide::new(&junk::words(rng, len), checks);
+        pools.call(Call::Make(settings), checks)?;
+        Ok(FromMake {
+            name,
+            settings,
+            pools,
+            events: Vec::new(),
+            greatest: 0,
+        })
+    }
+
+    pub fn words(&self) -> &[u32] {
+        self.pools.words()
+    }
+
+    pub fn call(&mut self, call: Call, checks: &mut Checks) -> Result<Answer, Failure> {
+        let answer = self.pools.call(call, checks)?;
+        self.events.push(event(call, answer));
+        self.greatest = self.greatest.max(answer.distance);
+        Ok(answer)
+    }
+
+    /// With the worst distance in the place of demand 3's bound, which is a
+    /// greater one: no take may pass over more.
+    pub fn one_at_a_time(&self) -> Result<Placed, Failure> {
+        let worst = worst_distance(&self.settings);
+        one_at_a_time(&self.settings, worst, &self.events).map_err(|why| {
+            if self.greatest > worst {
+                self.said(&format!(
+                    "distance {} is above the worst one, {worst}; one at a time: {why}",
+                    self.greatest
+                ))
+            } else {
+                self.said(&format!("one at a time: {why}"))
+            }
+        })
+    }
+
+    /// A failure of this run, with its settings.
+    pub fn said(&self, what: &str) -> Failure {
+        Failure::Said(format!("{} with {:?}: {what}", self.name, self.settings))
+    }
+}
+
+fn event(call: Call, answer: Answer) -> Event {
+    let begin = |worker, side, value| Event::Begin {
+        worker,
+        side,
+        value,
+        answer,
+    };
+    match call {
+        Call::BeginPut { worker, value } => begin(worker, Side::Put, value),
+        Call::BeginTake { worker } => begin(worker, Side::Take, 0),
+        Call::Step { worker } => Event::Step { worker, answer },
+        Call::Make(_) => unreachable!("a run has one make, its first call"),
+    }
+}

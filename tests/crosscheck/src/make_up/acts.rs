@@ -1,0 +1,83 @@
+//! The acts of a script: in each one worker goes on, with puts alone or takes
+//! alone, until something is so.
+
+use super::workers::Workers;
+use crate::rng::Rng;
+use second::phase::{Side, Stage};
+use sides::Call;
+
+/// What ends an act. "Full" is as full as the window lets a sub be.
+#[derive(Clone, Copy)]
+pub enum Until {
+    AllFull,
+    /// All but the last sub.
+    OthersFull,
+    LastHolds(u32),
+    /// The worker's next take is that of the last sub's item in this row.
+    NextIsInLast {
+        row: u32,
+    },
+    /// The worker stands before this stage.
+    Before(Stage),
+    WindowIs(u32),
+    Idle,
+}
+
+#[derive(Clone, Copy)]
+pub struct Act {
+    worker: u32,
+    side: Side,
+    until: Until,
+}
+
+pub fn puts(worker: u32, until: Until) -> Act {
+    Act {
+        worker,
+        side: Side::Put,
+        until,
+    }
+}
+
+pub fn takes(worker: u32, until: Until) -> Act {
+    Act {
+        worker,
+        side: Side::Take,
+        until,
+    }
+}
+
+impl Act {
+    pub fn is_over(&self, workers: &Workers) -> bool {
+        let window = workers.stack_window().expect("a script is for a stack");
+        let last = workers.settings.width - 1;
+        let full = |subs: u32| (0..subs).all(|j| workers.held(j) == window);
+        match self.until {
+            Until::AllFull => full(last + 1),
+            Until::OthersFull => full(last),
+            Until::LastHolds(items) => workers.held(last) == items,
+            Until::NextIsInLast { row } => {
+                let out_of_reach = window - workers.settings.depth;
+                let mut on_its_way = workers.index(self.worker)..last;
+                on_its_way.all(|j| workers.held(j) <= out_of_reach) && workers.held(last) == row
+            }
+            Until::Before(stage) => workers.stage(self.worker) == Some((self.side, stage)),
+            Until::WindowIs(wanted) => window == wanted,
+            Until::Idle => workers.is_idle(self.worker),
+        }
+    }
+
+    pub fn next(&self, rng: &mut Rng, workers: &Workers) -> Call {
+        let worker = self.worker;
+        if !workers.is_idle(worker) {
+            return Call::Step { worker };
+        }
+        match self.side {
+            // A run file holds values of 22 bits.
+            Side::Put => Call::BeginPut {
+                worker,
+                value: rng.below(1 << 22),
+            },
+            Side::Take => Call::BeginTake { worker },
+        }
+    }
+}
