@@ -26,6 +26,7 @@ use Rattle.rules.specs.Held.{itemsAbove, heldSub, heldBelow, countItems, distan
 use Rattle.rules.specs.Apply.{putItem, putSub, putLanded, putShifted, putWorker, takenOf, applyBy, applyOf}
 use Rattle.rules.specs.Step.{ruleBy, ruleOf, slotStep, fitStep, checkedStep, stepOf}
 use Rattle.rules.specs.Sequential.{mostPassed, leastFull}
+use Rattle.rules.specs.Newer.{k14Bound, frameworkBound, thesisBound, exactBound}
 use Rattle.rules.specs.Run.{callOf, run}
 use Rattle.rules.specs.declared.Settings.{Settings}
 use Rattle.rules.specs.declared.Answer.the-variants.{Moving}
@@ -64,6 +65,8 @@ runs-hold = (
       also record { made = refl; lines = refl }
       also record { made = refl; lines = refl }
       also record { made = refl; lines = refl }
+      also record { made = refl; lines = refl }
+      also record { made = refl; lines = refl }
       also end,
 )
 
@@ -71,3 +74,19 @@ runs-hold = (
 pub numbers-reached : (mostPassed (queue 3 2 4 3) ≡ 4) × (leastFull (queue 2 1 2 1) ≡ 2) × (leastFull (stack 2 2 2 5 1) ≡ 8)
 unfolding mostPassed leastFull cond
 numbers-reached = (refl, refl, refl)
+
+-- and the exact figure for the stack's takes; it is K14's in the first two of them, and the thesis' in all but the last
+pub record Figures (g : Settings) (framework exact thesis k14 : ℕ) : Type 0 where
+  pub framework-is : frameworkBound g ≡ framework
+  pub exact-is : exactBound g ≡ exact
+  pub thesis-is : thesisBound g ≡ thesis
+  pub k14-is : k14Bound g ≡ k14
+
+pub figures-reached : Figures (stack 2 1 1 3 2) 3 3 3 3 × Figures (stack 2 2 1 5 2) 4 5 5 5 × Figures (stack 2 2 2 6 3) 6 6 6 7 × Figures (stack 2 1 1 2 3) 3 2 3 3
+unfolding frameworkBound exactBound thesisBound k14Bound cond
+figures-reached = (
+  record { framework-is = refl; exact-is = refl; thesis-is = refl; k14-is = refl },
+  record { framework-is = refl; exact-is = refl; thesis-is = refl; k14-is = refl },
+  record { framework-is = refl; exact-is = refl; thesis-is = refl; k14-is = refl },
+  record { framework-is = refl; exact-is = refl; thesis-is = refl; k14-is = refl },
+)
