@@ -111,3 +111,25 @@ fn moves(words: &mut [u32], worker: u32, steps: u32) {
         assert_eq!(step(words, worker), Answer::of(MOVING));
     }
 }
+
+/// With one worker nothing overlaps: in the same stack, in every list of 14
+/// whole puts and takes, no take passes over anything.
+#[test]
+fn one_worker_does_not_come_to_it() {
+    let settings = stack(2, 1, 1, 2, 1);
+    assert_eq!(worst_distance(&settings), 2);
+    assert_eq!(greatest_alone(&made(settings), 14), 0);
+}
+
+/// The greatest distance in all lists of so many operations that follow.
+fn greatest_alone(words: &[u32], left: u32) -> u32 {
+    if left == 0 {
+        return 0;
+    }
+    let mut after_put = words.to_vec();
+    put(&mut after_put, 0, left);
+    let mut after_take = words.to_vec();
+    let distance = take(&mut after_take, 0).0.distance;
+    let later = [after_put, after_take].map(|words| greatest_alone(&words, left - 1));
+    distance.max(later[0]).max(later[1])
+}
