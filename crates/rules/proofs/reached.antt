@@ -11,4 +11,5 @@ pub mod Scene
 pub mod Opening
 pub mod Rises
 pub mod Ending
+pub mod Taken
 pub mod Reached

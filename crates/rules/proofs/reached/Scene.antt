@@ -86,7 +86,8 @@ module _ (g : Settings) (limits : settingsFit g ≡ true) (kind : g .kind ≡ 1)
   Keeps s t = (x row : ℕ) → Scene x row s → Scene x row t
 
   -- ---- full subs, and the shifter at its shift
-  -- the mover rests at a sub, every sub is below the window, and the shifter is about to look at it
+  -- the mover rests at a sub, every sub is below the window, and the shifter is about to look at it; n bounds the steps so far, which
+  -- stay far below the 4,000,000,000 of a pool
   pub record Low (top at n : ℕ) (s : State) : Type 0 where
     pub got : Got g limits kind s
     pub top-is : s .top ≡ top

@@ -8,7 +8,7 @@ use native.Mathlib.Omega.{arith}
 use borrow.Author.Tests.{lt-ltb, le-ltb, eq-eqb}
 use Rattle.laws.specs.Wrap.{add32, sub32}
 use Rattle.rules.specs.Limits.{settingsFit, Bounds}
-use Rattle.rules.specs.Worker.{zeroSlot, fresh, encode}
+use Rattle.rules.specs.Worker.{zeroSlot, encode}
 use Rattle.rules.specs.Effects.{movedOf, nextOf}
 use Rattle.rules.specs.Read.{stackHit}
 use Rattle.rules.specs.Step.{ruleBy}
@@ -16,9 +16,9 @@ use Rattle.rules.specs.Run.{step}
 use Rattle.rules.proofs.Types.{Settings, Side, Putting, Taking, Phase, Window, StackRead, Check, StackCommit, StackShift, Version, Worker, Slot}
 use Rattle.rules.specs.declared.Answer.the-variants.{Moving}
 use Rattle.rules.proofs.Fitness.{settings-bounds}
-use Rattle.rules.proofs.counts.Sums.{upd-same, upd-other}
+use Rattle.rules.proofs.counts.Sums.{upd, upd-same, upd-other}
 use Rattle.rules.proofs.counts.Wraps.{add32-suc, sub32-is}
-use Rattle.rules.proofs.machine.Machine.{State, subIn, viewIn, phaseIn, applyIn, withSlot, turnedIn, apply-moved}
+use Rattle.rules.proofs.machine.Machine.{State, subIn, viewIn, phaseIn, applyIn, apply-moved}
 use Rattle.rules.proofs.machine.Phases.{OfStack, worker, stack-phase, encode-index}
 use Rattle.rules.proofs.stack.Inv.{Hit, Missed}
 use Rattle.rules.proofs.stack.After.{window-ge, window-le}
@@ -125,48 +125,51 @@ module _ (g : Settings) (limits : settingsFit g ≡ true) (kind : g .kind ≡ 1)
   misses s got i Putting h = le-ltb _ _ h
   misses s got i Taking h = le-ltb (sub32 (s .top) (g .depth)) (s .first (subIn s i)) (omega (arith, depth-off s got))
 
-  -- ---- one step
+  -- ---- a call that changes worker i's slot alone, and the steps counted
+  abbrev inSlot : State → ℕ → ℕ → Slot → State
+  inSlot s i steps x =
+      record {
+        steps = steps;
+        puts = s .puts;
+        top = s .top;
+        mark = s .mark;
+        first = s .first;
+        second = s .second;
+        item = s .item;
+        slot = upd (s .slot) i x;
+      }
+
+  in-slot : {n : ℕ} (s : State) (i steps : ℕ) (k : Worker) (kept : Slot) → OfStack (k .phase) → steps ≤ s .steps + n
+      → Reaches (inSlot s i steps (encode k kept)) → Walked n s i (k .index) (k .phase)
+  in-slot s i steps k kept of l got =
+      let x : Slot = encode k kept in
+      record {
+        to = inSlot s i steps x;
+        got = got;
+        steps = l;
+        puts = refl;
+        top = refl;
+        mark = refl;
+        first = refl;
+        second = refl;
+        item = refl;
+        off = λ m n. upd-other (s .slot) i x m n;
+        phase = rw (upd-same (s .slot) i x) (stack-phase g kind k of kept);
+        index-is = ap (λ (y : Slot). y .index) (upd-same (s .slot) i x) ∙ encode-index k kept;
+      }
+
+  -- ---- one call
   module _ (s : State) (got : Reaches s) (i : ℕ) (l : i < g .workers) (time : s .steps < 4000000000) where
     moved : (p₀ : Phase) → phaseIn g s i ≡ p₀ → Busy p₀ → (index : ℕ) (p : Phase) (kept : Slot) → OfStack p
         → ruleBy g (viewIn s i) p₀ ≡ movedOf (viewIn s i) index p kept → Walked 1 s i index p
     moved p₀ e busy index p kept of rule =
-        let k : Worker = worker (s .slot i .value) index p in
-        let x : Slot = encode k kept in
-        record {
-          to = turnedIn s i (s .top) (s .mark) x;
-          got =
-              got-call g limits kind got (step i) Moving (turnedIn s i (s .top) (s .mark) x)
-              (step-is g s i l time p₀ e busy ∙ ap (applyIn g s i) rule ∙ apply-moved g s i index p kept);
-          steps = omega arith;
-          puts = refl;
-          top = refl;
-          mark = refl;
-          first = refl;
-          second = refl;
-          item = refl;
-          off = λ m n. upd-other (s .slot) i x m n;
-          phase = rw (upd-same (s .slot) i x) (stack-phase g kind k of kept);
-          index-is = ap (λ (y : Slot). y .index) (upd-same (s .slot) i x) ∙ encode-index k kept;
-        }
+        in-slot s i (suc (s .steps)) (worker (s .slot i .value) index p) kept of (omega arith)
+        (got-call g limits kind got (step i) Moving _ (step-is g s i l time p₀ e busy ∙ ap (applyIn g s i) rule ∙ apply-moved g s i index p kept))
 
     pub begin : (side : Side) → s .slot i .number ≡ 0 → Walked 0 s i (subIn s i) (Window side)
     begin side z =
-        let k : Worker = worker (valueBegun side) (subIn s i) (Window side) in
-        let x : Slot = fresh (valueBegun side) (subIn s i) (Window side) in
-        record {
-          to = withSlot s i x;
-          got = got-call g limits kind got (begins i side) Moving (withSlot s i x) (begin-is g s i side l time z);
-          steps = omega arith;
-          puts = refl;
-          top = refl;
-          mark = refl;
-          first = refl;
-          second = refl;
-          item = refl;
-          off = λ m n. upd-other (s .slot) i x m n;
-          phase = rw (upd-same (s .slot) i x) (stack-phase g kind k tt zeroSlot);
-          index-is = ap (λ (y : Slot). y .index) (upd-same (s .slot) i x) ∙ encode-index k zeroSlot;
-        }
+        in-slot s i (s .steps) (worker (valueBegun side) (subIn s i) (Window side)) zeroSlot tt (omega arith)
+        (got-call g limits kind got (begins i side) Moving _ (begin-is g s i side l time z))
 
     pub window : (side : Side) → phaseIn g s i ≡ Window side → Walked 1 s i (subIn s i) (Reads s side 0 0)
     window side e = moved (Window side) e tt (subIn s i) _ zeroSlot tt (window-rule g s i kind side)

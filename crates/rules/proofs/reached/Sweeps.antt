@@ -180,7 +180,7 @@ module _ (g : Settings) (limits : settingsFit g ≡ true) (kind : g .kind ≡ 1)
         held m (inl h) (inr o) = b .held-off m o ∙ a .held m (h .0) (h .1)
         held m (inr h) o = b .held m (h .0) (h .1)
 
-  -- 5,120 steps for each sub are enough
+  -- an operation takes 5 steps at most, and a sub 1,024 of them: 5,120 steps for each sub, and 81,920 for all, are enough
   module _ (side : Side) (i c : ℕ) (l : i < g .workers) where
     sub : (j : ℕ) (s : State) → Got g limits kind s → j < g .width → s .steps + 5120 ≤ 4000000000 → Comes g side s i j → Target g side (s .top) c
         → Short side (s .first j) c → Brings 5120 s i j j c j

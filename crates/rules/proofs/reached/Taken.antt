@@ -1,0 +1,108 @@
+-- The last take of the run. It is about to land; by the upper bound it passes over no more than the exact figure, so it is enough that it
+-- passes over as many: nothing has to be known of the last sub's other items. The take of x does, for every item of the other subs is newer.
+use mathlib.Core.Path.{_≡_, refl, sym, ap, _∙_, subst}
+use mathlib.Core.Bool.{Bool, true}
+use mathlib.Core.List.{List, [], _∷_, _++_}
+use Prim.Native.Nat.{ℕ, suc, _+_, _-_, _≤_, _<_}
+use native.Mathlib.Nat.{le-antisymm}
+use native.Mathlib.Omega.{arith}
+use lib.ListN.{length}
+use borrow.Author.Tests.{lt-ltb, eq-eqb}
+use Rattle.laws.specs.Choice.{cond-false}
+use Rattle.rules.specs.Answers.{numberOf}
+use Rattle.rules.specs.Held.{passedOver}
+use Rattle.rules.specs.Limits.{settingsFit}
+use Rattle.rules.specs.Newer.{exactRows, exactBound, Passes}
+use Rattle.rules.specs.Run.{Call, step, Event, distanceIn}
+use Rattle.rules.proofs.Types.{Settings, Taking, StackCommit, Version}
+use Rattle.rules.proofs.Cells.{stack-below}
+use Rattle.rules.proofs.counts.Sums.{upTo, upTo-ext, upTo-true, upTo-none, sum-gap, sum-zero, sum-more}
+use Rattle.rules.proofs.order.Law.{Next, events}
+use Rattle.rules.proofs.machine.Machine.{State, subIn, phaseIn, countIn, takenIn, applyIn, nextIn, madeIn, distanceIn as distanceAt}
+use Rattle.rules.proofs.machine.Good.{good}
+use Rattle.rules.proofs.stack.After.{Stepping}
+use Rattle.rules.proofs.stack.Figures.{bound-stack}
+use Rattle.rules.proofs.stack.Take.{take-row, take-newer, apply-removed}
+use Rattle.rules.proofs.reached.Run.{after, last-event, Got}
+use Rattle.rules.proofs.reached.Rules.{step-is, take-rule}
+use Rattle.rules.proofs.reached.Scene.{mover}
+use Rattle.rules.proofs.reached.Ending.{Last}
+
+-- a run of the machine in which a take passes over just as many items as the exact figure
+abbrev pub Found : Settings → Type 0
+Found g = (cs : List Call) × Passes (events (nextIn g) (madeIn g) cs) (exactBound g)
+
+module _ (g : Settings) (limits : settingsFit g ≡ true) (kind : g .kind ≡ 1) where
+  -- ---- a take that is about to land, and passes over at least so many
+  module _ (s : State) (got : Got g limits kind s) (i : ℕ) (l : i < g .workers) (time : s .steps < 4000000000)
+      (waits : phaseIn g s i ≡ StackCommit Taking (record { 0 = s .second (subIn s i) }))
+      (at-least : exactBound g ≤ distanceAt g s (s .item (subIn s i) (s .first (subIn s i)) .stamp)) where
+    abbrev seen : Version
+    seen = record { 0 = s .second (subIn s i) }
+
+    stepping : Stepping g s (got .live .list) i
+    stepping = record { good = good g limits; kind = kind; common = got .live .common; inv = got .live .inv; time = time }
+
+    lj : subIn s i < g .width
+    lj = got .live .common .slots i .index
+
+    some : 1 ≤ s .first (subIn s i)
+    some = take-row (good g limits) kind (got .live .inv) i lj seen waits refl
+
+    answer : nextIn g s (step i) .answer ≡ takenIn g s (subIn s i) (s .first (subIn s i))
+    answer =
+        ap (λ (n : Next State). n .answer)
+        (step-is g s i l time (StackCommit Taking seen) waits tt
+        ∙ ap (applyIn g s i) (take-rule g s i seen (eq-eqb (s .second (subIn s i)) (s .second (subIn s i)) refl) (lt-ltb _ _ some))
+        ∙ apply-removed stepping seen waits refl)
+
+    exactly : distanceAt g s (s .item (subIn s i) (s .first (subIn s i)) .stamp) ≡ exactBound g
+    exactly = le-antisymm (take-newer (good g limits) kind (got .live .inv) i lj seen waits refl) at-least
+
+    pub takes : Found g
+    takes =
+        let e = last-event g (madeIn g) (got .calls) (step i) in
+        let a : nextIn g (after g (madeIn g) (got .calls)) (step i) .answer ≡ takenIn g s (subIn s i) (s .first (subIn s i)) =
+        ap (λ (t : State). nextIn g t (step i) .answer) (got .ends) ∙ answer in (
+          got .calls ++ (step i ∷ []),
+          record {
+            worker = i;
+            position = length (got .calls);
+            stepped = ap (λ (v : Event). v .call) e;
+            taken = ap (λ (v : Event). numberOf (v .answer)) e ∙ ap numberOf a;
+            passed = ap (λ (v : Event). distanceIn (v .answer)) e ∙ ap distanceIn a ∙ exactly;
+          },
+        )
+
+  -- ---- the take of x
+  module _ (last : ℕ) (last-is : suc last ≡ g .width) (two : 2 ≤ g .workers) (another : 1 ≤ last) where
+    -- every item of another sub is newer than x, and each of these subs is filled up to the figure
+    module _ (x row high : ℕ) (exact : high ≡ exactRows g) (s : State) (o : Last g limits kind last last-is two another x row high s) where
+      newer-row : (m r : ℕ) → m < last → 1 ≤ r → r ≤ s .first m → passedOver (g .kind) x (s .item m r) ≡ true
+      newer-row m r l u v = rw kind (cond-false _ _ ∙ lt-ltb _ _ (o .scene .newer m r l u v))
+
+      all-rows : (p : ℕ → Bool) (n : ℕ) → ((r : ℕ) → 1 ≤ r → r ≤ n → p r ≡ true) → upTo p n ≡ n
+      all-rows p n h = upTo-ext p (λ r. true) n h ∙ upTo-true n
+
+      newer-sub : (m : ℕ) → m < last → 0 + exactRows g ≤ countIn g s (passedOver (g .kind) x) m
+      newer-sub m l =
+          rw (stack-below g kind (s .second m))
+          (omega (
+            arith,
+            all-rows (λ r. passedOver (g .kind) x (s .item m r)) (s .first m) (λ r u v. newer-row m r l u v),
+            upTo-none (λ r. passedOver (g .kind) x (s .item m r)),
+            o .full m l,
+          ))
+
+      at-least : exactBound g ≤ distanceAt g s x
+      unfolding distanceAt exactBound
+      at-least =
+          let f : ℕ → ℕ = countIn g s (passedOver (g .kind) x) in
+          let w : g .width - 1 ≡ last = omega arith in
+          rw (bound-stack g _ kind, w, ← last-is) (omega (arith, sum-gap (λ m. 0) f last (exactRows g) newer-sub, sum-zero last, sum-more f last))
+
+      pub found : Found g
+      found =
+          let x-there : s .item (subIn s mover) (s .first (subIn s mover)) .stamp ≡ x = rw (o .index-is, o .held) (o .scene .x-is) in
+          takes s (o .got) mover two (o .few)
+          (subst (λ (j : ℕ). phaseIn g s mover ≡ StackCommit Taking (record { 0 = s .second j })) (sym (o .index-is)) (o .waits)) (rw x-there at-least)
