@@ -45,7 +45,7 @@ one-of j m (inr l) e = omega arith
 
 module _ (g : Settings) (limits : settingsFit g ≡ true) (kind : g .kind ≡ 1) where
   -- ---- from one state of the run to a later one
-  pub record Since (n : ℕ) (s t : State) : Type 0 where
+  pub record Later (n : ℕ) (s t : State) : Type 0 where
     pub got : Got g limits kind t
     pub steps : t .steps ≤ s .steps + n
     pub puts : s .puts ≤ t .puts
@@ -53,9 +53,9 @@ module _ (g : Settings) (limits : settingsFit g ≡ true) (kind : g .kind ≡ 1)
     pub new : (m r : ℕ) → s .first m < r → r ≤ t .first m → s .puts < t .item m r .stamp
 
   -- no item came or went
-  pub since-same : {n : ℕ} {s t : State} → Got g limits kind t → t .steps ≤ s .steps + n → t .puts ≡ s .puts → t .first ≡ s .first → t .item ≡ s .item
-      → Since n s t
-  since-same {s = s} got steps puts first item =
+  pub later-same : {n : ℕ} {s t : State} → Got g limits kind t → t .steps ≤ s .steps + n → t .puts ≡ s .puts → t .first ≡ s .first → t .item ≡ s .item
+      → Later n s t
+  later-same {s = s} got steps puts first item =
       record {
         got = got;
         steps = steps;
@@ -64,8 +64,8 @@ module _ (g : Settings) (limits : settingsFit g ≡ true) (kind : g .kind ≡ 1)
         new = λ m r x y. let z : r ≤ s .first m = rw first at y in absurd (omega arith);
       }
 
-  pub since-then : {n m k : ℕ} {s t u : State} → n + m ≤ k → Between s t u → Since n s t → Since m t u → Since k s u
-  since-then {s = s} {t = t} {u = u} l between a b =
+  pub later-then : {n m k : ℕ} {s t u : State} → n + m ≤ k → Between s t u → Later n s t → Later m t u → Later k s u
+  later-then {s = s} {t = t} {u = u} l between a b =
       record {
         got = b .got;
         steps = omega (arith, a .steps, b .steps);
@@ -81,7 +81,7 @@ module _ (g : Settings) (limits : settingsFit g ≡ true) (kind : g .kind ≡ 1)
   -- ---- worker i brings the subs from low to last to c items each, and rests at a sub
   pub record Brought (n : ℕ) (s : State) (i low last c at : ℕ) : Type 0 where
     pub to : State
-    pub since : Since n s to
+    pub later : Later n s to
     pub top : to .top ≡ s .top
     pub mark : to .mark ≡ s .mark
     pub held : (m : ℕ) → low ≤ m → m ≤ last → to .first m ≡ c
@@ -106,12 +106,12 @@ module _ (g : Settings) (limits : settingsFit g ≡ true) (kind : g .kind ≡ 1)
     abbrev j : ℕ
     j = subIn s i
 
-    commit : (side : Side) (puts : ℕ) (item : ℕ → ℕ → Item) → Since 1 s (committed s i side puts item)
+    commit : (side : Side) (puts : ℕ) (item : ℕ → ℕ → Item) → Later 1 s (committed s i side puts item)
         → BroughtOne 1 s i j (countAfter side (s .first j))
-    commit side puts item since =
+    commit side puts item later =
         record {
           to = committed s i side puts item;
-          since = since;
+          later = later;
           top = refl;
           mark = refl;
           held = λ m u v. let e : m ≡ j = omega arith in rw e (upd-same (s .first) j (countAfter side (s .first j)));
@@ -123,9 +123,9 @@ module _ (g : Settings) (limits : settingsFit g ≡ true) (kind : g .kind ≡ 1)
         }
 
     -- a put adds the row above, with the next stamp; a take adds none
-    since-landed : phaseIn g s i ≡ StackCommit Putting seen
-        → Since 1 s (committed s i Putting (suc (s .puts)) (upd (s .item) j (upd (s .item j) (suc (s .first j)) (record { value = s .slot i .value; stamp = suc (s .puts) }))))
-    since-landed e =
+    later-landed : phaseIn g s i ≡ StackCommit Putting seen
+        → Later 1 s (committed s i Putting (suc (s .puts)) (upd (s .item) j (upd (s .item j) (suc (s .first j)) (record { value = s .slot i .value; stamp = suc (s .puts) }))))
+    later-landed e =
         let it : Item = record { value = s .slot i .value; stamp = suc (s .puts) } in
         let put : Added (s .first) (s .item) j it _ _ = added (s .first) (s .item) j it in
         record {
@@ -151,8 +151,8 @@ module _ (g : Settings) (limits : settingsFit g ≡ true) (kind : g .kind ≡ 1)
             rw (e, row, put .it) (le-refl _)
         new m r x y (no ne) put = absurd (omega (arith, put .off m ne))
 
-    since-removed : phaseIn g s i ≡ StackCommit Taking seen → Since 1 s (committed s i Taking (s .puts) (s .item))
-    since-removed e =
+    later-removed : phaseIn g s i ≡ StackCommit Taking seen → Later 1 s (committed s i Taking (s .puts) (s .item))
+    later-removed e =
         let some : 1 ≤ s .first j = take-row (good g limits) kind (got .live .inv) i (got .live .common .slots i .index) seen e live in
         record {
           got =
@@ -174,8 +174,8 @@ module _ (g : Settings) (limits : settingsFit g ≡ true) (kind : g .kind ≡ 1)
         new m r x y (no ne) = omega (arith, upd-other (s .first) j (s .first j - 1) m ne)
 
     commits : (side : Side) → phaseIn g s i ≡ StackCommit side seen → BroughtOne 1 s i j (countAfter side (s .first j))
-    commits Putting e = commit Putting _ _ (since-landed e)
-    commits Taking e = commit Taking _ _ (since-removed e)
+    commits Putting e = commit Putting _ _ (later-landed e)
+    commits Taking e = commit Taking _ _ (later-removed e)
 
   -- after steps that change nothing shared
   walk-then : {n m k : ℕ} {s : State} {i j c : ℕ} {p : Phase} → n + m ≤ k → (a : Walked g limits kind n s i j p) → BroughtOne m (a .to) i j c
@@ -183,7 +183,7 @@ module _ (g : Settings) (limits : settingsFit g ≡ true) (kind : g .kind ≡ 1)
   walk-then l a b =
       record {
         to = b .to;
-        since = since-then l (λ m r x y. rw (a .first) x) (since-same (a .got) (a .steps) (a .puts) (a .first) (a .item)) (b .since);
+        later = later-then l (λ m r x y. rw (a .first) x) (later-same (a .got) (a .steps) (a .puts) (a .first) (a .item)) (b .later);
         top = b .top ∙ a .top;
         mark = b .mark ∙ a .mark;
         held = b .held;

@@ -18,10 +18,10 @@ use Rattle.rules.proofs.stack.After.{window-ge}
 use Rattle.rules.proofs.reached.Run.{Got}
 use Rattle.rules.proofs.reached.Steps.{Walked}
 use Rattle.rules.proofs.reached.Walks.{there, before, begun, next-up, comes-to-commit}
-use Rattle.rules.proofs.reached.Commits.{Brought, BroughtOne, since-same}
+use Rattle.rules.proofs.reached.Commits.{Brought, BroughtOne, later-same}
 use Rattle.rules.proofs.reached.Sweeps.{operations, in-steps, sweep}
 use Rattle.rules.proofs.reached.Rise.{Raised, raise}
-use Rattle.rules.proofs.reached.Scene.{shifter, mover, Looks, Waits, ComesTo, still-waits, phase-kept, index-kept, Scene, scene-since, Ready}
+use Rattle.rules.proofs.reached.Scene.{shifter, mover, Looks, Waits, ComesTo, still-waits, phase-kept, index-kept, Scene, scene-later, Ready}
 
 module _ (g : Settings) (limits : settingsFit g ≡ true) (kind : g .kind ≡ 1) (last : ℕ) (last-is : suc last ≡ g .width) (two : 2 ≤ g .workers)
     (another : 1 ≤ last) where
@@ -56,14 +56,14 @@ module _ (g : Settings) (limits : settingsFit g ≡ true) (kind : g .kind ≡ 1)
       let missed : Missed g Taking (b .to .top) (b .to .first (subIn (b .to) mover)) =
       rw (b .index-is, b .held (last - 1) (omega arith) (le-refl _), b .top, o .top-is) (omega arith) in
       record {
-        got = b .since .got;
-        scene = scene-since g limits kind last last-is two (b .since) (omega (arith, h .x-held, b .held-off last (inr (omega arith)))) h;
+        got = b .later .got;
+        scene = scene-later g limits kind last last-is two (b .later) (omega (arith, h .x-held, b .held-off last (inr (omega arith)))) h;
         top-is = b .top ∙ o .top-is;
         held-is = b .held-off last (inr (omega arith)) ∙ o .full last (le-refl _);
         low = λ j l. low j l (decLe at j);
         mover-is = before (b .rests) next (omega arith) missed;
         does = still-waits (b .off shifter (λ z. omega arith)) (b .mark) (o .does);
-        few = omega (arith, b .since .steps, o .few, bounds .width16);
+        few = omega (arith, b .later .steps, o .few, bounds .width16);
       }
     where
       low : (j : ℕ) → j < last → Dec (at ≤ j) → b .to .first j ≤ top
@@ -101,14 +101,14 @@ module _ (g : Settings) (limits : settingsFit g ≡ true) (kind : g .kind ≡ 1)
       → About (ComesTo g last) Waits x row row top top (n + 320) (b .to)
   at-x o b =
       record {
-        got = b .since .got;
-        scene = scene-since g limits kind last last-is two (b .since) (omega (arith, b .held last (le-refl _) (le-refl _))) (o .scene);
+        got = b .later .got;
+        scene = scene-later g limits kind last last-is two (b .later) (omega (arith, b .held last (le-refl _) (le-refl _))) (o .scene);
         top-is = b .top ∙ o .top-is;
         held-is = b .held last (le-refl _) (le-refl _);
         low = λ j l. omega (arith, b .held-off j (inl l), o .low j l);
         mover-is = there (b .rests) (b .index-is);
         does = still-waits (b .off shifter (λ z. omega arith)) (b .mark) (o .does);
-        few = omega (arith, b .since .steps, o .few);
+        few = omega (arith, b .later .steps, o .few);
       }
 
   down : {x row top n : ℕ} {s : State} → n + 320 ≤ 4000000000 → row ≤ top → top < row + g .depth → About (ComesTo g last) Waits x row top top top n s
@@ -143,7 +143,7 @@ module _ (g : Settings) (limits : settingsFit g ≡ true) (kind : g .kind ≡ 1)
       record {
         got = a .got;
         scene =
-            scene-since g limits kind last last-is two (since-same g limits kind (a .got) (a .steps) (a .puts) (a .first) (a .item))
+            scene-later g limits kind last last-is two (later-same g limits kind (a .got) (a .steps) (a .puts) (a .first) (a .item))
             (rw (a .first) (o .scene .x-held)) (o .scene);
         top-is = a .top ∙ o .top-is;
         held-is = rw (a .first) (o .held-is);
@@ -159,14 +159,14 @@ module _ (g : Settings) (limits : settingsFit g ≡ true) (kind : g .kind ≡ 1)
   risen {s = s} o a =
       let alone : a .to .slot mover ≡ s .slot mover = a .off mover (λ z. omega arith) in
       record {
-        got = a .since .got;
-        scene = scene-since g limits kind last last-is two (a .since) (rw (a .first) (o .scene .x-held)) (o .scene);
+        got = a .later .got;
+        scene = scene-later g limits kind last last-is two (a .later) (rw (a .first) (o .scene .x-held)) (o .scene);
         top-is = omega (arith, a .top, o .top-is);
         held-is = rw (a .first) (o .held-is);
         low = λ j l. rw (a .first) (o .low j l);
         mover-is = (phase-kept g alone ∙ rw (a .second) (o .mover-is .0), index-kept alone ∙ o .mover-is .1);
         does = record { phase = a .phase; index-is = a .index-is ∙ o .does .index-is };
-        few = omega (arith, a .since .steps, o .few);
+        few = omega (arith, a .later .steps, o .few);
       }
 
   -- ---- the shifter fills the other subs, and x is about to be taken
@@ -186,13 +186,13 @@ module _ (g : Settings) (limits : settingsFit g ≡ true) (kind : g .kind ≡ 1)
       let same : b .to .second last ≡ s .second last = b .version-off last (inr (omega arith)) in
       let held : b .to .first last ≡ s .first last = b .held-off last (inr (omega arith)) in
       record {
-        got = b .since .got;
-        scene = scene-since g limits kind last last-is two (b .since) (omega (arith, o .scene .x-held)) (o .scene);
+        got = b .later .got;
+        scene = scene-later g limits kind last last-is two (b .later) (omega (arith, o .scene .x-held)) (o .scene);
         held = held ∙ o .held-is;
         full = λ j l. b .held j (omega arith) (omega arith);
         waits = phase-kept g alone ∙ rw same (o .mover-is .0);
         index-is = index-kept alone ∙ o .mover-is .1;
-        few = omega (arith, b .since .steps, o .few, bounds .width16);
+        few = omega (arith, b .later .steps, o .few, bounds .width16);
       }
 
   -- ---- from the take that comes to x on

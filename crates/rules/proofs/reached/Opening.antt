@@ -20,7 +20,7 @@ use Rattle.rules.proofs.reached.Walks.{there, before, next-up, next-aro
 use Rattle.rules.proofs.reached.Commits.{Brought, BroughtOne}
 use Rattle.rules.proofs.reached.Sweeps.{operations, in-steps, sweep}
 use Rattle.rules.proofs.reached.Rise.{Raised, raise}
-use Rattle.rules.proofs.reached.Scene.{shifter, mover, Looks, Waits, ComesTo, still-looks, still-waits, number-kept, index-kept, Scene, scene-since, Low, Full, Ready, ready, pass}
+use Rattle.rules.proofs.reached.Scene.{shifter, mover, Looks, Waits, ComesTo, still-looks, still-waits, number-kept, index-kept, Scene, scene-later, Low, Full, Ready, ready, pass}
 
 module _ (g : Settings) (limits : settingsFit g ≡ true) (kind : g .kind ≡ 1) (last : ℕ) (last-is : suc last ≡ g .width) (two : 2 ≤ g .workers)
     (another : 1 ≤ last) where
@@ -72,13 +72,13 @@ module _ (g : Settings) (limits : settingsFit g ≡ true) (kind : g .kind ≡ 1)
       let missed : Missed g Taking (b .to .top) (b .to .first (subIn (b .to) mover)) =
       rw (b .index-is, b .held (last - 1) (omega arith) (le-refl _), b .top, o .top-is) (omega arith) in
       record {
-        got = b .since .got;
+        got = b .later .got;
         top-is = b .top ∙ o .top-is;
         held = b .held-off last (inr (omega arith)) ∙ o .full last (le-refl _);
         bare = λ j l. b .held j (omega arith) (omega arith);
         mover-is = before (b .rests) next (omega arith) missed;
         does = still-waits (b .off shifter (λ z. omega arith)) (b .mark) (o .does);
-        few = omega (arith, b .since .steps, o .few, bounds .width16);
+        few = omega (arith, b .later .steps, o .few, bounds .width16);
       }
 
   empties : {s : State} → Ready g limits kind last last-is two (g .depth) 0 81937 s → (t : State) × Only (ComesTo g last) Waits (g .depth) (g .depth) 163857 t
@@ -99,13 +99,13 @@ module _ (g : Settings) (limits : settingsFit g ≡ true) (kind : g .kind ≡ 1)
       → (b : BroughtOne g limits kind m s mover last c′) → Only AtLast Does top c′ (n + m) (b .to)
   worked o still b =
       record {
-        got = b .since .got;
+        got = b .later .got;
         top-is = b .top ∙ o .top-is;
         held = b .held last (le-refl _) (le-refl _);
         bare = λ j l. b .held-off j (inl l) ∙ o .bare j l;
         mover-is = (b .rests, b .index-is);
         does = still (b .to) (b .off shifter (λ z. omega arith)) (b .mark) (o .does);
-        few = omega (arith, b .since .steps, o .few);
+        few = omega (arith, b .later .steps, o .few);
       }
 
   -- it takes one item of it
@@ -124,13 +124,13 @@ module _ (g : Settings) (limits : settingsFit g ≡ true) (kind : g .kind ≡ 1)
   up {s} o a =
       let alone : a .to .slot mover ≡ s .slot mover = a .off mover (λ z. omega arith) in
       record {
-        got = a .since .got;
+        got = a .later .got;
         top-is = omega (arith, a .top, o .top-is);
         held = rw (a .first) (o .held);
         bare = λ j l. rw (a .first) (o .bare j l);
         mover-is = (number-kept alone ∙ o .mover-is .0, index-kept alone ∙ o .mover-is .1);
         does = record { phase = a .phase; index-is = a .index-is ∙ o .does .index-is };
-        few = omega (arith, a .since .steps, o .few);
+        few = omega (arith, a .later .steps, o .few);
       }
 
   goes-up : {s : State} → Only AtLast Waits (g .depth) (g .depth - 1) 163862 s → (t : State) × Only AtLast Looks row (g .depth - 1) 163863 t
@@ -165,14 +165,14 @@ module _ (g : Settings) (limits : settingsFit g ≡ true) (kind : g .kind ≡ 1)
       → Full g limits kind last last-is two Looks row (last - 1) 246108 (b .to)
   filled {s} o b =
       record {
-        got = b .since .got;
+        got = b .later .got;
         top-is = b .top ∙ o .top-is;
         full = λ m l. full m l (eq-or-lt-of-le l);
         at-le = omega arith;
         rests = b .rests;
         index-is = b .index-is;
         does = still-looks (b .off shifter (λ z. omega arith)) (o .does);
-        few = omega (arith, b .since .steps, o .few, bounds .width16);
+        few = omega (arith, b .later .steps, o .few, bounds .width16);
       }
     where
       full : (m : ℕ) → m ≤ last → (m ≡ last) ⊎ (m < last) → b .to .first m ≡ row
@@ -195,7 +195,7 @@ module _ (g : Settings) (limits : settingsFit g ≡ true) (kind : g .kind ≡ 1)
         p .0,
         last - 1,
         p .1,
-        p .2 (s .item last row .stamp) row (scene-since g limits kind last last-is two (b .since) (omega (arith, b .held-off last (inr (omega arith)), o .held)) scene),
+        p .2 (s .item last row .stamp) row (scene-later g limits kind last last-is two (b .later) (omega (arith, b .held-off last (inr (omega arith)), o .held)) scene),
       )
 
   pub opened : Opened

@@ -43,11 +43,11 @@ module _ (g : Settings) (limits : settingsFit g ≡ true) (kind : g .kind ≡ 1)
     taken-again : (b : BroughtOne g limits kind 5 (madeIn g) 0 0 1) → Found g
     taken-again b =
         let a =
-        comes-to-commit g limits kind (b .to) 0 0 (bounds .workers1) Taking (b .since .got) (omega (arith, b .since .steps, new g .steps))
+        comes-to-commit g limits kind (b .to) 0 0 (bounds .workers1) Taking (b .later .got) (omega (arith, b .later .steps, new g .steps))
         (there (b .rests) (b .index-is)) (omega (arith, b .held 0 (le-refl _) (le-refl _), b .top, new g .top)) in
         let waits : phaseIn g (a .to) 0 ≡ StackCommit Taking (record { 0 = a .to .second (subIn (a .to) 0) }) =
         subst (λ (j : ℕ). phaseIn g (a .to) 0 ≡ StackCommit Taking (record { 0 = a .to .second j })) (sym (a .index-is)) (rw (a .second) (a .phase)) in
-        takes g limits kind (a .to) (a .got) 0 (bounds .workers1) (omega (arith, a .steps, b .since .steps, new g .steps)) waits (omega (arith, nothing))
+        takes g limits kind (a .to) (a .got) 0 (bounds .workers1) (omega (arith, a .steps, b .later .steps, new g .steps)) waits (omega (arith, nothing))
 
     alone : Found g
     alone =

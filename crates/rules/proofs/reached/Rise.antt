@@ -18,12 +18,12 @@ use Rattle.rules.proofs.machine.Machine.{State, subIn, phaseIn, applyIn
 use Rattle.rules.proofs.machine.Phases.{worker, stack-phase, encode-index}
 use Rattle.rules.proofs.reached.Run.{Got, got-call}
 use Rattle.rules.proofs.reached.Rules.{step-is, shift-rule}
-use Rattle.rules.proofs.reached.Commits.{Since, since-same}
+use Rattle.rules.proofs.reached.Commits.{Later, later-same}
 
 module _ (g : Settings) (limits : settingsFit g ≡ true) (kind : g .kind ≡ 1) where
   pub record Raised (s : State) (i : ℕ) : Type 0 where
     pub to : State
-    pub since : Since g limits kind 1 s to
+    pub later : Later g limits kind 1 s to
     pub top : to .top ≡ s .top + g .shift
     pub first : to .first ≡ s .first
     pub second : to .second ≡ s .second
@@ -39,8 +39,8 @@ module _ (g : Settings) (limits : settingsFit g ≡ true) (kind : g .kind ≡ 1)
       let up : add32 (s .top) (g .shift) ≡ s .top + g .shift = add32-is (s .top) (g .shift) (omega (arith, settings-bounds g limits .rows1024)) in
       record {
         to = turnedIn s i (add32 (s .top) (g .shift)) (add32 (s .mark) 1) x;
-        since =
-            since-same g limits kind
+        later =
+            later-same g limits kind
             (got-call g limits kind got (step i) Moving (turnedIn s i (add32 (s .top) (g .shift)) (add32 (s .mark) 1) x)
             (step-is g s i l time _ e tt
             ∙ ap (applyIn g s i)

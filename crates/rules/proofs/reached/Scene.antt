@@ -15,7 +15,7 @@ use Rattle.rules.proofs.Fitness.{settings-bounds}
 use Rattle.rules.proofs.machine.Machine.{State, subIn, phaseIn}
 use Rattle.rules.proofs.reached.Run.{Got}
 use Rattle.rules.proofs.reached.Walks.{Comes, Passed, passes}
-use Rattle.rules.proofs.reached.Commits.{Since, since-same}
+use Rattle.rules.proofs.reached.Commits.{Later, later-same}
 use Rattle.rules.proofs.reached.Sweeps.{Fills, fill}
 use Rattle.rules.proofs.reached.Rise.{Raised, raise}
 
@@ -68,8 +68,8 @@ module _ (g : Settings) (limits : settingsFit g ≡ true) (kind : g .kind ≡ 1)
     pub x-is : s .item last row .stamp ≡ x
     pub newer : (j r : ℕ) → j < last → 1 ≤ r → r ≤ s .first j → x < s .item j r .stamp
 
-  pub scene-since : {x row n : ℕ} {s t : State} → Since g limits kind n s t → row ≤ t .first last → Scene x row s → Scene x row t
-  scene-since {x} {row} {n} {s} {t} o keep h =
+  pub scene-later : {x row n : ℕ} {s t : State} → Later g limits kind n s t → row ≤ t .first last → Scene x row s → Scene x row t
+  scene-later {x} {row} {n} {s} {t} o keep h =
       record {
         x-old = le-trans (h .x-old) (o .puts);
         x-held = keep;
@@ -118,16 +118,16 @@ module _ (g : Settings) (limits : settingsFit g ≡ true) (kind : g .kind ≡ 1)
   filled {s = s} o f =
       let b = f .3 in (
         record {
-          got = b .since .got;
+          got = b .later .got;
           top-is = b .top ∙ o .top-is;
           full = λ m l. b .held m (omega arith) l ∙ o .top-is;
           at-le = f .1;
           rests = b .rests;
           index-is = b .index-is;
           does = still-looks (b .off shifter (λ z. omega arith)) (o .looks);
-          few = omega (arith, b .since .steps, o .few);
+          few = omega (arith, b .later .steps, o .few);
         },
-        λ x row h. scene-since (b .since) (omega (arith, h .x-held, o .low last (le-refl _), b .held last (omega arith) (le-refl _), o .top-is)) h,
+        λ x row h. scene-later (b .later) (omega (arith, h .x-held, o .low last (le-refl _), b .held last (omega arith) (le-refl _), o .top-is)) h,
       )
 
   fills : {top at n : ℕ} {s : State} → Low top at n s → n + 81920 ≤ 4000000000 → Fills g limits kind mover two last last-is at s
@@ -151,7 +151,7 @@ module _ (g : Settings) (limits : settingsFit g ≡ true) (kind : g .kind ≡ 1)
           does = record { sum = p .0; phase = rw (a .mark) (a .phase); index-is = a .index-is };
           few = omega (arith, a .steps, o .few);
         },
-        λ x row h. scene-since (since-same g limits kind (a .got) (a .steps) (a .puts) (a .first) (a .item)) (rw (a .first) (h .x-held)) h,
+        λ x row h. scene-later (later-same g limits kind (a .got) (a .steps) (a .puts) (a .first) (a .item)) (rw (a .first) (h .x-held)) h,
       )
 
   pub pass : {top at n : ℕ} {s : State} → Full Looks top at n s → n + 17 ≤ 4000000000 → (t : State) × Ready top at (n + 17) t × Keeps s t
@@ -178,14 +178,14 @@ module _ (g : Settings) (limits : settingsFit g ≡ true) (kind : g .kind ≡ 1)
   risen {s = s} o a =
       let alone : a .to .slot mover ≡ s .slot mover = a .off mover (λ z. omega arith) in (
         record {
-          got = a .since .got;
+          got = a .later .got;
           top-is = omega (arith, a .top, o .top-is);
           low = λ m l. omega (arith, ap (λ (f : ℕ → ℕ). f m) (a .first), o .full m l, bounds .shift1);
           at-le = o .at-le;
           rests = number-kept alone ∙ o .rests;
           index-is = index-kept alone ∙ o .index-is;
           looks = record { phase = a .phase; index-is = a .index-is ∙ o .does .index-is };
-          few = omega (arith, a .since .steps, o .few);
+          few = omega (arith, a .later .steps, o .few);
         },
-        λ x row h. scene-since (a .since) (rw (a .first) (h .x-held)) h,
+        λ x row h. scene-later (a .later) (rw (a .first) (h .x-held)) h,
       )

@@ -18,7 +18,7 @@ use Rattle.rules.proofs.stack.After.{window-le, held-le}
 use Rattle.rules.proofs.stack.Corridor.{countAfter}
 use Rattle.rules.proofs.reached.Run.{Got}
 use Rattle.rules.proofs.reached.Walks.{Comes, there, before, next-up, next-around}
-use Rattle.rules.proofs.reached.Commits.{Outside, outside-one, since-then, Brought, operation}
+use Rattle.rules.proofs.reached.Commits.{Outside, outside-one, later-then, Brought, operation}
 
 -- ---- from a items to c by k puts, or takes
 abbrev pub By : Side → ℕ → ℕ → ℕ → Type 0
@@ -102,7 +102,7 @@ module _ (g : Settings) (limits : settingsFit g ≡ true) (kind : g .kind ≡ 1)
   in-steps l b =
       record {
         to = b .to;
-        since = record { got = b .since .got; steps = omega (arith, b .since .steps); puts = b .since .puts; old = b .since .old; new = b .since .new };
+        later = record { got = b .later .got; steps = omega (arith, b .later .steps); puts = b .later .puts; old = b .later .old; new = b .later .new };
         top = b .top;
         mark = b .mark;
         held = b .held;
@@ -120,7 +120,7 @@ module _ (g : Settings) (limits : settingsFit g ≡ true) (kind : g .kind ≡ 1)
     again k n s by a b =
         record {
           to = b .to;
-          since = since-then g limits kind (le-refl _) (λ m r x y. between m r x y (ℕ-discrete m j)) (a .since) (b .since);
+          later = later-then g limits kind (le-refl _) (λ m r x y. between m r x y (ℕ-discrete m j)) (a .later) (b .later);
           top = b .top ∙ a .top;
           mark = b .mark ∙ a .mark;
           held = b .held;
@@ -146,7 +146,7 @@ module _ (g : Settings) (limits : settingsFit g ≡ true) (kind : g .kind ≡ 1)
     operations (suc k) s got time comes by upto =
         let a = operation g limits kind side s i j l (omega arith) got comes (by-hits g side (suc k) (s .top) (s .first j) c by upto) in
         in-steps (omega arith) (again (suc k) (5 * suc k) s by a
-        (operations k (a .to) (a .since .got) (omega (arith, a .since .steps)) (there (a .rests) (a .index-is))
+        (operations k (a .to) (a .later .got) (omega (arith, a .later .steps)) (there (a .rests) (a .index-is))
         (rw (a .held j (le-refl _) (le-refl _)) (by-rest side (suc k) (s .first j) c by)) (rw (a .top) upto)))
 
   -- ---- one sub after the other
@@ -156,7 +156,7 @@ module _ (g : Settings) (limits : settingsFit g ≡ true) (kind : g .kind ≡ 1)
     both {p = p} {q = q} {p′ = p′} {q′ = q′} {s = s} l parts a b =
         record {
           to = b .to;
-          since = since-then g limits kind l (λ m r x y. between m r x y (parts .apart m)) (a .since) (b .since);
+          later = later-then g limits kind l (λ m r x y. between m r x y (parts .apart m)) (a .later) (b .later);
           top = b .top ∙ a .top;
           mark = b .mark ∙ a .mark;
           held = λ m x y. held m (parts .all m x y) (parts .apart m);
@@ -200,7 +200,7 @@ module _ (g : Settings) (limits : settingsFit g ≡ true) (kind : g .kind ≡ 1)
         let next : nextOf g (subIn (a .to) i) ≡ suc low = ap (nextOf g) (a .index-is) ∙ next-up g low (omega arith) in
         let done : Missed g side (a .to .top) (a .to .first (subIn (a .to) i)) = rw (a .index-is, a .held low (le-refl _) (le-refl _), a .top) (target-missed g side (s .top) c target) in
         both i c (omega arith) (upwards low low last (omega arith) (omega arith)) a
-        (sweep k (suc low) last (a .to) (omega arith) w (a .since .got) (omega (arith, a .since .steps)) (before (a .rests) next (omega arith) done)
+        (sweep k (suc low) last (a .to) (omega arith) w (a .later .got) (omega (arith, a .later .steps)) (before (a .rests) next (omega arith) done)
         (rw (a .top) target) (λ m x y. rw (a .held-off m (inr (omega arith))) (short m (omega arith) y)))
 
   -- ---- all subs, from the worker's own around to the one before it
@@ -214,7 +214,7 @@ module _ (g : Settings) (limits : settingsFit g ≡ true) (kind : g .kind ≡ 1)
         let next : nextOf g (subIn (a .to) i) ≡ 0 = ap (nextOf g) (a .index-is) ∙ next-around g last last-is in
         let full : a .to .top ≤ a .to .first (subIn (a .to) i) = rw (a .index-is, a .held last u (le-refl _), a .top) (le-refl _) in
         both i (s .top) (omega (arith, bounds .width16)) (around 0 n last (omega arith) (omega arith)) a
-        (sweep Putting i (s .top) l n 0 n (a .to) (omega arith) (omega arith) (a .since .got) (omega (arith, a .since .steps, bounds .width16))
+        (sweep Putting i (s .top) l n 0 n (a .to) (omega arith) (omega arith) (a .later .got) (omega (arith, a .later .steps, bounds .width16))
         (before (a .rests) next (omega arith) full) (sym (a .top)) (λ m x y. rw (a .held-off m (inl (omega arith))) (low m (omega arith))))
 
     pub fill : (from : ℕ) (s : State) → from ≤ last → Got g limits kind s → s .steps + 81920 ≤ 4000000000 → s .slot i .number ≡ 0 → subIn s i ≡ from
