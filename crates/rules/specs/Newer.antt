@@ -1,15 +1,11 @@
 -- K14: "Show for our pile, from make, that a take passes over at most (2 × depth + 2 × shift - 1) × (width - 1) newer items, in all
--- orders of steps." The statement; then the exact figure, which no take exceeds and a run of every stack with two workers reaches;
--- and how K14's figure, and those that 001 and 003 print, stand to it.
+-- orders of steps." The statement; then the exact figure, which no take exceeds; and how K14's figure, and those that 001 and
+-- 003 print, stand to it. That a run of every stack with two workers reaches it is crates/reached.
 use Prim.Native.Nat.{ℕ, _+_, _-_, _*_, _/_, _%_, _≤_, _<_, min}
 use mathlib.Core.Path.{_≡_}
 use mathlib.Core.Bool.{true}
-use mathlib.Core.List.{List}
-use Rattle.rules.specs.Answers.{numberOf}
 use Rattle.rules.specs.Limits.{settingsFit}
-use Rattle.rules.specs.Make.{makeOf}
 use Rattle.rules.specs.Sequential.{boundBy}
-use Rattle.rules.specs.Run.{Call, step, Event, run, at, distanceIn}
 use Rattle.rules.specs.Statement.{Demand3Within}
 use Rattle.rules.specs.declared.Settings.{Settings}
 
@@ -56,21 +52,6 @@ Thesis = Demand3Within thesisBound
 abbrev pub Exact : Type 0
 Exact = Demand3Within exactBound
 
--- ---- reached: no closer figure holds of every run
--- a take in a run, and how many items it passes over
-pub record Passes (es : List Event) (distance : ℕ) : Type 0 where
-  pub worker : ℕ
-  pub position : ℕ
-  pub stepped : at es position .call ≡ step worker
-  pub taken : numberOf (at es position .answer) ≡ 2
-  pub passed : distanceIn (at es position .answer) ≡ distance
-
--- every stack that make accepts with two workers or more has a run in which a take passes over just so many
-abbrev pub Reached : Type 0
-Reached =
-    (ws : List ℕ) (g : Settings) → numberOf (makeOf ws g .answer) ≡ 0 → g .kind ≡ 1 → 2 ≤ g .workers
-    → (cs : List Call) × Passes (run (makeOf ws g .words) cs) (exactBound g)
-
 -- ---- which figure is the exact one, of stacks with another sub to pass over
 abbrev pub JustWhere : Type 0 → Type 0 → Type 0
 JustWhere A B = (A → B) × (B → A)
@@ -89,10 +70,3 @@ K14Exact = OfStacks (λ g. JustWhere (exactBound g ≡ k14Bound g) (((g .depth -
 -- the framework paper's is too low just where the shift is below the depth and R has room for three shifts
 abbrev pub FrameworkLow : Type 0
 FrameworkLow = OfStacks (λ g. JustWhere (frameworkBound g < exactBound g) ((g .shift < g .depth) × (g .depth + 3 * g .shift ≤ g .rows)))
-
--- so there a take of some run passes over more
-abbrev pub FrameworkExceeded : Type 0
-FrameworkExceeded =
-    (ws : List ℕ) (g : Settings) → numberOf (makeOf ws g .answer) ≡ 0 → g .kind ≡ 1 → 2 ≤ g .width → 2 ≤ g .workers → g .shift < g .depth
-    → g .depth + 3 * g .shift ≤ g .rows
-    → (cs : List Call) × (distance : ℕ) × Passes (run (makeOf ws g .words) cs) distance × (frameworkBound g < distance)

@@ -7,17 +7,17 @@ use Prim.Native.Nat.{ℕ, suc, _+_, _≤_, _<_}
 use native.Mathlib.Nat.{le-refl, le-trans}
 use native.Mathlib.Decide.{decLe}
 use native.Mathlib.Omega.{arith}
 use Rattle.rules.specs.Limits.{settingsFit, Bounds}
 use Rattle.rules.specs.Held.{Item}
 use Rattle.rules.specs.Worker.{phaseOf}
-use Rattle.rules.proofs.Types.{Settings, Putting, Taking, Window, StackShift, Slot}
+use Rattle.reached.proofs.Types.{Settings, Putting, Taking, Window, StackShift, Slot}
 use Rattle.rules.proofs.Fitness.{settings-bounds}
 use Rattle.rules.proofs.machine.Machine.{State, subIn, phaseIn}
-use Rattle.rules.proofs.reached.Run.{Got}
-use Rattle.rules.proofs.reached.Walks.{Comes, Passed, passes}
-use Rattle.rules.proofs.reached.Commits.{Later, later-same}
-use Rattle.rules.proofs.reached.Sweeps.{Fills, fill}
-use Rattle.rules.proofs.reached.Rise.{Raised, raise}
+use Rattle.reached.proofs.Run.{Got}
+use Rattle.reached.proofs.Walks.{Comes, Passed, passes}
+use Rattle.reached.proofs.Commits.{Later, later-same}
+use Rattle.reached.proofs.Sweeps.{Fills, fill}
+use Rattle.reached.proofs.Rise.{Raised, raise}
 
 abbrev pub shifter : ℕ
 shifter = 0

@@ -5,11 +5,11 @@ use Prim.Native.Nat.{ℕ, zero, suc, _+_, _*_, _≤_, _<_}
 use native.Mathlib.Nat.{mul-le-mul-left}
 use native.Mathlib.Decide.{decLe}
 use native.Mathlib.Omega.{arith}
 use Rattle.rules.specs.Limits.{settingsFit, Bounds}
-use Rattle.rules.proofs.Types.{Settings}
+use Rattle.reached.proofs.Types.{Settings}
 use Rattle.rules.proofs.machine.Machine.{State}
 use Rattle.rules.proofs.stack.Figures.{times, times-low}
-use Rattle.rules.proofs.reached.Scene.{Scene, Ready, ready, rises, risen}
+use Rattle.reached.proofs.Scene.{Scene, Ready, ready, rises, risen}
 
 -- s goes into d - 1 fewer than 64 times
 pub few-times : (g : Settings) → Bounds g → times g < 64

@@ -9,24 +9,25 @@ use native.Mathlib.Omega.{arith}
 use lib.ListN.{length}
 use borrow.Author.Tests.{lt-ltb, eq-eqb}
 use Rattle.laws.specs.Choice.{cond-false}
 use Rattle.rules.specs.Answers.{numberOf}
 use Rattle.rules.specs.Held.{passedOver}
 use Rattle.rules.specs.Limits.{settingsFit}
-use Rattle.rules.specs.Newer.{exactRows, exactBound, Passes}
+use Rattle.rules.specs.Newer.{exactRows, exactBound}
+use Rattle.reached.specs.Reached.{Passes}
 use Rattle.rules.specs.Run.{Call, step, Event, distanceIn}
-use Rattle.rules.proofs.Types.{Settings, Taking, StackCommit, Version}
+use Rattle.reached.proofs.Types.{Settings, Taking, StackCommit, Version}
 use Rattle.rules.proofs.Cells.{stack-below}
 use Rattle.rules.proofs.counts.Sums.{upTo, upTo-ext, upTo-true, upTo-none, sum-gap, sum-zero, sum-more}
 use Rattle.rules.proofs.order.Law.{Next, events}
 use Rattle.rules.proofs.machine.Machine.{State, subIn, phaseIn, countIn, takenIn, applyIn, nextIn, madeIn, distanceIn as distanceAt}
 use Rattle.rules.proofs.machine.Good.{good}
 use Rattle.rules.proofs.stack.After.{Stepping}
 use Rattle.rules.proofs.stack.Figures.{bound-stack}
 use Rattle.rules.proofs.stack.Take.{take-row, take-newer, apply-removed}
-use Rattle.rules.proofs.reached.Run.{after, last-event, Got}
-use Rattle.rules.proofs.reached.Rules.{step-is, take-rule}
-use Rattle.rules.proofs.reached.Scene.{mover}
-use Rattle.rules.proofs.reached.Ending.{Last}
+use Rattle.reached.proofs.Run.{after, last-event, Got}
+use Rattle.reached.proofs.Rules.{step-is, take-rule}
+use Rattle.reached.proofs.Scene.{mover}
+use Rattle.reached.proofs.Ending.{Last}
 
 -- a run of the machine in which a take passes over just as many items as the exact figure
 abbrev pub Found : Settings → Type 0

@@ -1,5 +1,6 @@
 -- A run of every stack with two workers or more in which a take passes over as many newer items as the exact figure allows: so no
 -- closer bound holds. From one call to the whole script.
+pub mod Types
 pub mod Run
 pub mod Rules
 pub mod Steps

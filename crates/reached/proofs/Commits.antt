@@ -8,25 +8,25 @@ use native.Mathlib.Nat.{le-refl, le-trans}
 use native.Mathlib.Decide.{ℕ-discrete, decLe}
 use native.Mathlib.Omega.{arith}
 use borrow.Author.Tests.{lt-ltb, eq-eqb}
 use Rattle.rules.specs.Limits.{settingsFit}
 use Rattle.rules.specs.Held.{Item}
 use Rattle.rules.specs.Worker.{fresh, encode, encodePhase}
 use Rattle.rules.specs.Run.{step}
-use Rattle.rules.proofs.Types.{Settings, Side, Putting, Taking, Phase, Idle, StackCommit, Version, Slot}
+use Rattle.reached.proofs.Types.{Settings, Side, Putting, Taking, Phase, Idle, StackCommit, Version, Slot}
 use Rattle.rules.proofs.counts.Sums.{upd, upd-same, upd-other}
 use Rattle.rules.proofs.counts.Stamps.{Added, added}
 use Rattle.rules.proofs.machine.Machine.{State, subIn, phaseIn, applyIn}
 use Rattle.rules.proofs.machine.Good.{good}
 use Rattle.rules.proofs.stack.Inv.{Hit}
 use Rattle.rules.proofs.stack.After.{Stepping}
 use Rattle.rules.proofs.stack.Corridor.{countAfter}
 use Rattle.rules.proofs.stack.Commit.{committed}
 use Rattle.rules.proofs.stack.Put.{put-room, apply-landed}
 use Rattle.rules.proofs.stack.Take.{take-row, apply-removed}
-use Rattle.rules.proofs.reached.Run.{Got, got-call}
-use Rattle.rules.proofs.reached.Rules.{step-is, put-rule, take-rule}
-use Rattle.rules.proofs.reached.Steps.{Walked}
-use Rattle.rules.proofs.reached.Walks.{Comes, comes-to-commit}
+use Rattle.reached.proofs.Run.{Got, got-call}
+use Rattle.reached.proofs.Rules.{step-is, put-rule, take-rule}
+use Rattle.reached.proofs.Steps.{Walked}
+use Rattle.reached.proofs.Walks.{Comes, comes-to-commit}
 
 -- a row that stays was there in between
 abbrev pub Between : State → State → State → Type 0

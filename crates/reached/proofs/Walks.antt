@@ -5,16 +5,16 @@ use mathlib.Core.Logic.{_⊎_, inl, inr}
 use mathlib.Core.Bool.{true}
 use Prim.Native.Nat.{ℕ, zero, suc, _+_, _-_, _≤_, _<_}
 use native.Mathlib.Omega.{arith}
 use Rattle.rules.specs.Limits.{settingsFit, Bounds}
 use Rattle.rules.specs.Effects.{nextOf}
-use Rattle.rules.proofs.Types.{Settings, Side, Putting, Phase, Window, Check, StackCommit, StackShift}
+use Rattle.reached.proofs.Types.{Settings, Side, Putting, Phase, Window, Check, StackCommit, StackShift}
 use Rattle.rules.proofs.Fitness.{settings-bounds}
 use Rattle.rules.proofs.counts.Wraps.{next-cases}
 use Rattle.rules.proofs.machine.Machine.{State, subIn, phaseIn}
 use Rattle.rules.proofs.stack.Inv.{Hit, Missed}
-use Rattle.rules.proofs.reached.Run.{Got}
-use Rattle.rules.proofs.reached.Steps.{Walked, stay, slower, then, Reads, still-reads, begin, window, hit, miss, miss-last, check}
-use Rattle.rules.proofs.reached.Rules.{sumAfter}
+use Rattle.reached.proofs.Run.{Got}
+use Rattle.reached.proofs.Steps.{Walked, stay, slower, then, Reads, still-reads, begin, window, hit, miss, miss-last, check}
+use Rattle.reached.proofs.Rules.{sumAfter}
 
 pub next-up : (g : Settings) (x : ℕ) → suc x < g .width → nextOf g x ≡ suc x
 next-up g x l = go (next-cases g x (omega arith))

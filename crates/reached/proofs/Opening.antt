@@ -8,19 +8,19 @@ use mathlib.Core.Bool.{true}
 use Prim.Native.Nat.{ℕ, suc, _+_, _-_, _*_, _≤_, _<_}
 use native.Mathlib.Nat.{le-refl, eq-or-lt-of-le}
 use native.Mathlib.Omega.{arith}
 use Rattle.rules.specs.Limits.{settingsFit, Bounds}
 use Rattle.rules.specs.Effects.{nextOf}
-use Rattle.rules.proofs.Types.{Settings, Putting, Taking, Window}
+use Rattle.reached.proofs.Types.{Settings, Putting, Taking, Window}
 use Rattle.rules.proofs.Fitness.{settings-bounds}
 use Rattle.rules.proofs.machine.Machine.{State, subIn, madeIn}
 use Rattle.rules.proofs.stack.Inv.{Missed}
-use Rattle.rules.proofs.reached.Run.{new, Got, got-made}
-use Rattle.rules.proofs.reached.Steps.{Walked, begin}
-use Rattle.rules.proofs.reached.Walks.{there, before, next-up, next-around}
-use Rattle.rules.proofs.reached.Commits.{Brought, BroughtOne}
-use Rattle.rules.proofs.reached.Sweeps.{operations, in-steps, sweep}
-use Rattle.rules.proofs.reached.Rise.{Raised, raise}
-use Rattle.rules.proofs.reached.Scene.{shifter, mover, Looks, Waits, ComesTo, still-looks, still-waits, number-kept, index-kept, Scene, scene-later, Low, Full, Ready, ready, pass}
+use Rattle.reached.proofs.Run.{new, Got, got-made}
+use Rattle.reached.proofs.Steps.{Walked, begin}
+use Rattle.reached.proofs.Walks.{there, before, next-up, next-around}
+use Rattle.reached.proofs.Commits.{Brought, BroughtOne}
+use Rattle.reached.proofs.Sweeps.{operations, in-steps, sweep}
+use Rattle.reached.proofs.Rise.{Raised, raise}
+use Rattle.reached.proofs.Scene.{shifter, mover, Looks, Waits, ComesTo, still-looks, still-waits, number-kept, index-kept, Scene, scene-later, Low, Full, Ready, ready, pass}
 
 module _ (g : Settings) (limits : settingsFit g ≡ true) (kind : g .kind ≡ 1) (last : ℕ) (last-is : suc last ≡ g .width) (two : 2 ≤ g .workers)
     (another : 1 ≤ last) where

@@ -7,23 +7,23 @@ use Prim.Native.Nat.{ℕ, suc, _+_, _-_, _≤_, _<_}
 use native.Mathlib.Omega.{arith}
 use borrow.Author.Tests.{lt-ltb, le-ltb, eq-eqb}
 use Rattle.laws.specs.Wrap.{add32, sub32}
 use Rattle.rules.specs.Limits.{settingsFit, Bounds}
 use Rattle.rules.specs.Worker.{zeroSlot, encode}
 use Rattle.rules.specs.Effects.{movedOf, nextOf}
 use Rattle.rules.specs.Read.{stackHit}
 use Rattle.rules.specs.Step.{ruleBy}
 use Rattle.rules.specs.Run.{step}
-use Rattle.rules.proofs.Types.{Settings, Side, Putting, Taking, Phase, Window, StackRead, Check, StackCommit, StackShift, Version, Worker, Slot}
+use Rattle.reached.proofs.Types.{Settings, Side, Putting, Taking, Phase, Window, StackRead, Check, StackCommit, StackShift, Version, Worker, Slot}
 use Rattle.rules.specs.declared.Answer.the-variants.{Moving}
 use Rattle.rules.proofs.Fitness.{settings-bounds}
 use Rattle.rules.proofs.counts.Sums.{upd, upd-same, upd-other}
 use Rattle.rules.proofs.counts.Wraps.{add32-suc, sub32-is}
 use Rattle.rules.proofs.machine.Machine.{State, subIn, viewIn, phaseIn, applyIn, apply-moved}
 use Rattle.rules.proofs.machine.Phases.{OfStack, worker, stack-phase, encode-index}
 use Rattle.rules.proofs.stack.Inv.{Hit, Missed}
 use Rattle.rules.proofs.stack.After.{window-ge, window-le}
-use Rattle.rules.proofs.reached.Run.{Got, got-call}
-use Rattle.rules.proofs.reached.Rules.{Busy, step-is, begins, valueBegun, begin-is, window-rule, hit-rule, miss-rule, last-rule, sumAfter, check-rule}
+use Rattle.reached.proofs.Run.{Got, got-call}
+use Rattle.reached.proofs.Rules.{Busy, step-is, begins, valueBegun, begin-is, window-rule, hit-rule, miss-rule, last-rule, sumAfter, check-rule}
 
 -- a read at the window as it is
 abbrev pub Reads : State → Side → ℕ → ℕ → Phase

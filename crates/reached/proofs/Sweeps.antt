@@ -8,17 +8,17 @@ use Prim.Native.Nat.{ℕ, zero, suc, _+_, _-_, _*_, _≤_, _<_}
 use native.Mathlib.Nat.{le-refl}
 use native.Mathlib.Decide.{ℕ-discrete, decLe}
 use native.Mathlib.Omega.{arith}
 use Rattle.rules.specs.Limits.{settingsFit, Bounds}
 use Rattle.rules.specs.Effects.{nextOf}
-use Rattle.rules.proofs.Types.{Settings, Side, Putting, Taking}
+use Rattle.reached.proofs.Types.{Settings, Side, Putting, Taking}
 use Rattle.rules.proofs.Fitness.{settings-bounds}
 use Rattle.rules.proofs.machine.Machine.{State, subIn}
 use Rattle.rules.proofs.stack.Inv.{Hit, Missed}
 use Rattle.rules.proofs.stack.After.{window-le, held-le}
 use Rattle.rules.proofs.stack.Corridor.{countAfter}
-use Rattle.rules.proofs.reached.Run.{Got}
-use Rattle.rules.proofs.reached.Walks.{Comes, there, before, next-up, next-around}
-use Rattle.rules.proofs.reached.Commits.{Outside, outside-one, later-then, Brought, operation}
+use Rattle.reached.proofs.Run.{Got}
+use Rattle.reached.proofs.Walks.{Comes, there, before, next-up, next-around}
+use Rattle.reached.proofs.Commits.{Outside, outside-one, later-then, Brought, operation}
 
 -- ---- from a items to c by k puts, or takes
 abbrev pub By : Side → ℕ → ℕ → ℕ → Type 0

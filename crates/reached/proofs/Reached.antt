@@ -8,26 +8,27 @@ use Prim.Native.Nat.{ℕ, suc, _+_, _-_, _*_, _/_, _≤_, _<_}
 use native.Mathlib.Nat.{le-refl, mul-le-mul-left, mul-le-mul-right, eq-or-lt-of-le}
 use native.Mathlib.Decide.{decLe}
 use native.Mathlib.Omega.{arith}
 use Rattle.rules.specs.Limits.{settingsFit, Bounds}
-use Rattle.rules.specs.Newer.{highestWindow, exactRows, exactBound, Reached, FrameworkExceeded}
-use Rattle.rules.proofs.Types.{Settings, Putting, Taking, StackCommit}
+use Rattle.rules.specs.Newer.{highestWindow, exactRows, exactBound}
+use Rattle.reached.specs.Reached.{Reached, FrameworkExceeded}
+use Rattle.reached.proofs.Types.{Settings, Putting, Taking, StackCommit}
 use Rattle.rules.proofs.Fitness.{settings-bounds}
 use Rattle.rules.proofs.machine.Machine.{State, subIn, phaseIn, madeIn}
 use Rattle.rules.proofs.machine.Good.{good}
 use Rattle.rules.proofs.words.Made.{accepted}
 use Rattle.rules.proofs.stack.Figures.{times, times-low, bound-stack, below-highest, highest-rows}
 use Rattle.rules.proofs.stack.Exactness.{framework-low}
 use Rattle.rules.proofs.stack.Turn.{stackKind}
 use Rattle.rules.proofs.Transfer.{made-related, events-same}
-use Rattle.rules.proofs.reached.Run.{new, got-made}
-use Rattle.rules.proofs.reached.Walks.{there, comes-to-commit}
-use Rattle.rules.proofs.reached.Commits.{BroughtOne}
-use Rattle.rules.proofs.reached.Sweeps.{operations}
-use Rattle.rules.proofs.reached.Scene.{Waits, ComesTo}
-use Rattle.rules.proofs.reached.Opening.{Only, first-bare, scene-of, opened}
-use Rattle.rules.proofs.reached.Rises.{risen-none, risen-times, few-times}
-use Rattle.rules.proofs.reached.Ending.{About, ends, ends-ready}
-use Rattle.rules.proofs.reached.Taken.{Found, takes, found}
+use Rattle.reached.proofs.Run.{new, got-made}
+use Rattle.reached.proofs.Walks.{there, comes-to-commit}
+use Rattle.reached.proofs.Commits.{BroughtOne}
+use Rattle.reached.proofs.Sweeps.{operations}
+use Rattle.reached.proofs.Scene.{Waits, ComesTo}
+use Rattle.reached.proofs.Opening.{Only, first-bare, scene-of, opened}
+use Rattle.reached.proofs.Rises.{risen-none, risen-times, few-times}
+use Rattle.reached.proofs.Ending.{About, ends, ends-ready}
+use Rattle.reached.proofs.Taken.{Found, takes, found}
 
 module _ (g : Settings) (limits : settingsFit g ≡ true) (kind : g .kind ≡ 1) where
   bounds : Bounds g

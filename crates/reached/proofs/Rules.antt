@@ -8,19 +8,19 @@ use lib.Dec.{ltb, leb, eqb}
 use borrow.Author.Tests.{lt-leb, eq-eqb, ne-eqb}
 use Rattle.laws.specs.Choice.{cond}
 use Rattle.laws.specs.Wrap.{add32, sub32}
 use Rattle.rules.specs.Worker.{zeroSlot, fresh}
 use Rattle.rules.specs.Effects.{movedOf, nextOf, withPass}
 use Rattle.rules.specs.Window.{windowRule}
 use Rattle.rules.specs.Read.{stackHit, stackRead, missOf}
 use Rattle.rules.specs.Check.{checkRule}
 use Rattle.rules.specs.Commit.{stackCommit, commitBy, landedOf, removedOf}
 use Rattle.rules.specs.Shift.{stackShift, shiftBy, shiftedOf}
 use Rattle.rules.specs.Step.{ruleBy, ruleOf}
 use Rattle.rules.specs.Run.{Call, beginPut, beginTake, step}
-use Rattle.rules.proofs.Types.{Settings, Side, Putting, Taking, Phase, Idle, Window, QueuePutRead, QueueTakeRead, StackRead, Check, QueueCommit, StackCommit, QueueShift, StackShift, Confirm, Version}
+use Rattle.reached.proofs.Types.{Settings, Side, Putting, Taking, Phase, Idle, Window, QueuePutRead, QueueTakeRead, StackRead, Check, QueueCommit, StackCommit, QueueShift, StackShift, Confirm, Version}
 use Rattle.rules.specs.declared.Answer.the-variants.{Moving}
 use Rattle.rules.proofs.machine.Machine.{State, next, subIn, viewIn, phaseIn, applyIn, stepIn, beginIn, nextIn, withSlot}
 use Rattle.rules.proofs.machine.Phases.{idle-phase}
 
 -- ---- a step of a busy worker is its phase's rule, applied
 abbrev pub Busy : Phase → Type 0

@@ -6,19 +6,19 @@ use Prim.Native.Nat.{ℕ, _+_, _≤_, _<_}
 use native.Mathlib.Omega.{arith}
 use borrow.Author.Tests.{le-leb, eq-eqb}
 use Rattle.laws.specs.Wrap.{add32}
 use Rattle.rules.specs.Limits.{settingsFit}
 use Rattle.rules.specs.Worker.{encode}
 use Rattle.rules.specs.Run.{step}
-use Rattle.rules.proofs.Types.{Settings, Putting, Window, StackShift, Worker, Slot}
+use Rattle.reached.proofs.Types.{Settings, Putting, Window, StackShift, Worker, Slot}
 use Rattle.rules.specs.declared.Answer.the-variants.{Moving}
 use Rattle.rules.proofs.Fitness.{settings-bounds}
 use Rattle.rules.proofs.counts.Sums.{upd-same, upd-other}
 use Rattle.rules.proofs.counts.Wraps.{add32-is}
 use Rattle.rules.proofs.machine.Machine.{State, subIn, phaseIn, applyIn, turnedIn, apply-shifted}
 use Rattle.rules.proofs.machine.Phases.{worker, stack-phase, encode-index}
-use Rattle.rules.proofs.reached.Run.{Got, got-call}
-use Rattle.rules.proofs.reached.Rules.{step-is, shift-rule}
-use Rattle.rules.proofs.reached.Commits.{Later, later-same}
+use Rattle.reached.proofs.Run.{Got, got-call}
+use Rattle.reached.proofs.Rules.{step-is, shift-rule}
+use Rattle.reached.proofs.Commits.{Later, later-same}
 
 module _ (g : Settings) (limits : settingsFit g ≡ true) (kind : g .kind ≡ 1) where
   pub record Raised (s : State) (i : ℕ) : Type 0 where

@@ -8,20 +8,20 @@ use Prim.Native.Nat.{ℕ, suc, _+_, _-_, _*_, _≤_, _<_}
 use native.Mathlib.Nat.{le-refl, eq-or-lt-of-le}
 use native.Mathlib.Decide.{decLe}
 use native.Mathlib.Omega.{arith}
 use Rattle.rules.specs.Limits.{settingsFit, Bounds}
 use Rattle.rules.specs.Effects.{nextOf}
-use Rattle.rules.proofs.Types.{Settings, Putting, Taking, StackCommit}
+use Rattle.reached.proofs.Types.{Settings, Putting, Taking, StackCommit}
 use Rattle.rules.proofs.Fitness.{settings-bounds}
 use Rattle.rules.proofs.machine.Machine.{State, subIn, phaseIn}
 use Rattle.rules.proofs.stack.Inv.{Missed}
 use Rattle.rules.proofs.stack.After.{window-ge}
-use Rattle.rules.proofs.reached.Run.{Got}
-use Rattle.rules.proofs.reached.Steps.{Walked}
-use Rattle.rules.proofs.reached.Walks.{there, before, begun, next-up, comes-to-commit}
-use Rattle.rules.proofs.reached.Commits.{Brought, BroughtOne, later-same}
-use Rattle.rules.proofs.reached.Sweeps.{operations, in-steps, sweep}
-use Rattle.rules.proofs.reached.Rise.{Raised, raise}
-use Rattle.rules.proofs.reached.Scene.{shifter, mover, Looks, Waits, ComesTo, still-waits, phase-kept, index-kept, Scene, scene-later, Ready}
+use Rattle.reached.proofs.Run.{Got}
+use Rattle.reached.proofs.Steps.{Walked}
+use Rattle.reached.proofs.Walks.{there, before, begun, next-up, comes-to-commit}
+use Rattle.reached.proofs.Commits.{Brought, BroughtOne, later-same}
+use Rattle.reached.proofs.Sweeps.{operations, in-steps, sweep}
+use Rattle.reached.proofs.Rise.{Raised, raise}
+use Rattle.reached.proofs.Scene.{shifter, mover, Looks, Waits, ComesTo, still-waits, phase-kept, index-kept, Scene, scene-later, Ready}
 
 module _ (g : Settings) (limits : settingsFit g ≡ true) (kind : g .kind ≡ 1) (last : ℕ) (last-is : suc last ≡ g .width) (two : 2 ≤ g .workers)
     (another : 1 ≤ last) where

@@ -6,17 +6,17 @@ use mathlib.Core.List.{List, [], _∷_, _++_}
 use Prim.Native.Nat.{ℕ, _<_}
 use native.Mathlib.Nat.{mod-eq-of-lt}
 use lib.ListN.{length}
 use Rattle.rules.specs.Limits.{settingsFit}
 use Rattle.rules.specs.Sequential.{Contents}
 use Rattle.rules.specs.Run.{Call, at}
-use Rattle.rules.proofs.Types.{Settings, Answer}
+use Rattle.reached.proofs.Types.{Settings, Answer}
 use Rattle.rules.proofs.order.Law.{Next, events}
 use Rattle.rules.proofs.machine.Machine.{State, next, subIn, nextIn, madeIn}
 use Rattle.rules.proofs.machine.Good.{good}
 use Rattle.rules.proofs.machine.Turns.{Common}
 use Rattle.rules.proofs.stack.Inv.{Inv}
 use Rattle.rules.proofs.stack.Turn.{stackKind}
 use Rattle.rules.proofs.Transfer.{onward, made-whole}
 
 -- the state after a list of calls
 unfoldable pub after : Settings → State → List Call → State
