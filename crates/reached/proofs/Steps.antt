@@ -16,9 +16,9 @@ use Rattle.rules.specs.Run.{step}
 use Rattle.reached.proofs.Types.{Settings, Side, Putting, Taking, Phase, Window, StackRead, Check, StackCommit, StackShift, Version, Worker, Slot}
 use Rattle.rules.specs.declared.Answer.the-variants.{Moving}
 use Rattle.rules.proofs.Fitness.{settings-bounds}
-use Rattle.rules.proofs.counts.Sums.{upd, upd-same, upd-other}
+use Rattle.rules.proofs.counts.Sums.{upd-same, upd-other}
 use Rattle.rules.proofs.counts.Wraps.{add32-suc, sub32-is}
-use Rattle.rules.proofs.machine.Machine.{State, subIn, viewIn, phaseIn, applyIn, apply-moved}
+use Rattle.rules.proofs.machine.Machine.{State, subIn, viewIn, phaseIn, slotIn, applyIn, apply-moved}
 use Rattle.rules.proofs.machine.Phases.{OfStack, worker, stack-phase, encode-index}
 use Rattle.rules.proofs.stack.Inv.{Hit, Missed}
 use Rattle.rules.proofs.stack.After.{window-ge, window-le}
@@ -33,7 +33,7 @@ module _ (g : Settings) (limits : settingsFit g ≡ true) (kind : g .kind ≡ 1)
   bounds : Bounds g
   bounds = settings-bounds g limits
 
-  abbrev pub Reaches : State → Type 0
+  abbrev Reaches : State → Type 0
   Reaches s = Got g limits kind s
 
   -- in at most n steps worker i is at an index and in a phase
@@ -126,25 +126,12 @@ module _ (g : Settings) (limits : settingsFit g ≡ true) (kind : g .kind ≡ 1)
   misses s got i Taking h = le-ltb (sub32 (s .top) (g .depth)) (s .first (subIn s i)) (omega (arith, depth-off s got))
 
   -- ---- a call that changes worker i's slot alone, and the steps counted
-  abbrev inSlot : State → ℕ → ℕ → Slot → State
-  inSlot s i steps x =
-      record {
-        steps = steps;
-        puts = s .puts;
-        top = s .top;
-        mark = s .mark;
-        first = s .first;
-        second = s .second;
-        item = s .item;
-        slot = upd (s .slot) i x;
-      }
-
   in-slot : {n : ℕ} (s : State) (i steps : ℕ) (k : Worker) (kept : Slot) → OfStack (k .phase) → steps ≤ s .steps + n
-      → Reaches (inSlot s i steps (encode k kept)) → Walked n s i (k .index) (k .phase)
+      → Reaches (slotIn s i steps (s .top) (s .mark) (encode k kept)) → Walked n s i (k .index) (k .phase)
   in-slot s i steps k kept of l got =
       let x : Slot = encode k kept in
       record {
-        to = inSlot s i steps x;
+        to = slotIn s i steps (s .top) (s .mark) x;
         got = got;
         steps = l;
         puts = refl;

@@ -27,7 +27,7 @@ good g e =
       queue-rows = λ k. omega (arith, queue-limits g e k .1, div-add-mod' (g .rows) (g .depth));
     }
 
--- ---- demand 3's numbers against what a kind shows
+-- ---- the closest bound and demand 3's number at a full, against what a kind shows
 module _ (g : Settings) where
   pub queue-most : g .kind ≡ 0 → (g .width - 1) * g .depth ≤ exactBound g
   unfolding exactBound cond

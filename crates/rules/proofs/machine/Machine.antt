@@ -118,19 +118,22 @@ stepIn g s i =
     (cond (leb 4000000000 (s .steps)) (next (Refused 27) s)
     (applyIn g s i (ruleOf g (viewIn s i)))))
 
--- worker i in another slot, and nothing else changed
-abbrev pub withSlot : State → ℕ → Slot → State
-withSlot s i x =
+-- worker i in another slot, with the steps counted and the window words given; nothing else changed
+abbrev pub slotIn : State → ℕ → ℕ → ℕ → ℕ → Slot → State
+slotIn s i steps top mark x =
     record {
-      steps = s .steps;
+      steps = steps;
       puts = s .puts;
-      top = s .top;
-      mark = s .mark;
+      top = top;
+      mark = mark;
       first = s .first;
       second = s .second;
       item = s .item;
       slot = upd (s .slot) i x;
     }
+
+abbrev pub withSlot : State → ℕ → Slot → State
+withSlot s i x = slotIn s i (s .steps) (s .top) (s .mark) x
 
 unfoldable pub beginIn : Settings → State → ℕ → Side → ℕ → Next State
 beginIn g s i side value =
@@ -161,17 +164,7 @@ madeIn g =
 
 -- ---- steps that change no sub: the window words and the worker's slot alone
 abbrev pub turnedIn : State → ℕ → ℕ → ℕ → Slot → State
-turnedIn s i top mark x =
-    record {
-      steps = suc (s .steps);
-      puts = s .puts;
-      top = top;
-      mark = mark;
-      first = s .first;
-      second = s .second;
-      item = s .item;
-      slot = upd (s .slot) i x;
-    }
+turnedIn s i top mark x = slotIn s i (suc (s .steps)) top mark x
 
 -- an effect that keeps the sub's two words keeps all of them
 after-turned : (s : State) (i top mark : ℕ) (x : Slot)

@@ -14,28 +14,26 @@ use Rattle.rules.proofs.Fitness.{settings-bounds}
 use Rattle.rules.proofs.counts.Wraps.{multiple-lt}
 use Rattle.rules.proofs.stack.Figures.{times, times-low, times-high, below-highest, highest-rows, bound-le, bound-stack}
 
--- with another sub, equal figures have equal rows, and a lower figure fewer
-module _ (g : Settings) (kind : g .kind ≡ 1) (w : 2 ≤ g .width) (a b : ℕ) where
-  rows-le : boundBy g a ≤ boundBy g b → a ≤ b
-  rows-le l = go (decLe a b)
+-- with another sub, fewer rows make a lower figure, and a figure that is not higher has no more rows
+module _ (g : Settings) (kind : g .kind ≡ 1) (w : 2 ≤ g .width) where
+  fewer-lt : (a b : ℕ) → a < b → boundBy g a < boundBy g b
+  fewer-lt a b l =
+      let more : a + 1 ≤ b = omega arith in
+      omega (arith, bound-stack g a kind, bound-stack g b kind, mul-le-mul-left (g .width - 1) more)
+
+  rows-le : (a b : ℕ) → boundBy g a ≤ boundBy g b → a ≤ b
+  rows-le a b l = go (decLe a b)
     where
       go : Dec (a ≤ b) → a ≤ b
       go (yes y) = y
-      go (no n) =
-          let more : b + 1 ≤ a = omega arith in
-          absurd (omega (arith, bound-stack g a kind, bound-stack g b kind, mul-le-mul-left (g .width - 1) more))
+      go (no n) = absurd (omega (arith, fewer-lt b a (omega arith)))
 
-  rows-lt : boundBy g a < boundBy g b → a < b
-  rows-lt l = go (decLe b a)
+  rows-lt : (a b : ℕ) → boundBy g a < boundBy g b → a < b
+  rows-lt a b l = go (decLe b a)
     where
       go : Dec (b ≤ a) → a < b
       go (yes y) = absurd (omega (arith, bound-le g b a y))
       go (no n) = omega arith
-
-  fewer-lt : a < b → boundBy g a < boundBy g b
-  fewer-lt l =
-      let more : a + 1 ≤ b = omega arith in
-      omega (arith, bound-stack g a kind, bound-stack g b kind, mul-le-mul-left (g .width - 1) more)
 
 -- ---- which figure is the exact one
 module _ (g : Settings) (bounds : Bounds g) where
