@@ -1,14 +1,13 @@
 -- What a stack's rules do, by the outcome of their tests: the window's, a read's hit, miss and last miss, a check that finds the
 -- window as it was, a shift up, a put and a take that land; and a begin of an idle worker.
-use mathlib.Core.Path.{_≡_, refl, sym, _∙_, subst}
+use mathlib.Core.Path.{_≡_, refl, sym, ap, _∙_, subst}
 use mathlib.Core.Logic.{_≢_}
 use mathlib.Core.Bool.{true, false}
 use Prim.Native.Nat.{ℕ, _<_}
 use lib.Dec.{ltb, leb, eqb}
-use borrow.Author.Tests.{lt-leb, eq-eqb, ne-eqb}
 use Rattle.laws.specs.Choice.{cond}
 use Rattle.laws.specs.Wrap.{add32, sub32}
-use Rattle.rules.specs.Worker.{zeroSlot, fresh}
+use Rattle.rules.specs.Worker.{zeroSlot}
 use Rattle.rules.specs.Effects.{movedOf, nextOf, withPass}
 use Rattle.rules.specs.Window.{windowRule}
 use Rattle.rules.specs.Read.{stackHit, stackRead, missOf}
@@ -19,7 +18,8 @@ use Rattle.rules.specs.Step.{ruleBy, ruleOf}
 use Rattle.rules.specs.Run.{Call, beginPut, beginTake, step}
 use Rattle.reached.proofs.Types.{Settings, Side, Putting, Taking, Phase, Idle, Window, QueuePutRead, QueueTakeRead, StackRead, Check, QueueCommit, StackCommit, QueueShift, StackShift, Confirm, Version}
 use Rattle.rules.specs.declared.Answer.the-variants.{Moving}
-use Rattle.rules.proofs.machine.Machine.{State, next, subIn, viewIn, phaseIn, applyIn, stepIn, beginIn, nextIn, withSlot}
+use Rattle.rules.proofs.machine.Machine.{State, next, subIn, viewIn, phaseIn, applyIn, nextIn}
+use Rattle.rules.proofs.machine.Calls.{able-does, step-called, begun, begin-called}
 use Rattle.rules.proofs.machine.Phases.{idle-phase}
 
 -- ---- a step of a busy worker is its phase's rule, applied
@@ -52,17 +52,17 @@ valueBegun Taking = 0
 module _ (g : Settings) (s : State) (i : ℕ) where
   pub step-is : i < g .workers → s .steps < 4000000000 → (p : Phase) → phaseIn g s i ≡ p → Busy p
       → nextIn g s (step i) ≡ applyIn g s i (ruleBy g (viewIn s i) p)
-  unfolding nextIn stepIn ruleOf cond
+  unfolding nextIn ruleOf
   step-is l time p e busy =
       let awake : s .slot i .number ≢ 0 = λ z. subst Busy (sym e ∙ idle-phase (g .kind) (s .slot i) z) busy in
-      rw (lt-leb (g .workers) i l, ne-eqb (s .slot i .number) 0 awake, lt-leb 4000000000 (s .steps) time, e) refl
+      able-does (record { worker = l; busy = awake; time = time }) (step-called g s i) ∙ ap (λ (x : Phase). applyIn g s i (ruleBy g (viewIn s i) x)) e
 
   -- ---- a begin
   pub begin-is : (side : Side) → i < g .workers → s .steps < 4000000000 → s .slot i .number ≡ 0
-      → nextIn g s (begins i side) ≡ next Moving (withSlot s i (fresh (valueBegun side) (subIn s i) (Window side)))
-  unfolding nextIn beginIn cond
-  begin-is Putting l time z = rw (lt-leb (g .workers) i l, eq-eqb (s .slot i .number) 0 z, lt-leb 4000000000 (s .steps) time) refl
-  begin-is Taking l time z = rw (lt-leb (g .workers) i l, eq-eqb (s .slot i .number) 0 z, lt-leb 4000000000 (s .steps) time) refl
+      → nextIn g s (begins i side) ≡ next Moving (begun s i side (valueBegun side))
+  unfolding nextIn
+  begin-is Putting l time z = able-does (record { worker = l; idle = z; time = time }) (begin-called g s i Putting 1)
+  begin-is Taking l time z = able-does (record { worker = l; idle = z; time = time }) (begin-called g s i Taking 0)
 
   -- ---- the rules
   pub window-rule : g .kind ≡ 1 → (side : Side)

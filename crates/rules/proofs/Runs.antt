@@ -9,7 +9,6 @@ use native.Mathlib.Decide.{ℕ-discrete}
 use native.Mathlib.Omega.{arith}
 use lib.Dec.{leb, eqb}
 use borrow.Author.Tests.{leb-true, leb-false, eqb-true}
-use Rattle.laws.specs.Choice.{cases}
 use Rattle.rules.specs.Answers.{numberOf}
 use Rattle.rules.specs.Limits.{settingsFit}
 use Rattle.rules.specs.Held.{Item, heldItems, countItems}
@@ -17,18 +16,19 @@ use Rattle.rules.specs.Step.{ruleOf}
 use Rattle.rules.specs.Sequential.{Contents}
 use Rattle.rules.specs.Run.{Call, beginPut, beginTake, step, callOf, run, at}
 use Rattle.rules.specs.Consequences.{wordsAfter, itemIn, itemsIn, hasStamp, NoSumWraps}
-use Rattle.rules.proofs.Types.{Settings, Side, Putting, Taking, Effect, Outcome}
+use Rattle.rules.proofs.Types.{Settings, Putting, Taking, Effect, Outcome}
 use Rattle.rules.specs.declared.Outcome.the-variants.{Refused, Moving, Shifted, Landed, Removed, Empty, Full}
 use Rattle.rules.proofs.counts.Sums.{bit, bit-le}
 use Rattle.rules.proofs.order.Law.{Next}
 use Rattle.rules.proofs.Fitness.{settings-bounds}
 use Rattle.rules.proofs.Cells.{count-append, held-fits}
-use Rattle.rules.proofs.machine.Machine.{State, viewIn, belowIn, applyIn, applyInBy, stepIn, beginIn, nextIn}
+use Rattle.rules.proofs.machine.Machine.{State, viewIn, belowIn, applyIn, applyInBy, nextIn}
+use Rattle.rules.proofs.machine.Calls.{Called, refuses, does, step-called, begin-called}
 use Rattle.rules.proofs.counts.Held.{count-none, held-count}
 use Rattle.rules.proofs.machine.Turns.{Common, Counts, Safe, Kind}
 use Rattle.rules.proofs.machine.Does.{SharedAfter, rule-in}
 use Rattle.rules.proofs.order.Given.{item-of, item-not}
-use Rattle.rules.proofs.Transfer.{Related, next-related}
+use Rattle.rules.proofs.Transfer.{Related, next-related, related-after}
 use Rattle.rules.proofs.words.Says.{held-same}
 use Rattle.rules.proofs.words.Follows.{view-same}
 
@@ -113,9 +113,7 @@ module _ (g : Settings) (limits : settingsFit g ≡ true) (k : Kind g) where
       }
 
   pub safe-after : {ws : List ℕ} {s : State} → Rel ws s → (cs : List Call) → NoSumWraps g (wordsAfter ws cs)
-  unfolding wordsAfter
-  safe-after r [] = safe-words r
-  safe-after r (c ∷ cs) = safe-after (next-related g limits k r c .related) cs
+  safe-after r cs = safe-words (related-after g limits k r cs .related)
 
   -- ---- no call finds the pool unfit
   abbrev Fine : Next State → Type 0
@@ -140,26 +138,15 @@ module _ (g : Settings) (limits : settingsFit g ≡ true) (k : Kind g) where
     k .safe s q common inv .able i,
   )
 
-  fine-step : (s : State) (q : Contents) → Common g s → k .Inv s q → (i : ℕ) → Fine (stepIn g s i)
-  unfolding stepIn
-  fine-step s q common inv i =
-      cases Fine _ _ _ (λ a. ((λ u. omega arith), (λ u. omega arith)))
-      (λ a. cases Fine _ _ _ (λ b. ((λ u. omega arith), (λ u. omega arith)))
-      (λ b. cases Fine _ _ _ (λ c. ((λ u. omega arith), (λ u. omega arith))) (λ c. fine-rule s q common inv i)))
-
-  fine-begin : (s : State) (i : ℕ) (side : Side) (v : ℕ) → Fine (beginIn g s i side v)
-  unfolding beginIn
-  fine-begin s i side v =
-      cases Fine _ _ _ (λ a. ((λ u. omega arith), (λ u. omega arith)))
-      (λ a. cases Fine _ _ _
-      (λ b. cases Fine _ _ _ (λ c. ((λ u. omega arith), (λ u. omega arith))) (λ c. ((λ u. omega arith), (λ u. omega arith))))
-      (λ b. ((λ u. omega arith), (λ u. omega arith))))
+  fine-called : {s : State} {Able : Type 0} {made o : Next State} → Called s Able made o → (Able → Fine made) → Fine o
+  fine-called (refuses n l unable e) fine = rw e ((λ u. omega arith), (λ u. omega arith))
+  fine-called (does able e) fine = rw e (fine able)
 
   fine-call : (s : State) (q : Contents) → Common g s → k .Inv s q → (c : Call) → Fine (nextIn g s c)
   unfolding nextIn
-  fine-call s q common inv (beginPut i v) = fine-begin s i Putting v
-  fine-call s q common inv (beginTake i) = fine-begin s i Taking 0
-  fine-call s q common inv (step i) = fine-step s q common inv i
+  fine-call s q common inv (beginPut i v) = fine-called (begin-called g s i Putting v) (λ able. ((λ u. omega arith), (λ u. omega arith)))
+  fine-call s q common inv (beginTake i) = fine-called (begin-called g s i Taking 0) (λ able. ((λ u. omega arith), (λ u. omega arith)))
+  fine-call s q common inv (step i) = fine-called (step-called g s i) (λ able. fine-rule s q common inv i)
 
   pub fine-at : {ws : List ℕ} {s : State} → Rel ws s → (cs : List Call) (f : ℕ)
       → (numberOf (at (run ws cs) f .answer) ≢ 21) × (numberOf (at (run ws cs) f .answer) ≢ 23)

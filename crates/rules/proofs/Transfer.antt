@@ -10,6 +10,7 @@ use Rattle.rules.specs.Limits.{settingsFit}
 use Rattle.rules.specs.Make.{makeOf}
 use Rattle.rules.specs.Sequential.{Contents, noItems}
 use Rattle.rules.specs.Run.{Call, callOf, run}
+use Rattle.rules.specs.Consequences.{wordsAfter}
 use Rattle.rules.specs.Newer.{exactBound}
 use Rattle.rules.proofs.order.Closest.{OneAtATime}
 use Rattle.rules.proofs.Types.{Settings, Answer}
@@ -123,6 +124,16 @@ module _ (g : Settings) (limits : settingsFit g ≡ true) (k : Kind g) where
       let n = next-related r c in
       let rest = events-same (n .related) cs in
       λ u. record { call = c; answer = n .answer u } ∷ rest u
+
+  -- the words after a list of calls
+  pub record After-calls (ws : List ℕ) : Type 0 where
+    pub state : State
+    pub related : Related ws state
+
+  pub related-after : {ws : List ℕ} {s : State} → Related ws s → (cs : List Call) → After-calls (wordsAfter ws cs)
+  unfolding wordsAfter
+  related-after {s = s} r [] = record { state = s; related = r }
+  related-after r (c ∷ cs) = related-after (next-related r c .related) cs
 
   unfoldable pub made-related : (ws : List ℕ) → Accepted ws g → Related (makeOf ws g .words) (madeIn g)
   made-related ws a =

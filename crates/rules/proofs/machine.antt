@@ -2,6 +2,7 @@
 pub mod Machine
 pub mod Phases
 pub mod Good
+pub mod Calls
 pub mod Turns
 pub mod Slots
 pub mod Does

@@ -29,9 +29,6 @@ use mathlib.Core.Logic.{_≢_}
 use mathlib.Core.Bool.{true}
 use Prim.Native.Nat.{ℕ, _+_, _*_, _^_, _≤_, _<_}
 use native.Mathlib.Omega.{arith}
-use lib.Dec.{leb, eqb}
-use borrow.Author.Tests.{leb-false, eqb-true}
-use Rattle.laws.specs.Choice.{cases}
 use Rattle.rules.specs.Answers.{numberOf}
 use Rattle.rules.specs.Worker.{fresh, zeroSlot, phaseOf}
 use Rattle.rules.specs.Fit.{phaseFit, SubFits}
@@ -42,8 +39,9 @@ use Rattle.rules.specs.Consequences.{NoWrap}
 use Rattle.rules.proofs.Types.{Settings, Side, Putting, Taking, Idle, Window, Slot}
 use Rattle.rules.specs.declared.Answer.the-variants.{Moving}
 use Rattle.rules.proofs.counts.Sums.{upd, upd-same, upd-other}
-use Rattle.rules.proofs.order.Law.{Next, Status, pending, Turn, refused, opened}
-use Rattle.rules.proofs.machine.Machine.{State, next, subIn, viewIn, phaseIn, belowIn, applyIn, stepIn, withSlot, beginIn, nextIn, madeIn}
+use Rattle.rules.proofs.order.Law.{Next, Status, pending, Turn, refused, opened, walks, tries, stays, loses, ends, wins}
+use Rattle.rules.proofs.machine.Machine.{State, next, subIn, viewIn, phaseIn, belowIn, applyIn, stepIn, beginIn, nextIn, madeIn}
+use Rattle.rules.proofs.machine.Calls.{Called, refuses, does, Steps, Begins, step-called, begun, begin-called}
 use Rattle.rules.proofs.machine.Phases.{operationOf, statusOf, worker, idle-phase, window-phase, encode-value}
 use Rattle.rules.proofs.counts.Held.{Holds}
 
@@ -97,9 +95,6 @@ abbrev pub Turned : (g : Settings) → (State → Contents → Type 0) → (Stat
     → State → Contents → Call → Next State → Type 0
 Turned g Inv Snap s q c o = Turn g (nextIn g) (statusIn g) Inv Snap s q c o
 
-abbrev pub begun : State → ℕ → Side → ℕ → State
-begun s i side v = withSlot s i (fresh v (subIn s i) (Window side))
-
 pub record Kind (g : Settings) : Type 1 where
   pub Inv : State → Contents → Type 0
   pub Snap : State → Contents → ℕ → State → Type 0
@@ -120,12 +115,11 @@ module _ (g : Settings) (k : Kind g) where
   Call-turn s q c o = Turned g (k .Inv) (k .Snap) s q c o
 
   turn-step : (s : State) (q : Contents) → Common g s → k .Inv s q → (i : ℕ) → Call-turn s q (step i) (stepIn g s i)
-  unfolding stepIn
-  turn-step s q common inv i =
-      cases (Call-turn s q (step i)) (leb (g .workers) i) _ _ (λ e. refused (omega arith) refl)
-      (λ a. cases (Call-turn s q (step i)) (eqb (s .slot i .number) 0) _ _ (λ e. refused (omega arith) refl)
-      (λ b. cases (Call-turn s q (step i)) (leb 4000000000 (s .steps)) _ _ (λ e. refused (omega arith) refl)
-      (λ c. k .steps s q common inv i (leb-false _ _ a) (leb-false _ _ c))))
+  turn-step s q common inv i = by (step-called g s i)
+    where
+      by : {o : Next State} → Called s (Steps g s i) (applyIn g s i (ruleOf g (viewIn s i))) o → Call-turn s q (step i) o
+      by (refuses n l unable e) = rw e (refused (omega arith) refl)
+      by (does able e) = rw e (k .steps s q common inv i (able .worker) (able .time))
 
   begun-status : (side : Side) (v x : ℕ)
       → statusOf (fresh v x (Window side) .value) (phaseOf (g .kind) (fresh v x (Window side))) ≡ pending (operationOf side v)
@@ -134,12 +128,7 @@ module _ (g : Settings) (k : Kind g) where
 
   turn-begin : (s : State) (q : Contents) → Common g s → k .Inv s q → (i : ℕ) (side : Side) (v : ℕ) (c : Call) → c ≡ begin i (operationOf side v)
       → Call-turn s q c (beginIn g s i side v)
-  unfolding beginIn
-  turn-begin s q common inv i side v c u =
-      cases (Call-turn s q c) (leb (g .workers) i) _ _ (λ e. refused (omega arith) refl)
-      (λ a. cases (Call-turn s q c) (eqb (s .slot i .number) 0) _ _
-      (λ b. cases (Call-turn s q c) (leb 4000000000 (s .steps)) _ _ (λ e. refused (omega arith) refl) (λ e. opens (idle-phase (g .kind) (s .slot i) (eqb-true _ _ b))))
-      (λ b. refused (omega arith) refl))
+  turn-begin s q common inv i side v c u = by (begin-called g s i side v)
     where
       opens : phaseIn g s i ≡ Idle → Call-turn s q c (next Moving (begun s i side v))
       opens p =
@@ -151,8 +140,26 @@ module _ (g : Settings) (k : Kind g) where
           })
           (k .begins s q common inv i p side v)
 
+      by : {o : Next State} → Called s (Begins g s i) (next Moving (begun s i side v)) o → Call-turn s q c o
+      by (refuses n l unable e) = rw e (refused (omega arith) refl)
+      by (does able e) = rw e (opens (idle-phase (g .kind) (s .slot i) (able .idle)))
+
   pub turn : (s : State) (q : Contents) → Common g s → k .Inv s q → (c : Call) → Call-turn s q c (nextIn g s c)
   unfolding nextIn
   turn s q common inv (beginPut i v) = turn-begin s q common inv i Putting v (beginPut i v) refl
   turn s q common inv (beginTake i) = turn-begin s q common inv i Taking 0 (beginTake i) refl
   turn s q common inv (step i) = turn-step s q common inv i
+
+  -- a refused call changes nothing
+  pub refused-same : (s : State) (q : Contents) → Common g s → k .Inv s q → (c : Call) → 4 < numberOf (nextIn g s c .answer) → nextIn g s c .state ≡ s
+  refused-same s q common inv c l = by (turn s q common inv c)
+    where
+      by : Call-turn s q c (nextIn g s c) → nextIn g s c .state ≡ s
+      by (refused n e) = e
+      by (opened i op u n a b w h) = absurd (omega arith)
+      by (walks i op u n a b w h) = absurd (omega arith)
+      by (tries i op u n a b w h z) = absurd (omega arith)
+      by (stays i op u n a b w h z) = absurd (omega arith)
+      by (loses i op u n a b w h) = absurd (omega arith)
+      by (ends i op u n a b w q′ give h) = absurd (omega (arith, n .high))
+      by (wins i op u n m a b w h z) = absurd (omega (arith, n .high))

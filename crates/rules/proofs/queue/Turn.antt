@@ -20,7 +20,8 @@ use Rattle.rules.proofs.machine.Phases.{idle-phase, worker}
 use Rattle.rules.proofs.counts.Passes.{summed-more, summed-le}
 use Rattle.rules.proofs.counts.Held.{count-none}
 use Rattle.rules.proofs.machine.Good.{Good}
-use Rattle.rules.proofs.machine.Turns.{Common, Counts, Safe, begun, Kind}
+use Rattle.rules.proofs.machine.Turns.{Common, Counts, Safe, Kind}
+use Rattle.rules.proofs.machine.Calls.{begun}
 use Rattle.rules.proofs.machine.Ways.{Snap, Written, others-after}
 use Rattle.rules.proofs.queue.Inv.{Windows, Stamps, Knows, Inv, putsIn, Grown, sum-few, put-few, taken-few, top-few, mark-few}
 use Rattle.rules.proofs.queue.Moves.{Stepped, written, inv-after}
@@ -62,7 +63,7 @@ module _ (g : Settings) (good : Good g) (kind : g .kind ≡ 0) where
         order = λ j k r r′ c l l′ a b c′ a′ b′. absurd (omega arith);
       }
 
-  at-first : Inv g (madeIn g) noItems
+  pub at-first : Inv g (madeIn g) noItems
   unfolding madeIn
   at-first =
       record {
@@ -83,10 +84,10 @@ module _ (g : Settings) (good : Good g) (kind : g .kind ≡ 0) where
     up : Grown s (begun s i side v)
     up = record { top = le-refl _; mark = le-refl _; put = λ j. le-refl _; taken = λ j. le-refl _ }
 
-    opens : Written g putsIn s i (worker v (subIn s i) (Window side)) (begun s i side v)
+    pub opens : Written g putsIn s i (worker v (subIn s i) (Window side)) (begun s i side v)
     opens = written g kind s i (worker v (subIn s i) (Window side)) zeroSlot (begun s i side v) tt refl up
 
-    begins : (q : Contents) → Inv g s q → Inv g (begun s i side v) q
+    pub begins : (q : Contents) → Inv g s q → Inv g (begun s i side v) q
     begins q inv =
         let o = inv .pool in
         inv-after opens up inv (record {
@@ -126,7 +127,7 @@ module _ (g : Settings) (good : Good g) (kind : g .kind ≡ 0) where
     by-phase (Confirm Putting scan sum) now = absurd (knows-now _ now)
     by-phase (Confirm Taking scan sum) now = take-confirm g good kind s q common inv i scan sum now
 
-    stepped : Stepped g s q i (applyIn g s i (ruleOf g (viewIn s i)))
+    pub stepped : Stepped g s q i (applyIn g s i (ruleOf g (viewIn s i)))
     unfolding ruleOf
     stepped = by-phase (phaseIn g s i) refl
 
@@ -162,7 +163,7 @@ module _ (g : Settings) (good : Good g) (kind : g .kind ≡ 0) where
     no-wrap (Confirm Taking scan sum) k = omega (arith, k, width16)
 
   -- ---- what follows
-  counts : (s : State) (q : Contents) → Inv g s q → Counts g s
+  pub counts : (s : State) (q : Contents) → Inv g s q → Counts g s
   counts s q inv =
       let o = inv .pool .windows in
       record {
@@ -175,7 +176,7 @@ module _ (g : Settings) (good : Good g) (kind : g .kind ≡ 0) where
         second-few = taken-few good (inv .pool);
       }
 
-  safe : (s : State) (q : Contents) → Common g s → Inv g s q → Safe g s
+  pub safe : (s : State) (q : Contents) → Common g s → Inv g s q → Safe g s
   safe s q common inv =
       record {
         puts = omega (arith, inv .pool .puts-few, inv .pool .steps-few);
@@ -187,7 +188,7 @@ module _ (g : Settings) (good : Good g) (kind : g .kind ≡ 0) where
         able = λ i. stepped s q common inv i .able;
       }
 
-pub queueKind : (g : Settings) → Good g → g .kind ≡ 0 → Kind g
+unfoldable pub queueKind : (g : Settings) → Good g → g .kind ≡ 0 → Kind g
 queueKind g good kind =
     record {
       Inv = Inv g;

@@ -5,7 +5,7 @@ use mathlib.Core.Path.{_≡_, refl, sym}
 use mathlib.Core.Logic.{_≢_}
 use Prim.Native.Nat.{ℕ, _≤_, _<_}
 use native.Mathlib.Omega.{arith}
-use borrow.Author.Tests.{ltb-false, eqb-true}
+use borrow.Author.Tests.{ltb-false, eqb-true, eqb-false}
 use lib.Dec.{ltb, eqb}
 use Rattle.laws.specs.Choice.{cases}
 use Rattle.laws.specs.Wrap.{add32, sub32}
@@ -56,19 +56,20 @@ landsOf v Taking = removedOf v (sub32 (itemsHeld v) 1) (add32 (subVersion v) 1) 
 
 module _ {g : Settings} {s : State} {q : Contents} (good : Good g) (kind : g .kind ≡ 1) (common : Common g s) (inv : Inv g s q) where
   pub commit-cases : (i : ℕ) (P : Effect → Type 0) (side : Side) (seen : Version) → phaseIn g s i ≡ StackCommit side seen
-      → (seen .0 ≡ s .second (subIn s i) → P (landsOf (viewIn s i) side)) → P (restartOf (viewIn s i) (hopOf g (subIn s i)) side)
+      → (seen .0 ≡ s .second (subIn s i) → P (landsOf (viewIn s i) side))
+      → (seen .0 ≢ s .second (subIn s i) → P (restartOf (viewIn s i) (hopOf g (subIn s i)) side))
       → P (stackCommit g (viewIn s i) side seen)
   unfolding stackCommit commitBy
-  commit-cases i P Putting seen e lands lost =
+  commit-cases i P Putting seen now lands lost =
       cases P (eqb (s .second (subIn s i)) (seen .0)) _ _
       (λ u. cases P (ltb (s .first (subIn s i)) (g .rows)) _ _ (λ x. lands (sym (eqb-true _ _ u)))
-      (λ x. absurd (omega (arith, ltb-false, put-room inv i seen e (sym (eqb-true _ _ u))))))
-      (λ u. lost)
-  commit-cases i P Taking seen e lands lost =
+      (λ x. absurd (omega (arith, ltb-false, put-room inv i seen now (sym (eqb-true _ _ u))))))
+      (λ u. lost (λ e. eqb-false _ _ u (sym e)))
+  commit-cases i P Taking seen now lands lost =
       cases P (eqb (s .second (subIn s i)) (seen .0)) _ _
       (λ u. cases P (ltb 0 (s .first (subIn s i))) _ _ (λ x. lands (sym (eqb-true _ _ u)))
-      (λ x. absurd (omega (arith, ltb-false, take-row good kind inv i (common .slots i .index) seen e (sym (eqb-true _ _ u))))))
-      (λ u. lost)
+      (λ x. absurd (omega (arith, ltb-false, take-row good kind inv i (common .slots i .index) seen now (sym (eqb-true _ _ u))))))
+      (λ u. lost (λ e. eqb-false _ _ u (sym e)))
 
   -- ---- answers
   module _ (i : ℕ) where
@@ -103,7 +104,7 @@ module _ {g : Settings} {s : State} {q : Contents} (good : Good g) (kind : g .ki
     fine-by (StackRead side window version scan sum) e k = cases F _ _ _ (λ u. tt) (λ u. cases F _ _ _ (λ x. tt) (λ x. tt))
     fine-by (Check side version seen) e k = cases F _ _ _ (λ u. tt) (λ u. tt)
     fine-by (QueueCommit side seen) e k = absurd k
-    fine-by (StackCommit side seen) e k = commit-cases i F side seen e (fine-lands side seen e) (fine-lost side)
+    fine-by (StackCommit side seen) e k = commit-cases i F side seen e (fine-lands side seen e) (λ other. fine-lost side)
     fine-by (QueueShift side window) e k = absurd k
     fine-by (StackShift side version scan sum) e k = fine-shift side version scan sum
     fine-by (Confirm side scan sum) e k = fine-confirm side scan sum

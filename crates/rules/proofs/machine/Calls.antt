@@ -1,0 +1,64 @@
+-- One call of the machine by its tests: it is refused and changes nothing, or it begins an operation, or it is a step that goes by its
+-- rule.
+use mathlib.Core.Path.{_≡_, refl}
+use mathlib.Core.Logic.{_≢_}
+use Prim.Native.Nat.{ℕ, _≤_, _<_}
+use native.Mathlib.Omega.{arith}
+use lib.Dec.{leb, eqb}
+use borrow.Author.Tests.{leb-true, leb-false, eqb-true, eqb-false}
+use Rattle.laws.specs.Choice.{cases}
+use Rattle.rules.specs.Worker.{fresh}
+use Rattle.rules.specs.Step.{ruleOf}
+use Rattle.rules.proofs.Types.{Settings, Side, Window}
+use Rattle.rules.specs.declared.Answer.the-variants.{Moving, Refused}
+use Rattle.rules.proofs.order.Law.{Next}
+use Rattle.rules.proofs.machine.Machine.{State, next, subIn, viewIn, applyIn, stepIn, withSlot, beginIn}
+
+-- a call made of its worker, or what a refusal is: nothing but its number
+pub data Called (s : State) (Able : Type 0) (made o : Next State) : Type 0 where
+  refuses : (n : ℕ) → 24 ≤ n → ¬ Able → o ≡ next (Refused n) s → Called s Able made o
+  does : Able → o ≡ made → Called s Able made o
+
+-- a call that is able to is made
+pub able-does : {s : State} {Able : Type 0} {made o : Next State} → Able → Called s Able made o → o ≡ made
+able-does a (refuses n l unable e) = absurd (unable a)
+able-does a (does b e) = e
+
+-- worker i has begun
+abbrev pub begun : State → ℕ → Side → ℕ → State
+begun s i side v = withSlot s i (fresh v (subIn s i) (Window side))
+
+module _ (g : Settings) (s : State) (i : ℕ) where
+  -- a step is made of a busy worker, and a begin of an idle one, while the step count has steps left
+  pub record Steps : Type 0 where
+    pub worker : i < g .workers
+    pub busy : s .slot i .number ≢ 0
+    pub time : s .steps < 4000000000
+
+  pub record Begins : Type 0 where
+    pub worker : i < g .workers
+    pub idle : s .slot i .number ≡ 0
+    pub time : s .steps < 4000000000
+
+  pub step-called : Called s Steps (applyIn g s i (ruleOf g (viewIn s i))) (stepIn g s i)
+  unfolding stepIn
+  step-called =
+      cases Of (leb (g .workers) i) _ _ (λ a. refuses 24 (omega arith) (λ able. omega (arith, able .worker, leb-true (g .workers) i a)) refl)
+      (λ a. cases Of (eqb (s .slot i .number) 0) _ _ (λ b. refuses 26 (omega arith) (λ able. able .busy (eqb-true _ _ b)) refl)
+      (λ b. cases Of (leb 4000000000 (s .steps)) _ _ (λ c. refuses 27 (omega arith) (λ able. omega (arith, able .time, leb-true 4000000000 (s .steps) c)) refl)
+      (λ c. does (record { worker = leb-false _ _ a; busy = eqb-false _ _ b; time = leb-false _ _ c }) refl)))
+    where
+      Of : Next State → Type 0
+      Of o = Called s Steps (applyIn g s i (ruleOf g (viewIn s i))) o
+
+  pub begin-called : (side : Side) (v : ℕ) → Called s Begins (next Moving (begun s i side v)) (beginIn g s i side v)
+  unfolding beginIn
+  begin-called side v =
+      cases Of (leb (g .workers) i) _ _ (λ a. refuses 24 (omega arith) (λ able. omega (arith, able .worker, leb-true (g .workers) i a)) refl)
+      (λ a. cases Of (eqb (s .slot i .number) 0) _ _
+      (λ b. cases Of (leb 4000000000 (s .steps)) _ _ (λ c. refuses 27 (omega arith) (λ able. omega (arith, able .time, leb-true 4000000000 (s .steps) c)) refl)
+      (λ c. does (record { worker = leb-false _ _ a; idle = eqb-true _ _ b; time = leb-false _ _ c }) refl))
+      (λ b. refuses 25 (omega arith) (λ able. eqb-false _ _ b (able .idle)) refl))
+    where
+      Of : Next State → Type 0
+      Of o = Called s Begins (next Moving (begun s i side v)) o
