@@ -1,0 +1,118 @@
+-- What a kind shows for K3, its law of a worker that steps alone; the queue's and the stack's.
+use mathlib.Core.Path.{_≡_, refl}
+use Prim.Native.Nat.{ℕ}
+use native.Mathlib.Nat.{le-refl}
+use native.Mathlib.Omega.{arith}
+use Rattle.rules.specs.Step.{ruleOf, ruleBy}
+use Rattle.rules.specs.Sequential.{Contents}
+use Rattle.rules.proofs.Types.{Settings, Side, Putting, Taking, Phase, Idle, Window, QueuePutRead, QueueTakeRead, StackRead, Check, QueueCommit, StackCommit, QueueShift, StackShift, Confirm, Slot}
+use Rattle.rules.proofs.machine.Machine.{State, subIn, viewIn, phaseIn, applyIn, withSlot}
+use Rattle.rules.proofs.machine.Good.{Good}
+use Rattle.rules.proofs.machine.Turns.{Common, Kind}
+use Rattle.rules.proofs.queue.Inv.{Inv as QueueInv}
+use Rattle.rules.proofs.queue.Turn.{queueKind}
+use Rattle.rules.proofs.stack.Inv.{Inv as StackInv}
+use Rattle.rules.proofs.stack.Turn.{stackKind}
+use Rattle.rules.proofs.progress.Left.{due}
+use Rattle.rules.proofs.progress.Steps.{Measure, Result}
+use Rattle.rules.proofs.progress.QueueLeft.{putBase, takeBase, queueLeft}
+use Rattle.rules.proofs.progress.QueuePut.{put-window, put-read, put-commit, put-shift}
+use Rattle.rules.proofs.progress.QueueTake.{take-window, take-read, take-commit, take-shift, take-confirm}
+use Rattle.rules.proofs.progress.StackLeft.{stackBase, stackLeft}
+use Rattle.rules.proofs.progress.StackPass.{window-step, read-step, check-step, commit-step}
+use Rattle.rules.proofs.progress.StackShift.{shift-step, stack-confirm}
+
+-- a measure, which a begun operation has, and which each step of its worker's lowers, or else ends the operation
+pub record SoloLaw (g : Settings) (k : Kind g) (begun : Side → ℕ) : Type 1 where
+  pub Left : Measure
+  -- an idle worker has none, and another worker's slot does not matter
+  pub busy : (s : State) (n index : ℕ) → Left s n index Idle → ⊥
+  pub apart : (s : State) (j : ℕ) (x : Slot) (n index : ℕ) (p : Phase) → Left s n index p → Left (withSlot s j x) n index p
+  pub begins : (s : State) (q : Contents) → k .Inv s q → (index : ℕ) (side : Side) → Left s (begun side) index (Window side)
+  pub steps : (s : State) (q : Contents) → Common g s → k .Inv s q → (i n : ℕ) → Left s n (subIn s i) (phaseIn g s i)
+      → Result g Left s i n (applyIn g s i (ruleOf g (viewIn s i)))
+
+-- ---- the queue: a begun operation has one shift to come
+abbrev pub queueBegun : Settings → Side → ℕ
+queueBegun g Putting = due (g .width) putBase 1
+queueBegun g Taking = due (g .width) (takeBase g) 1
+
+module _ (g : Settings) (good : Good g) (kind : g .kind ≡ 0) where
+  queue-by : (s : State) (q : Contents) → Common g s → QueueInv g s q → (i n : ℕ) (p : Phase) → phaseIn g s i ≡ p → queueLeft g s n (subIn s i) p
+      → Result g (queueLeft g) s i n (applyIn g s i (ruleBy g (viewIn s i) p))
+  unfolding ruleBy
+  queue-by s q common inv i n Idle now x = absurd x
+  queue-by s q common inv i n (Window Putting) now x = put-window g good kind s q common inv i n x
+  queue-by s q common inv i n (Window Taking) now x = take-window g good kind s q common inv i n x
+  queue-by s q common inv i n (QueuePutRead window scan) now x = put-read g good kind s q common inv i n window scan now (x .0) (x .1)
+  queue-by s q common inv i n (QueueTakeRead window bare scan sum) now x = take-read g good kind s q common inv i n window bare scan sum now x
+  queue-by s q common inv i n (StackRead side window version scan sum) now x = absurd x
+  queue-by s q common inv i n (Check side version seen) now x = absurd x
+  queue-by s q common inv i n (QueueCommit Putting seen) now x = put-commit g good kind s q common inv i n seen now x
+  queue-by s q common inv i n (QueueCommit Taking seen) now x = take-commit g good kind s q common inv i n seen now x
+  queue-by s q common inv i n (StackCommit side seen) now x = absurd x
+  queue-by s q common inv i n (QueueShift Putting window) now x = put-shift g good kind s q common inv i n window (x .0) (x .1)
+  queue-by s q common inv i n (QueueShift Taking window) now x = take-shift g good kind s q common inv i n window (x .0) (x .1)
+  queue-by s q common inv i n (StackShift side version scan sum) now x = absurd x
+  queue-by s q common inv i n (Confirm Putting scan sum) now x = absurd x
+  queue-by s q common inv i n (Confirm Taking scan sum) now x = take-confirm g good kind s q common inv i n scan sum now x
+
+  queue-begins : (s : State) (index : ℕ) (side : Side) → queueLeft g s (queueBegun g side) index (Window side)
+  queue-begins s index Putting = record { shifts = 1; near = tt; left = le-refl _ }
+  queue-begins s index Taking = record { shifts = 1; near = tt; left = le-refl _ }
+
+  pub queueSolo : SoloLaw g (queueKind g good kind) (queueBegun g)
+  unfolding queueKind ruleOf
+  queueSolo =
+      record {
+        Left = queueLeft g;
+        busy = λ s n index x. x;
+        apart = λ s j x n index p left. left;
+        begins = λ s q inv index side. queue-begins s index side;
+        steps = λ s q common inv i n x. queue-by s q common inv i n (phaseIn g s i) refl x;
+      }
+
+-- ---- the stack: two shifts, since the corridor is d + s high
+abbrev pub stackBegun : Settings → Side → ℕ
+stackBegun g side = due (g .width) (stackBase g) 2
+
+module _ (g : Settings) (good : Good g) (kind : g .kind ≡ 1) where
+  stack-by : (s : State) (q : Contents) → Common g s → StackInv g s q → (i n : ℕ) (p : Phase) → phaseIn g s i ≡ p → stackLeft g s n (subIn s i) p
+      → Result g (stackLeft g) s i n (applyIn g s i (ruleBy g (viewIn s i) p))
+  unfolding ruleBy
+  stack-by s q common inv i n Idle now x = absurd x
+  stack-by s q common inv i n (Window side) now x = window-step g good kind s q common inv i n side x
+  stack-by s q common inv i n (QueuePutRead window scan) now x = absurd x
+  stack-by s q common inv i n (QueueTakeRead window bare scan sum) now x = absurd x
+  stack-by s q common inv i n (StackRead side window version scan sum) now x = read-step g good kind s q common inv i n side window version scan sum now x
+  stack-by s q common inv i n (Check side version seen) now x = check-step g good kind s q common inv i n side version seen x
+  stack-by s q common inv i n (QueueCommit side seen) now x = absurd x
+  stack-by s q common inv i n (StackCommit side seen) now x = commit-step g good kind s q common inv i n side seen now x
+  stack-by s q common inv i n (QueueShift side window) now x = absurd x
+  stack-by s q common inv i n (StackShift side version scan sum) now x = shift-step g good kind s q common inv i n version scan sum side now x
+  stack-by s q common inv i n (Confirm side scan sum) now x = stack-confirm g good kind s q common inv i n side scan sum now x
+
+  stack-begins : (s : State) (q : Contents) → StackInv g s q → (index : ℕ) (side : Side) → stackLeft g s (stackBegun g side) index (Window side)
+  stack-begins s q inv index Putting =
+      record {
+        shifts = 2;
+        near = λ j l. omega (arith, inv .pool .corridor .high j l, inv .pool .window .lo-window);
+        left = le-refl _;
+      }
+  stack-begins s q inv index Taking =
+      record {
+        shifts = 2;
+        near = λ j l. omega (arith, inv .pool .corridor .low j l, inv .pool .window .window-lo);
+        left = le-refl _;
+      }
+
+  pub stackSolo : SoloLaw g (stackKind g good kind) (stackBegun g)
+  unfolding stackKind ruleOf
+  stackSolo =
+      record {
+        Left = stackLeft g;
+        busy = λ s n index x. x;
+        apart = λ s j x n index p left. left;
+        begins = stack-begins;
+        steps = λ s q common inv i n x. stack-by s q common inv i n (phaseIn g s i) refl x;
+      }

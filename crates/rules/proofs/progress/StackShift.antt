@@ -1,0 +1,88 @@
+-- A stack's shift and confirm, its worker alone: the window moves one shift towards every sub; where it cannot move, the pass is confirmed.
+use mathlib.Core.Path.{_≡_, sym}
+use Prim.Native.Nat.{ℕ, zero, suc, _+_, _-_, _^_, _<_}
+use native.Mathlib.Omega.{arith}
+use lib.Dec.{eqb}
+use borrow.Author.Tests.{eqb-false}
+use Rattle.laws.specs.Choice.{cond-false, cases}
+use Rattle.laws.specs.Wrap.{add32, sub32}
+use Rattle.rules.specs.Effects.{movedOf}
+use Rattle.rules.specs.Shift.{stackShift, shiftBy, shiftedOf}
+use Rattle.rules.specs.Confirm.{counted, confirmRule}
+use Rattle.rules.specs.Sequential.{Contents}
+use Rattle.rules.proofs.Types.{Settings, Side, Putting, Taking, Window, StackShift, Confirm, Version, Effect}
+use Rattle.rules.proofs.counts.Sums.{sumN}
+use Rattle.rules.proofs.counts.Wraps.{add32-is, add32-suc, sub32-is}
+use Rattle.rules.proofs.machine.Machine.{State, subIn, viewIn, phaseIn, applyIn}
+use Rattle.rules.proofs.machine.Phases.{worker, stack-phase}
+use Rattle.rules.proofs.machine.Good.{Good}
+use Rattle.rules.proofs.machine.Turns.{Common}
+use Rattle.rules.proofs.stack.Inv.{sight, Shifting, Inv}
+use Rattle.rules.proofs.stack.After.{versions-few, window-ge, window-le}
+use Rattle.rules.proofs.progress.Clean.{rest-start}
+use Rattle.rules.proofs.progress.Left.{shift-window, shift-confirm, shift-left}
+use Rattle.rules.proofs.progress.Steps.{Result, shifts-on}
+use Rattle.rules.proofs.progress.Confirm.{AtConfirm, confirm-step}
+use Rattle.rules.proofs.progress.StackLeft.{shifted, Away, Shifts, stackLeft, stack-on}
+
+module _ (g : Settings) (good : Good g) (kind : g .kind ≡ 1) (s : State) (q : Contents) (common : Common g s) (inv : Inv g s q) (i n : ℕ) where
+  abbrev Steps : Effect → Type 0
+  Steps e = Result g (stackLeft g) s i n (applyIn g s i e)
+
+  abbrev j : ℕ
+  j = subIn s i
+
+  index : j < g .width
+  index = common .slots i .index
+
+  module _ (version : Version) (scan sum : ℕ) where
+    -- a shift brings every sub nearer by one
+    nearer : (side : Side) (c k : ℕ) → Away g side (s .top) c (suc k) → Away g side (shifted g side (s .top)) c k
+    nearer Putting c zero h = omega (arith, good .bounds .shift1)
+    nearer Taking c zero h =
+        omega (arith, good .bounds .shift1, good .bounds .depth1, good .bounds .shift-depth, window-ge (inv .pool))
+    nearer Putting c (suc k) h = h
+    nearer Taking c (suc k) h = h
+
+    moved : (side : Side) → Shifts g (sight s) n side j (version .0) sum → Steps (shiftedOf (viewIn s i) side (shifted g side (s .top)) (suc (s .mark)))
+    moved side a =
+        shifts-on g (stackLeft g) s i n side (shifted g side (s .top)) (suc (s .mark)) (stack-phase g kind (worker (s .slot i .value) j (Window side)) tt (s .slot i))
+        (shift-left (a .left)) (shift-window (a .left) (λ k near m l. nearer side (s .first m) k (near m l)))
+
+    to-confirm : (side : Side) → phaseIn g s i ≡ StackShift side version scan sum → Shifts g (sight s) n side j (version .0) sum
+        → Steps (movedOf (viewIn s i) j (Confirm side scan sum) (s .slot i))
+    to-confirm side now a =
+        let knows : Shifting g (sight s) (inv .ghost) side (version .0) j scan sum = rw now at (inv .knows i) in
+        let start : scan ≡ 0 = knows .scan-is in
+        stack-on g kind s i n j (Confirm side scan sum) tt _ (shift-left (a .left))
+        (record { rest = rw start (rest-start index (a .clean)); left = omega (arith, shift-confirm (a .left) (omega arith), shift-left (a .left)) })
+
+    mark-is : add32 (s .mark) 1 ≡ suc (s .mark)
+    mark-is = add32-suc (s .mark) (omega (arith, versions-few (inv .pool)))
+
+    pub shift-step : (side : Side) → phaseIn g s i ≡ StackShift side version scan sum → Shifts g (sight s) n side j (version .0) sum
+        → Steps (stackShift g (viewIn s i) side version scan sum)
+    unfolding stackShift shiftBy
+    shift-step Putting now a =
+        let up : add32 (s .top) (g .shift) ≡ s .top + g .shift =
+        add32-is (s .top) (g .shift) (omega (arith, window-le (inv .pool), good .bounds)) in
+        rw (up, mark-is)
+        (cases Steps (eqb (s .mark) (version .0)) _ _
+        (λ t. cases Steps _ _ _ (λ u. moved Putting a) (λ u. to-confirm Putting now a))
+        (λ t. absurd (eqb-false _ _ t (sym (a .version-is)))))
+    shift-step Taking now a =
+        let down : sub32 (s .top) (g .shift) ≡ s .top - g .shift =
+        sub32-is (s .top) (g .shift) (omega (arith, window-ge (inv .pool), good .bounds)) (omega (arith, window-le (inv .pool), good .bounds)) in
+        rw (down, mark-is)
+        (cases Steps (eqb (s .mark) (version .0)) _ _
+        (λ t. cases Steps _ _ _ (λ u. moved Taking a) (λ u. to-confirm Taking now a))
+        (λ t. absurd (eqb-false _ _ t (sym (a .version-is)))))
+
+  pub stack-confirm : (side : Side) (scan sum : ℕ) → phaseIn g s i ≡ Confirm side scan sum → AtConfirm (g .width) (s .second) n j scan sum
+      → Steps (confirmRule g (viewIn s i) side scan sum)
+  stack-confirm side scan sum now a =
+      let read : counted g (viewIn s i) ≡ s .second j = rw kind (cond-false _ _) in
+      let few : sumN (s .second) (g .width) < 2 ^ 32 = omega (arith, versions-few (inv .pool)) in
+      let scan-lt : scan < g .width = rw now at (inv .knows i) in
+      confirm-step g good (stackLeft g) s i n side (s .second) read few index
+      (λ x m t. stack-phase g kind (worker (s .slot i .value) x (Confirm side m t)) tt (s .slot i)) (λ x m t c. c) scan sum scan-lt a

@@ -1,0 +1,83 @@
+-- A step of a worker that steps alone, for either kind. A measure says of a state, a number n, an index and a phase that a worker there
+-- makes at most n more steps before the one that gives its final answer. A step gives that answer, or it goes on with one less.
+use mathlib.Core.Path.{_≡_, refl, sym, subst}
+use Prim.Native.Nat.{ℕ, suc, _-_, _≤_, _<_}
+use native.Mathlib.Omega.{arith}
+use lib.Dec.{ltb}
+use borrow.Author.Tests.{ltb-true, ltb-false}
+use Rattle.laws.specs.Choice.{cases}
+use Rattle.laws.specs.Wrap.{add32}
+use Rattle.rules.specs.Answers.{numberOf}
+use Rattle.rules.specs.Worker.{phaseOf, encode}
+use Rattle.rules.specs.Effects.{movedOf, finishedOf, nothingFor, nextOf}
+use Rattle.rules.specs.Read.{missOf}
+use Rattle.rules.specs.Shift.{shiftedOf}
+use Rattle.rules.specs.Run.{Final}
+use Rattle.rules.proofs.Types.{Settings, Side, Putting, Taking, Phase, Window, Slot, View, Effect}
+use Rattle.rules.specs.declared.Answer.the-variants.{Moving}
+use Rattle.rules.proofs.counts.Sums.{upd-same}
+use Rattle.rules.proofs.counts.Wraps.{add32-suc}
+use Rattle.rules.proofs.order.Law.{Next}
+use Rattle.rules.proofs.order.Gives.{final-empty, final-full}
+use Rattle.rules.proofs.machine.Machine.{State, next, subIn, viewIn, phaseIn, applyIn, applyInBy, turnedIn, apply-moved, apply-shifted}
+use Rattle.rules.proofs.machine.Phases.{worker, encode-index}
+use Rattle.rules.proofs.machine.Good.{Good}
+
+abbrev pub Measure : Type 1
+Measure = State → ℕ → ℕ → Phase → Type 0
+
+-- worker i's slot, as a step writes it that goes on to phase p at an index
+abbrev pub written : State → ℕ → ℕ → Phase → Slot → Slot
+written s i index p kept = encode (worker (s .slot i .value) index p) kept
+
+module _ (g : Settings) (M : Measure) (s : State) (i n : ℕ) where
+  -- a step that gives no final answer
+  pub record Goes (o : Next State) : Type 0 where
+    pub answer : numberOf (o .answer) ≡ 0
+    pub steps : o .state .steps ≡ suc (s .steps)
+    pub some : 1 ≤ n
+    pub left : M (o .state) (n - 1) (subIn (o .state) i) (phaseIn g (o .state) i)
+
+  pub data Result (o : Next State) : Type 0 where
+    finishes : Final (o .answer) → Result o
+    goes : Goes o → Result o
+
+  -- ---- on to phase p at an index: nothing that is shared changes, or the window words do
+  module _ (top mark index : ℕ) (p : Phase) (kept : Slot) (back : phaseOf (g .kind) (written s i index p kept) ≡ p) (some : 1 ≤ n) where
+    turned-on : M (turnedIn s i top mark (written s i index p kept)) (n - 1) index p → Result (next Moving (turnedIn s i top mark (written s i index p kept)))
+    turned-on left =
+        let x : Slot = written s i index p kept in
+        let t : State = turnedIn s i top mark x in
+        let there : M t (n - 1) (x .index) p = subst (λ (m : ℕ). M t (n - 1) m p) (sym (encode-index (worker (s .slot i .value) index p) kept)) left in
+        let in-slot : M t (n - 1) (x .index) (phaseOf (g .kind) x) = subst (λ (r : Phase). M t (n - 1) (x .index) r) (sym back) there in
+        goes (record {
+          answer = refl;
+          steps = refl;
+          some = some;
+          left = subst (λ (y : Slot). M t (n - 1) (y .index) (phaseOf (g .kind) y)) (sym (upd-same (s .slot) i x)) in-slot;
+        })
+
+  pub moves-on : (index : ℕ) (p : Phase) (kept : Slot) → phaseOf (g .kind) (written s i index p kept) ≡ p → 1 ≤ n
+      → M (turnedIn s i (s .top) (s .mark) (written s i index p kept)) (n - 1) index p → Result (applyIn g s i (movedOf (viewIn s i) index p kept))
+  moves-on index p kept back some left = rw (apply-moved g s i index p kept) (turned-on (s .top) (s .mark) index p kept back some left)
+
+  pub shifts-on : (side : Side) (top mark : ℕ) → phaseOf (g .kind) (written s i (subIn s i) (Window side) (s .slot i)) ≡ Window side → 1 ≤ n
+      → M (turnedIn s i top mark (written s i (subIn s i) (Window side) (s .slot i))) (n - 1) (subIn s i) (Window side)
+      → Result (applyIn g s i (shiftedOf (viewIn s i) side top mark))
+  shifts-on side top mark back some left =
+      rw (apply-shifted g s i side top mark) (turned-on top mark (subIn s i) (Window side) (s .slot i) back some left)
+
+  -- ---- the answer of a pass that found no place
+  pub finds-nothing : (side : Side) (index : ℕ) → Result (applyIn g s i (finishedOf (viewIn s i) (nothingFor side) index))
+  unfolding applyIn applyInBy
+  finds-nothing Putting index = finishes final-full
+  finds-nothing Taking index = finishes final-empty
+
+-- ---- a miss: the pass goes on, or it has read every sub
+pub miss-cases : (g : Settings) → Good g → (v : View) (P : Effect → Type 0) (scan : ℕ) (again : ℕ → Phase) (after : Phase) (kept : Slot) → scan < g .width
+    → (suc scan < g .width → P (movedOf v (nextOf g (v .slot .index)) (again (suc scan)) kept))
+    → (suc scan ≡ g .width → P (movedOf v (nextOf g (v .slot .index)) after kept)) → P (missOf g v scan (again (add32 scan 1)) after kept)
+unfolding missOf
+miss-cases g good v P scan again after kept l on end =
+    rw (add32-suc scan (omega (arith, good .bounds .width16)))
+    (cases P (ltb (suc scan) (g .width)) _ _ (λ b. on (ltb-true _ _ b)) (λ b. end (omega (arith, ltb-false (suc scan) (g .width) b))))
