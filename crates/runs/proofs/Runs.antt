@@ -1,4 +1,4 @@
--- Every row of both tables holds: the rules are run, and each line compared with the row's. That a row's `made` is make's number
+-- Every row of the tables holds: the rules are run, and each line compared with the row's. That a row's `made` is make's number
 -- whatever the lent words hold is `make-number`: it depends on the settings and on how many words are lent alone, so the large
 -- settings are judged by their size.
 use Prim.Native.Nat.{ℕ}
@@ -25,7 +25,8 @@ use Rattle.rules.specs.Confirm.{confirmedOf, confirmRule}
 use Rattle.rules.specs.Held.{itemsAbove, heldSub, heldBelow, countItems, distanceOf}
 use Rattle.rules.specs.Apply.{putItem, putSub, putLanded, putShifted, putWorker, takenOf, applyBy, applyOf}
 use Rattle.rules.specs.Step.{ruleBy, ruleOf, slotStep, fitStep, checkedStep, stepOf}
-use Rattle.rules.specs.Sequential.{mostPassed, leastFull}
+use Rattle.rules.specs.Sequential.{putting, taking, mostPassed, leastFull}
+use Rattle.rules.specs.Solo.{soloSteps}
 use Rattle.rules.specs.Newer.{k14Bound, frameworkBound, thesisBound, exactBound}
 use Rattle.rules.specs.Run.{callOf, run}
 use Rattle.rules.specs.declared.Settings.{Settings}
@@ -34,6 +35,7 @@ use Rattle.runs.specs.Rows.{makeNumber, linesOf, runOf, AllHold, end, _a
 use Rattle.runs.specs.Notation.{queue, stack}
 use Rattle.runs.specs.Table.{table}
 use Rattle.runs.specs.Extremes.{extremes}
+use Rattle.runs.specs.Solos.{solos}
 
 pub make-number : (ws : List ℕ) (g : Settings) → numberOf (makeOf ws g .answer) ≡ makeNumber g (length ws)
 unfolding makeOf makeNumber cond
@@ -44,8 +46,8 @@ make-number ws g = go (settingsFit g) (ltb (length ws) (needed g))
     go true false = refl
     go false b = refl
 
-pub runs-hold : AllHold table × AllHold extremes
-unfolding table extremes runOf linesOf makeNumber settingsFit run callOf cond allBelow slotAt putSlot queuePhase stackPhase phaseOf decode encode encodePhase headFit subFit subsFit phaseFit wordFit workersFit bodyChecked checkedOf zeroed indexed madeWords makeOf slotBegin fitBegin checkedBegin beginOf viewOf nextOf windowRule missOf queuePutRead queueTakeRead stackRead checkRule commitBy queueCommit stackCommit shiftBy queueShift stackShift confirmedOf confirmRule itemsAbove heldSub heldBelow countItems distanceOf putItem putSub putLanded putShifted putWorker takenOf applyBy applyOf ruleBy ruleOf slotStep fitStep checkedStep stepOf
+pub runs-hold : AllHold table × AllHold extremes × AllHold solos
+unfolding table extremes solos runOf linesOf makeNumber settingsFit run callOf cond allBelow slotAt putSlot queuePhase stackPhase phaseOf decode encode encodePhase headFit subFit subsFit phaseFit wordFit workersFit bodyChecked checkedOf zeroed indexed madeWords makeOf slotBegin fitBegin checkedBegin beginOf viewOf nextOf windowRule missOf queuePutRead queueTakeRead stackRead checkRule commitBy queueCommit stackCommit shiftBy queueShift stackShift confirmedOf confirmRule itemsAbove heldSub heldBelow countItems distanceOf putItem putSub putLanded putShifted putWorker takenOf applyBy applyOf ruleBy ruleOf slotStep fitStep checkedStep stepOf
 runs-hold = (
   record { made = refl; lines = refl }
       also record { made = refl; lines = refl }
@@ -63,6 +65,12 @@ runs-hold = (
   record { made = refl; lines = refl }
       also record { made = refl; lines = refl }
       also record { made = refl; lines = refl }
+      also record { made = refl; lines = refl }
+      also record { made = refl; lines = refl }
+      also record { made = refl; lines = refl }
+      also record { made = refl; lines = refl }
+      also end,
+  record { made = refl; lines = refl }
       also record { made = refl; lines = refl }
       also record { made = refl; lines = refl }
       also record { made = refl; lines = refl }
@@ -90,3 +98,10 @@ figures-reached = (
   record { framework-is = refl; exact-is = refl; thesis-is = refl; k14-is = refl },
   record { framework-is = refl; exact-is = refl; thesis-is = refl; k14-is = refl },
 )
+
+-- and K3's, for the last operation of each
+pub solo-reached :
+    (soloSteps (queue 2 1 2 1) (putting 3) ≡ 7) × (soloSteps (queue 2 1 2 2) taking ≡ 9)
+    × (soloSteps (stack 2 1 1 4 2) (putting 5) ≡ 12) × (soloSteps (stack 2 1 1 4 2) taking ≡ 12) × (soloSteps (stack 5 1 1 2 6) taking ≡ 19)
+unfolding cond
+solo-reached = (refl, refl, refl, refl, refl)

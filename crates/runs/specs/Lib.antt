@@ -2,3 +2,4 @@ pub mod Rows
 pub mod Notation
 pub mod Table
 pub mod Extremes
+pub mod Solos

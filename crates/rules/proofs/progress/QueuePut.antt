@@ -93,13 +93,16 @@ module _ (g : Settings) (good : Good g) (kind : g .kind ≡ 0) (s : State) (q : 
 
   -- the window moves, and every sub is below it; or there is no room, which is the answer
   module _ (window : ℕ) (fresh : window ≡ s .top) (a : AtShift (g .width) putBase NearBy n) where
-    nearer : (k : ℕ) → NearBy (suc k) → Near g (s .top + g .depth) put k
+    abbrev raised : ℕ
+    raised = s .top + g .depth
+
+    nearer : (k : ℕ) → NearBy (suc k) → Near g raised put k
     nearer zero near = λ m l. omega (arith, inv .pool .windows .put-le m l, good .bounds .depth1)
     nearer (suc k) near = tt
 
-    moved : Steps (shiftedOf (viewIn s i) Putting (s .top + g .depth) (s .mark))
+    moved : Steps (shiftedOf (viewIn s i) Putting raised (s .mark))
     moved =
-        shifts-on g (queueLeft g) s i n Putting (s .top + g .depth) (s .mark) (queue-phase g kind (worker (s .slot i .value) j (Window Putting)) tt (s .slot i))
+        shifts-on g (queueLeft g) s i n Putting raised (s .mark) (queue-phase g kind (worker (s .slot i .value) j (Window Putting)) tt (s .slot i))
         (shift-left a) (shift-window a nearer)
 
     pub put-shift : Steps (queueShift g (viewIn s i) Putting window)

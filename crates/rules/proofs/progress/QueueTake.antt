@@ -122,13 +122,16 @@ module _ (g : Settings) (good : Good g) (kind : g .kind ≡ 0) (s : State) (q : 
 
   -- the window moves, and every sub is below it; or it is the put window, which is the answer
   module _ (window : ℕ) (fresh : window ≡ s .mark) (a : AtShift (g .width) (takeBase g) NearBy n) where
-    nearer : (k : ℕ) → NearBy (suc k) → Near g (s .mark + g .depth) taken k
+    abbrev raised : ℕ
+    raised = s .mark + g .depth
+
+    nearer : (k : ℕ) → NearBy (suc k) → Near g raised taken k
     nearer zero near = λ m l. omega (arith, inv .pool .windows .taken-le m l, good .bounds .depth1)
     nearer (suc k) near = tt
 
-    moved : Steps (shiftedOf (viewIn s i) Taking (s .top) (s .mark + g .depth))
+    moved : Steps (shiftedOf (viewIn s i) Taking (s .top) raised)
     moved =
-        shifts-on g (queueLeft g) s i n Taking (s .top) (s .mark + g .depth) (queue-phase g kind (worker (s .slot i .value) j (Window Taking)) tt (s .slot i))
+        shifts-on g (queueLeft g) s i n Taking (s .top) raised (queue-phase g kind (worker (s .slot i .value) j (Window Taking)) tt (s .slot i))
         (shift-left a) (shift-window a nearer)
 
     pub take-shift : Steps (queueShift g (viewIn s i) Taking window)
