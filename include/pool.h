@@ -58,6 +58,16 @@ extern "C" {
 #define POOL_WORDS(width, rows, workers) (12u + 2u * (width) + 8u * (workers) + 2u * (width) * (rows))
 
 /*
+ * How many steps to reserve for an operation whose worker alone steps from its begin on, wherever the others have stopped, in a pool
+ * from pool_make: with so many left in the step count none of its steps is refused, and the last of them at the latest answers 1 to 4.
+ * The first is enough for every operation; the others are the closest by kind and side. Proved: crates/rules/specs/Solo.antt.
+ */
+#define POOL_STEPS_ALONE(width) (3u * (width) + 8u)
+#define POOL_STEPS_ALONE_QUEUE_PUT(width) ((width) + 5u)
+#define POOL_STEPS_ALONE_QUEUE_TAKE(width) (3u * (width) + 3u)
+#define POOL_STEPS_ALONE_STACK(width) ((width) < 4u ? 2u * (width) + 8u : 3u * (width) + 4u)
+
+/*
  * Makes a new pool in the lent words. Limits: kind 0 or 1, width 1 to 16, depth 1 to 64, shift 1 to depth (a queue has
  * shift = depth), rows from 2 * depth to 1,024 (in a queue a multiple of depth), workers 1 to 32, width * rows at most 4,096.
  * Words beyond the needed ones are not touched, by this call or any other.
