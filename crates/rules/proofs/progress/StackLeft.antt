@@ -2,10 +2,9 @@
 --
 -- Its reads are all fresh: it saw the present window and its version, and the versions that its pass read are still so; no check and no
 -- commit of its own fails. It shifts at most twice, in one direction. For the corridor (stack/Inv) is d + s high: a put finds no sub more
--- than s above its window, and a take none more than s below its window - d. One shift later no sub is beyond the window's end, so the
--- next shift makes every sub a hit. That is 2 (w + 2) steps, and then 3 before the final one: window, read, check. Or a pass ends in
--- confirm, at a window that cannot move: that is at most one shift, and window, w reads, shift and w - 1 confirms, no more than w - 1
--- in place of those 3.
+-- than s above its window, and a take none more than s below its window - d. A shift later no sub is beyond the window's end, and after
+-- one more every sub is a hit. That is 2 (w + 2) steps, and 3 more before the final one: window, read, check. Or, after at most one shift,
+-- the window cannot move: then that pass of w + 2 steps ends in confirm, and w - 1 confirms come before the final one in place of the 3.
 --
 --   window      b, w + 2 + b or 2w + 4 + b, by the shifts to come; b is the greater of 3 and w - 1
 --   read        one less, and less by scan; shift b + 1 or w + 3 + b; check 1, commit 0, confirm w - 1 - scan
