@@ -15,16 +15,16 @@ use Rattle.rules.specs.Worker.{fresh, zeroSlot, phaseOf}
 use Rattle.rules.specs.Sequential.{Contents}
 use Rattle.rules.specs.Run.{Call, beginPut, beginTake, step, callOf, Event, run, Final}
 use Rattle.rules.specs.Solo.{Solo}
-use Rattle.rules.proofs.Types.{Settings, Side, Putting, Taking, Phase, Window, Slot}
+use Rattle.rules.proofs.Types.{Settings, Side, Putting, Taking, Window, Slot}
 use Rattle.rules.specs.declared.Answer.the-variants.{Moving}
 use Rattle.rules.proofs.counts.Sums.{upd-same, upd-other}
 use Rattle.rules.proofs.order.Law.{Next}
 use Rattle.rules.proofs.machine.Machine.{State, next, subIn, phaseIn, nextIn, beginIn}
-use Rattle.rules.proofs.machine.Phases.{worker, idle-phase, window-phase, encode-index}
+use Rattle.rules.proofs.machine.Phases.{worker, idle-phase, window-phase}
 use Rattle.rules.proofs.machine.Calls.{Called, refuses, does, able-does, Begins, step-called, begun, begin-called}
 use Rattle.rules.proofs.machine.Turns.{Common, Kind, refused-same}
 use Rattle.rules.proofs.Transfer.{Related, next-related}
-use Rattle.rules.proofs.progress.Steps.{Result, finishes, goes}
+use Rattle.rules.proofs.progress.Steps.{at-slot, Result, finishes, goes}
 use Rattle.rules.proofs.progress.Law.{SoloLaw}
 
 -- worker i's operation is open, and makes at most n of its steps before the final one, as far as the events go
@@ -121,13 +121,9 @@ module _ (g : Settings) (k : Kind g) {most : Side → ℕ} (law : SoloLaw g k mo
     begun-left : (s : State) (q : Contents) → k .Inv s q → (i : ℕ) (side : Side) (v : ℕ) → LeftIn (begun s i side v) (most side) i
     begun-left s q inv i side v =
         let x : Slot = fresh v (subIn s i) (Window side) in
-        let t : State = begun s i side v in
-        let start : law .Left t (most side) (subIn s i) (Window side) = law .apart s i x (most side) (subIn s i) (Window side) (law .begins s q inv (subIn s i) side) in
-        let there : law .Left t (most side) (x .index) (Window side) =
-        subst (λ (m : ℕ). law .Left t (most side) m (Window side)) (sym (encode-index (worker v (subIn s i) (Window side)) zeroSlot)) start in
-        let in-slot : law .Left t (most side) (x .index) (phaseOf (g .kind) x) =
-        subst (λ (p : Phase). law .Left t (most side) (x .index) p) (sym (window-phase (g .kind) side v (subIn s i) zeroSlot)) there in
-        subst (λ (y : Slot). law .Left t (most side) (y .index) (phaseOf (g .kind) y)) (sym (upd-same (s .slot) i x)) in-slot
+        at-slot g (law .Left) (begun s i side v) i (most side) (worker v (subIn s i) (Window side)) zeroSlot (upd-same (s .slot) i x)
+        (window-phase (g .kind) side v (subIn s i) zeroSlot)
+        (law .apart s i x (most side) (subIn s i) (Window side) (law .begins s q inv (subIn s i) side))
 
     pub begun-ends : {ws : List ℕ} {s : State} → Rel ws s → (i : ℕ) (side : Side) (v : ℕ) (c : Call)
         → nextIn g s c ≡ beginIn g s i side v → numberOf (callOf ws c .answer) ≡ 0

@@ -13,7 +13,7 @@ use Rattle.rules.specs.Effects.{movedOf, finishedOf, nothingFor, nextOf}
 use Rattle.rules.specs.Read.{missOf}
 use Rattle.rules.specs.Shift.{shiftedOf}
 use Rattle.rules.specs.Run.{Final}
-use Rattle.rules.proofs.Types.{Settings, Side, Putting, Taking, Phase, Window, Slot, View, Effect}
+use Rattle.rules.proofs.Types.{Settings, Side, Putting, Taking, Phase, Window, Worker, Slot, View, Effect}
 use Rattle.rules.specs.declared.Answer.the-variants.{Moving}
 use Rattle.rules.proofs.counts.Sums.{upd-same}
 use Rattle.rules.proofs.counts.Wraps.{add32-suc}
@@ -25,6 +25,15 @@ use Rattle.rules.proofs.machine.Good.{Good}
 
 abbrev pub Measure : Type 1
 Measure = State → ℕ → ℕ → Phase → Type 0
+
+-- the measure of a worker whose slot was just written
+pub at-slot : (g : Settings) (M : Measure) (t : State) (i n : ℕ) (k : Worker) (kept : Slot) → t .slot i ≡ encode k kept
+    → phaseOf (g .kind) (encode k kept) ≡ k .phase → M t n (k .index) (k .phase) → M t n (subIn t i) (phaseIn g t i)
+at-slot g M t i n k kept slot back left =
+    let x : Slot = encode k kept in
+    let there : M t n (x .index) (k .phase) = subst (λ (m : ℕ). M t n m (k .phase)) (sym (encode-index k kept)) left in
+    let in-phase : M t n (x .index) (phaseOf (g .kind) x) = subst (λ (p : Phase). M t n (x .index) p) (sym back) there in
+    subst (λ (y : Slot). M t n (y .index) (phaseOf (g .kind) y)) (sym slot) in-phase
 
 -- worker i's slot, as a step writes it that goes on to phase p at an index
 abbrev pub written : State → ℕ → ℕ → Phase → Slot → Slot
@@ -47,14 +56,11 @@ module _ (g : Settings) (M : Measure) (s : State) (i n : ℕ) where
     turned-on : M (turnedIn s i top mark (written s i index p kept)) (n - 1) index p → Result (next Moving (turnedIn s i top mark (written s i index p kept)))
     turned-on left =
         let x : Slot = written s i index p kept in
-        let t : State = turnedIn s i top mark x in
-        let there : M t (n - 1) (x .index) p = subst (λ (m : ℕ). M t (n - 1) m p) (sym (encode-index (worker (s .slot i .value) index p) kept)) left in
-        let in-slot : M t (n - 1) (x .index) (phaseOf (g .kind) x) = subst (λ (r : Phase). M t (n - 1) (x .index) r) (sym back) there in
         goes (record {
           answer = refl;
           steps = refl;
           some = some;
-          left = subst (λ (y : Slot). M t (n - 1) (y .index) (phaseOf (g .kind) y)) (sym (upd-same (s .slot) i x)) in-slot;
+          left = at-slot g M (turnedIn s i top mark x) i (n - 1) (worker (s .slot i .value) index p) kept (upd-same (s .slot) i x) back left;
         })
 
   pub moves-on : (index : ℕ) (p : Phase) (kept : Slot) → phaseOf (g .kind) (written s i index p kept) ≡ p → 1 ≤ n
