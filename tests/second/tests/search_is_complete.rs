@@ -3,7 +3,7 @@
 
 mod common;
 
-use common::{put_answer, queue, stack, taken_answer};
+use common::{put_answer, queue, stack, taken_answer, Numbers};
 use second::phase::Side;
 use second::{distance_bound, full_bound, worst_distance};
 use second::{one_at_a_time, Answer, Event, Settings};
@@ -16,18 +16,6 @@ struct Planned {
     value: u32,
     steps: Vec<usize>,
     answer: Answer,
-}
-
-struct Numbers(u64);
-
-impl Numbers {
-    fn below(&mut self, n: usize) -> usize {
-        self.0 = self
-            .0
-            .wrapping_mul(6364136223846793005)
-            .wrapping_add(1442695040888963407);
-        (self.0 >> 33) as usize % n
-    }
 }
 
 /// The settings, and how many items a take may pass over.

@@ -1,5 +1,8 @@
-//! Shortcuts over the four calls.
+//! Shortcuts over the four calls, and what more than one test needs.
 #![allow(dead_code)]
+
+pub mod normal;
+pub mod states;
 
 use second::{begin_put, begin_take, make, step, Answer, Settings, MOVING, QUEUE, STACK};
 
@@ -71,5 +74,18 @@ pub fn taken_answer(value: u32, sub: u32, row: u32, stamp: u32, distance: u32) -
         row,
         stamp,
         distance,
+    }
+}
+
+/// A small repeatable source of numbers.
+pub struct Numbers(pub u64);
+
+impl Numbers {
+    pub fn below(&mut self, n: usize) -> usize {
+        self.0 = self
+            .0
+            .wrapping_mul(6364136223846793005)
+            .wrapping_add(1442695040888963407);
+        (self.0 >> 33) as usize % n
     }
 }

@@ -1,0 +1,39 @@
+//! Every state that a small pool can come to from make, in runs of any length.
+
+use super::made;
+use super::normal::normal;
+use second::{begin_put, begin_take, step, Answer, Settings, BUSY, IDLE};
+use std::collections::HashSet;
+
+/// A worker's calls; a put's value bears on no state.
+pub const CALLS: [fn(&mut [u32], u32) -> Answer; 3] = [
+    |words, worker| begin_put(words, worker, 0),
+    begin_take,
+    step,
+];
+
+/// Looks at each state once, in its normal words; how many there are.
+pub fn every_state(settings: Settings, mut look: impl FnMut(&[u32])) -> usize {
+    let first = normal(&made(settings));
+    let mut known = HashSet::from([first.clone()]);
+    let mut ahead = vec![first];
+    while let Some(words) = ahead.pop() {
+        look(&words);
+        for worker in 0..settings.workers {
+            for call in CALLS {
+                let mut after = words.clone();
+                let answer = call(&mut after, worker);
+                if answer.is_refusal() {
+                    assert!([BUSY, IDLE].contains(&answer.number), "{answer:?}");
+                    continue;
+                }
+                let after = normal(&after);
+                if !known.contains(&after) {
+                    known.insert(after.clone());
+                    ahead.push(after);
+                }
+            }
+        }
+    }
+    known.len()
+}
