@@ -1,6 +1,7 @@
 //! Shortcuts over the four calls, and what more than one test needs.
 #![allow(dead_code)]
 
+pub mod lone;
 pub mod normal;
 pub mod states;
 
