@@ -3,21 +3,21 @@
 
 use super::from_make::FromMake;
 use crate::failure::Failure;
-use crate::make_up::script::Script;
 use crate::make_up::settings::of_script;
+use crate::make_up::worst_distance;
 use crate::rng::Rng;
 use crate::side_by_side::Checks;
-use second::{worst_distance, Answer, MOVING, TAKEN};
+use second::{Answer, MOVING, TAKEN};
 
 pub fn run(rng: &mut Rng, checks: &mut Checks) -> Result<(), Failure> {
     let settings = of_script(rng);
     let mut run = FromMake::new("script", rng, settings, checks)?;
-    let mut script = Script::new(settings);
+    let mut script = worst_distance::script(settings);
     let mut last = Answer::of(MOVING);
     while let Some(call) = script.next(rng, run.words()) {
         last = run.call(call, checks)?;
     }
-    let worst = worst_distance(&settings);
+    let worst = second::worst_distance(&settings);
     if last.number != TAKEN || last.distance != worst {
         return Err(run.said(&format!("it ends with {last:?}, not at distance {worst}")));
     }

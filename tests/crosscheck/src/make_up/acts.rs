@@ -19,6 +19,7 @@ pub enum Until {
     },
     /// The worker stands before this stage.
     Before(Stage),
+    /// P or G.
     WindowIs(u32),
     Idle,
 }
@@ -48,17 +49,16 @@ pub fn takes(worker: u32, until: Until) -> Act {
 
 impl Act {
     pub fn is_over(&self, workers: &Workers) -> bool {
-        let window = workers.stack_window().expect("a script is for a stack");
+        let window = workers.put_window();
         let last = workers.settings.width - 1;
-        let full = |subs: u32| (0..subs).all(|j| workers.held(j) == window);
+        let full = |subs: u32| (0..subs).all(|j| workers.top_row(j) == window);
         match self.until {
             Until::AllFull => full(last + 1),
             Until::OthersFull => full(last),
-            Until::LastHolds(items) => workers.held(last) == items,
+            Until::LastHolds(items) => workers.top_row(last) == items,
             Until::NextIsInLast { row } => {
-                let out_of_reach = window - workers.settings.depth;
                 let mut on_its_way = workers.index(self.worker)..last;
-                on_its_way.all(|j| workers.held(j) <= out_of_reach) && workers.held(last) == row
+                on_its_way.all(|j| workers.in_reach(j) == 0) && workers.top_row(last) == row
             }
             Until::Before(stage) => workers.stage(self.worker) == Some((self.side, stage)),
             Until::WindowIs(wanted) => window == wanted,

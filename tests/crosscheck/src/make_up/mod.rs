@@ -10,3 +10,4 @@ pub mod script;
 pub mod settings;
 mod turns;
 mod workers;
+pub mod worst_distance;

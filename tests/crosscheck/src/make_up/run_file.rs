@@ -1,8 +1,8 @@
 //! Run files, whole and damaged (paper 01, The run file and its listing).
 
 use super::schedule::{Numbers, Schedule};
-use super::script::Script;
 use super::settings::{any, of_script, within, Size};
+use super::worst_distance;
 use crate::rng::Rng;
 use second::Settings;
 use sides::{Call, SECOND};
@@ -19,7 +19,7 @@ pub fn whole(rng: &mut Rng) -> Vec<u8> {
 /// A run whose distances may come up to the worst one.
 fn scripted_file(rng: &mut Rng) -> Vec<u8> {
     let settings = of_script(rng);
-    let mut script = Script::new(settings);
+    let mut script = worst_distance::script(settings);
     of_run(settings, |words| script.next(rng, words))
 }
 

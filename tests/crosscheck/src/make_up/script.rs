@@ -1,31 +1,12 @@
-//! A script that brings a take of any stack to its worst distance. Two workers
-//! play it; any others never step.
-//!
-//! The taker comes to stand before the commit that takes one item of the last
-//! sub, x. The filler then moves the window up once more and fills the other
-//! subs. It starts at sub 0 and never comes to the last one, so the commit
-//! still succeeds; and the other subs were empty once with x in its place, so
-//! all that they hold is newer.
-//!
-//! How far up the window comes is the whole art. A take comes to x only while
-//! x is above G - d. So x is put as high as can be beside empty subs, in row
-//! d + s, and the window goes up while x stays in reach and another shift is
-//! left for the end. With rows for one shift alone, that is the one for the
-//! end, and x is in row d.
+//! A script: acts one after the other.
 
-use super::acts::{puts, takes, Act, Until};
+use super::acts::Act;
 use super::workers::Workers;
 use crate::rng::Rng;
-use second::phase::Stage;
 use second::Settings;
 use sides::Call;
 use std::iter::Peekable;
 use std::vec::IntoIter;
-
-/// From make it stands at sub 0.
-const FILLER: u32 = 0;
-/// From make it stands at sub 1: the first time, it fills sub 0 last.
-const TAKER: u32 = 1;
 
 /// No script has this many calls for each needed word; one that has is stuck.
 const PATIENCE: usize = 20;
@@ -37,17 +18,16 @@ pub struct Script {
 }
 
 impl Script {
-    /// Of a stack with two workers or more.
-    pub fn new(settings: Settings) -> Script {
+    pub fn new(settings: Settings, acts: Vec<Act>) -> Script {
         Script {
             settings,
-            acts: acts(&settings).into_iter().peekable(),
+            acts: acts.into_iter().peekable(),
             calls_left: PATIENCE * settings.needed_words(),
         }
     }
 
-    /// The next call on a pool with these words; none after the take, or when
-    /// the script is stuck.
+    /// The next call on a pool with these words; none after the last act, or
+    /// when the script is stuck.
     pub fn next(&mut self, rng: &mut Rng, words: &[u32]) -> Option<Call> {
         let workers = Workers {
             settings: &self.settings,
@@ -57,36 +37,4 @@ impl Script {
         self.calls_left = self.calls_left.checked_sub(1)?;
         self.acts.peek().map(|act| act.next(rng, &workers))
     }
-}
-
-fn acts(settings: &Settings) -> Vec<Act> {
-    let Settings { depth, shift, .. } = *settings;
-    let shifts = (settings.rows - depth) / shift;
-    let window_after = |shifts| Until::WindowIs(depth + shift * shifts);
-    // The filler finds no room and is left where its next step is a shift.
-    let fill_all = [
-        puts(TAKER, Until::AllFull),
-        puts(FILLER, Until::Before(Stage::Shift)),
-    ];
-    let mut acts = Vec::from(fill_all);
-    acts.push(takes(TAKER, Until::NextIsInLast { row: depth }));
-    let mut shifts_made = 0;
-    if shifts >= 2 {
-        let row = depth + shift;
-        acts.push(takes(TAKER, Until::LastHolds(depth - 1)));
-        acts.push(puts(FILLER, window_after(1)));
-        acts.push(puts(TAKER, Until::LastHolds(row)));
-        shifts_made = 1 + (shifts - 2).min((depth - 1) / shift);
-        for made in 2..=shifts_made {
-            acts.extend(fill_all);
-            acts.push(puts(FILLER, window_after(made)));
-        }
-        acts.extend(fill_all);
-        acts.push(takes(TAKER, Until::NextIsInLast { row }));
-    }
-    acts.push(takes(TAKER, Until::Before(Stage::Commit)));
-    acts.push(puts(FILLER, window_after(shifts_made + 1)));
-    acts.push(puts(FILLER, Until::OthersFull));
-    acts.push(takes(TAKER, Until::Idle));
-    acts
 }

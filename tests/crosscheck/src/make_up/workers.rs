@@ -1,4 +1,4 @@
-//! What a scheduler sees of the workers, and of a stack.
+//! What a scheduler sees of the workers, the windows and the subs.
 
 use second::phase::{self, Side, Stage};
 use second::{layout, Settings, STACK};
@@ -30,14 +30,34 @@ impl Workers<'_> {
         self.word(worker, layout::INDEX)
     }
 
-    /// G; a queue's windows only go up and never come back.
-    pub fn stack_window(&self) -> Option<u32> {
-        (self.settings.kind == STACK).then(|| self.words[layout::WINDOW])
+    /// P or G: both stand in word 8.
+    pub fn put_window(&self) -> u32 {
+        self.words[layout::PUT_WINDOW]
     }
 
-    /// The items that a stack's sub holds.
-    pub fn held(&self, sub: u32) -> u32 {
-        self.words[self.settings.subs_at() + layout::SUB_WORDS * sub as usize + layout::ITEMS_HELD]
+    /// G; a queue's windows only go up and never come back.
+    pub fn stack_window(&self) -> Option<u32> {
+        (self.settings.kind == STACK).then(|| self.put_window())
+    }
+
+    /// The highest row of a sub: items put, or held, both its first word.
+    pub fn top_row(&self, sub: u32) -> u32 {
+        self.sub_word(sub, layout::ITEMS_PUT)
+    }
+
+    /// How many items of a sub takes can come to before the window moves.
+    pub fn in_reach(&self, sub: u32) -> u32 {
+        let top = self.top_row(sub);
+        if self.settings.kind == STACK {
+            top.saturating_sub(self.put_window() - self.settings.depth)
+        } else {
+            let taken = self.sub_word(sub, layout::ITEMS_TAKEN);
+            top.min(self.words[layout::TAKE_WINDOW]) - taken
+        }
+    }
+
+    fn sub_word(&self, sub: u32, which: usize) -> u32 {
+        self.words[self.settings.subs_at() + layout::SUB_WORDS * sub as usize + which]
     }
 
     fn word(&self, worker: u32, which: usize) -> u32 {
