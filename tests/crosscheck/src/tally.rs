@@ -2,7 +2,7 @@
 
 use crate::cases::files::Lister;
 use crate::cases::runs::Runs;
-use crate::cases::{images, makes, scripts};
+use crate::cases::{images, lone, makes, scripts};
 use crate::coverage::Coverage;
 use crate::failure::Failure;
 use crate::options::Options;
@@ -24,6 +24,7 @@ const SCRIPTS: u64 = 6;
 const SORTS: u64 = 16;
 const RUN_FILES: u64 = 4;
 const OF_SCRIPTS: u64 = 5;
+const LONE: u64 = 6;
 
 pub struct Tally {
     checks: Checks,
@@ -107,6 +108,11 @@ impl Tally {
                     self.scripts += 1;
                 }
             }
+            LONE => {
+                // Sixteen widths in turn: the least cases come to each of them.
+                let width = 1 + (case / SORTS % 16) as u32;
+                lone::run(rng, width, &mut self.checks)?;
+            }
             _ => self.runs.run(rng, &mut self.checks)?,
         }
         Ok(())
@@ -123,11 +129,13 @@ impl Tally {
         }
         self.report_runs();
         println!(
-            "crosscheck: {} calls, {} images, {} runs one at a time, {} scripts, {} run files: all equal",
+            "crosscheck: {} calls, {} images, {} runs one at a time, {} scripts, {} lone operations, \
+             {} run files: all equal",
             self.checks.coverage.calls,
             self.images,
             self.runs.runs,
             self.scripts,
+            self.checks.coverage.lone.operations,
             self.lister.as_ref().map_or(0, |lister| lister.files),
         );
         ExitCode::SUCCESS

@@ -6,13 +6,14 @@ use crate::make_up::junk;
 use crate::rng::Rng;
 use crate::side_by_side::{Checks, SideBySide};
 use second::phase::Side;
-use second::{one_at_a_time, worst_distance, Answer, Event, Placed, Settings};
+use second::{layout, one_at_a_time, worst_distance};
+use second::{Answer, Event, Placed, Settings, STEP_LIMIT};
 use sides::Call;
 
 pub struct FromMake {
     /// What a failure calls it.
     name: &'static str,
-    settings: Settings,
+    pub settings: Settings,
     pools: SideBySide,
     events: Vec<Event>,
     /// The greatest distance of a take so far.
@@ -48,6 +49,13 @@ impl FromMake {
         self.events.push(event(call, answer));
         self.greatest = self.greatest.max(answer.distance);
         Ok(answer)
+    }
+
+    /// As after a long run: with so many steps left in the step count.
+    pub fn leave_steps(&mut self, left: u32, checks: &Checks) {
+        let mut words = self.words().to_vec();
+        words[layout::STEPS_COUNTED] = STEP_LIMIT - left;
+        self.pools = SideBySide::new(&words, checks);
     }
 
     /// With the worst distance in the place of demand 3's bound, which is a

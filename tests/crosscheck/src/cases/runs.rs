@@ -25,12 +25,7 @@ impl Runs {
     pub fn run(&mut self, rng: &mut Rng, checks: &mut Checks) -> Result<(), Failure> {
         let (size, calls) = size(rng);
         let settings = within(rng, size);
-        let mut run = FromMake::new("random run", rng, settings, checks)?;
-        let mut schedule = Schedule::new(rng, settings, Numbers::Any);
-        for _ in 0..calls {
-            let call = schedule.next(rng, run.words());
-            run.call(call, checks)?;
-        }
+        let run = random_run(rng, settings, calls, checks)?;
         let placed = run.one_at_a_time()?;
         self.runs += 1;
         self.operations += placed.events.len() as u64;
@@ -48,6 +43,22 @@ impl Runs {
             self.at_worst[kind] += u64::from(greatest == worst);
         }
     }
+}
+
+/// So many calls under a random schedule.
+pub fn random_run(
+    rng: &mut Rng,
+    settings: Settings,
+    calls: u32,
+    checks: &mut Checks,
+) -> Result<FromMake, Failure> {
+    let mut run = FromMake::new("random run", rng, settings, checks)?;
+    let mut schedule = Schedule::new(rng, settings, Numbers::Any);
+    for _ in 0..calls {
+        let call = schedule.next(rng, run.words());
+        run.call(call, checks)?;
+    }
+    Ok(run)
 }
 
 /// Small pools often, the largest now and then and for longer.

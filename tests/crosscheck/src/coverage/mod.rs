@@ -1,16 +1,19 @@
 //! What the cases have reached. A pass must have reached each outcome of each
 //! phase of both kinds, each number that each call can answer, each corner
-//! where the paper's text is about words that no make leads to, and each sort
-//! of settings that a script can have.
+//! where the paper's text is about words that no make leads to, each sort of
+//! settings that a script can have, each phase in which others may have stopped
+//! beside a lone operation, and the most steps of one.
 
 mod corners;
 mod counts;
+mod lone;
 mod numbers;
 mod phases;
 mod scripts;
 
 use corners::CORNERS;
 use counts::Counts;
+use lone::Lone;
 use numbers::Numbers;
 use phases::Phases;
 use scripts::SCRIPTS;
@@ -35,6 +38,7 @@ pub struct Coverage {
     phases: Phases,
     corners: Counts<{ CORNERS.len() }>,
     scripts: Counts<{ SCRIPTS.len() }>,
+    pub lone: Lone,
 }
 
 impl Coverage {
@@ -75,6 +79,7 @@ impl Coverage {
         missing.extend(self.numbers.report());
         missing.extend(self.corners.report(CORNERS));
         missing.extend(self.scripts.report(SCRIPTS));
+        missing.extend(self.lone.report());
         missing
     }
 }

@@ -91,7 +91,7 @@ fn windows(words: &[u32]) -> [u32; 2] {
     [words[layout::PUT_WINDOW], words[layout::TAKE_WINDOW]]
 }
 
-fn kind_name(kind: u32) -> &'static str {
+pub fn kind_name(kind: u32) -> &'static str {
     if kind == QUEUE {
         "queue"
     } else {
@@ -99,7 +99,7 @@ fn kind_name(kind: u32) -> &'static str {
     }
 }
 
-fn phase_name(phase: u32) -> String {
+pub fn phase_name(phase: u32) -> String {
     match phase::decode(phase) {
         Some((side, stage)) => format!("{side:?} {stage:?}").to_lowercase(),
         None => "idle".to_string(),

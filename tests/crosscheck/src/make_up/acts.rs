@@ -5,6 +5,7 @@ use super::workers::Workers;
 use crate::rng::Rng;
 use second::phase::{Side, Stage};
 use sides::Call;
+use std::ops::Range;
 
 /// What ends an act. "Full" is as full as the window lets a sub be.
 #[derive(Clone, Copy)]
@@ -21,6 +22,8 @@ pub enum Until {
     Before(Stage),
     /// P or G.
     WindowIs(u32),
+    /// No take finds an item before the window moves.
+    NoneInReach,
     Idle,
 }
 
@@ -52,14 +55,16 @@ impl Act {
         let window = workers.put_window();
         let last = workers.settings.width - 1;
         let full = |subs: u32| (0..subs).all(|j| workers.top_row(j) == window);
+        let none_in_reach = |mut subs: Range<u32>| subs.all(|j| workers.in_reach(j) == 0);
         match self.until {
             Until::AllFull => full(last + 1),
             Until::OthersFull => full(last),
             Until::LastHolds(items) => workers.top_row(last) == items,
             Until::NextIsInLast { row } => {
-                let mut on_its_way = workers.index(self.worker)..last;
-                on_its_way.all(|j| workers.in_reach(j) == 0) && workers.top_row(last) == row
+                let on_its_way = workers.index(self.worker)..last;
+                none_in_reach(on_its_way) && workers.top_row(last) == row
             }
+            Until::NoneInReach => none_in_reach(0..last + 1),
             Until::Before(stage) => workers.stage(self.worker) == Some((self.side, stage)),
             Until::WindowIs(wanted) => window == wanted,
             Until::Idle => workers.is_idle(self.worker),

@@ -4,6 +4,7 @@ mod acts;
 mod ambush;
 pub mod image;
 pub mod junk;
+pub mod most_steps;
 pub mod run_file;
 pub mod schedule;
 pub mod script;

@@ -64,6 +64,20 @@ impl Schedule {
         }
     }
 
+    /// A call by which no worker steps: a begin in place of a busy one's step.
+    pub fn no_step(&self, rng: &mut Rng, words: &[u32]) -> Call {
+        let workers = Workers {
+            settings: &self.settings,
+            words,
+        };
+        match self.any_call(rng) {
+            Call::Step { worker } if worker < workers.number() && !workers.is_idle(worker) => {
+                self.begin(rng, worker, self.put_percent)
+            }
+            call => call,
+        }
+    }
+
     fn begin(&self, rng: &mut Rng, worker: u32, put_percent: u32) -> Call {
         if !rng.chance(put_percent) {
             return Call::BeginTake { worker };

@@ -38,14 +38,39 @@ pub fn of_script(rng: &mut Rng) -> Settings {
     }
 }
 
-fn of_kind(rng: &mut Rng, kind: u32, size: Size) -> Settings {
-    let (widths, depths, depths_in_rows, workers) = match size {
-        Size::Small => (4, 3, 4, 4),
-        Size::Medium => (16, 8, 8, 32),
-        Size::Deep => (2, 2, 24, 32),
-        Size::Large => (16, 64, 1024, 32),
+/// With the workers that a script to a lone operation's most steps needs, and
+/// in a stack with rows for two shifts.
+pub fn of_lone_script(rng: &mut Rng, kind: u32, width: u32, size: Size) -> Settings {
+    let settings = of_width(rng, kind, width, size);
+    let least_rows = match kind {
+        QUEUE => 0,
+        _ => settings.depth + 2 * settings.shift,
+    };
+    Settings {
+        rows: settings.rows.max(least_rows),
+        workers: settings.workers.max(2),
+        ..settings
+    }
+}
+
+/// Settings of this kind within limits.
+pub fn of_kind(rng: &mut Rng, kind: u32, size: Size) -> Settings {
+    let widths = match size {
+        Size::Small => 4,
+        Size::Deep => 2,
+        Size::Medium | Size::Large => 16,
     };
     let width = up_to(rng, widths, size);
+    of_width(rng, kind, width, size)
+}
+
+fn of_width(rng: &mut Rng, kind: u32, width: u32, size: Size) -> Settings {
+    let (depths, depths_in_rows, workers) = match size {
+        Size::Small => (3, 4, 4),
+        Size::Medium => (8, 8, 32),
+        Size::Deep => (2, 24, 32),
+        Size::Large => (64, 1024, 32),
+    };
     let depth = up_to(rng, depths, size);
     let most_rows = (depth * depths_in_rows).min(1024).min(4096 / width);
     let mut rows = 2 * depth - 1 + up_to(rng, most_rows - 2 * depth + 1, size);
