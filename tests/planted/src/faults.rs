@@ -54,7 +54,7 @@ const fn lister_fault(
     }
 }
 
-pub const FAULTS: [Fault; 19] = [
+pub const FAULTS: [Fault; 21] = [
     trap(
         "empty after one pass, without confirm",
         "stages/read.rs",
@@ -90,6 +90,18 @@ pub const FAULTS: [Fault; 19] = [
         "bounds.rs",
         "thesis_figure(settings).min(in_other_subs(settings, highest_window))",
         "thesis_figure(settings)",
+    ),
+    fault(
+        "a lone stack operation's figure, one step less",
+        "lone.rs",
+        "2 * w + 8",
+        "2 * w + 7",
+    ),
+    fault(
+        "a lone queue put's figure, one step more",
+        "lone.rs",
+        "w + 5",
+        "w + 6",
     ),
     trap(
         "a stack's version stays at a take",

@@ -34,6 +34,7 @@ pub fn trial(crosscheck: &Path, options: &[String]) -> Result<Outcome, String> {
 pub fn finder(printed: &str) -> &'static str {
     let signs = [
         ("never reached", "something is never reached"),
+        ("left by itself", "a worker left by itself"),
         ("script with", "a script"),
         ("one at a time: no place", "one at a time"),
         ("one at a time: undecided", "one at a time, undecided"),
