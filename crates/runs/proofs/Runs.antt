@@ -102,6 +102,6 @@ figures-reached = (
 -- and K3's, for the last operation of each
 pub solo-reached :
     (soloSteps (queue 2 1 2 1) (putting 3) ≡ 7) × (soloSteps (queue 2 1 2 2) taking ≡ 9)
-    × (soloSteps (stack 2 1 1 4 2) (putting 5) ≡ 12) × (soloSteps (stack 2 1 1 4 2) taking ≡ 12) × (soloSteps (stack 5 1 1 2 6) taking ≡ 19)
+    × (soloSteps (stack 2 1 1 3 2) (putting 5) ≡ 12) × (soloSteps (stack 2 1 1 3 2) taking ≡ 12) × (soloSteps (stack 5 1 1 2 2) taking ≡ 19)
 unfolding cond
 solo-reached = (refl, refl, refl, refl, refl)

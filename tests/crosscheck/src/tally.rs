@@ -2,7 +2,7 @@
 
 use crate::cases::files::Lister;
 use crate::cases::runs::Runs;
-use crate::cases::{images, lone, makes, scripts};
+use crate::cases::{images, makes, scripts, solo};
 use crate::coverage::Coverage;
 use crate::failure::Failure;
 use crate::options::Options;
@@ -24,7 +24,7 @@ const SCRIPTS: u64 = 6;
 const SORTS: u64 = 16;
 const RUN_FILES: u64 = 4;
 const OF_SCRIPTS: u64 = 5;
-const LONE: u64 = 6;
+const SOLO: u64 = 6;
 
 pub struct Tally {
     checks: Checks,
@@ -108,10 +108,10 @@ impl Tally {
                     self.scripts += 1;
                 }
             }
-            LONE => {
+            SOLO => {
                 // Sixteen widths in turn: the least cases come to each of them.
                 let width = 1 + (case / SORTS % 16) as u32;
-                lone::run(rng, width, &mut self.checks)?;
+                solo::run(rng, width, &mut self.checks)?;
             }
             _ => self.runs.run(rng, &mut self.checks)?,
         }
@@ -129,13 +129,13 @@ impl Tally {
         }
         self.report_runs();
         println!(
-            "crosscheck: {} calls, {} images, {} runs one at a time, {} scripts, {} lone operations, \
+            "crosscheck: {} calls, {} images, {} runs one at a time, {} scripts, {} solo operations, \
              {} run files: all equal",
             self.checks.coverage.calls,
             self.images,
             self.runs.runs,
             self.scripts,
-            self.checks.coverage.lone.operations,
+            self.checks.coverage.solo.operations,
             self.lister.as_ref().map_or(0, |lister| lister.files),
         );
         ExitCode::SUCCESS

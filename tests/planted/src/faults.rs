@@ -92,14 +92,14 @@ pub const FAULTS: [Fault; 21] = [
         "thesis_figure(settings)",
     ),
     fault(
-        "a lone stack operation's figure, one step less",
-        "lone.rs",
+        "a solo stack operation's figure, one step less",
+        "solo.rs",
         "2 * w + 8",
         "2 * w + 7",
     ),
     fault(
-        "a lone queue put's figure, one step more",
-        "lone.rs",
+        "a solo queue put's figure, one step more",
+        "solo.rs",
         "w + 5",
         "w + 6",
     ),

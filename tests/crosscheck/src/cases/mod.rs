@@ -3,7 +3,7 @@
 pub mod files;
 mod from_make;
 pub mod images;
-pub mod lone;
 pub mod makes;
 pub mod runs;
 pub mod scripts;
+pub mod solo;

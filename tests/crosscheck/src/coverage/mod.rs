@@ -2,23 +2,23 @@
 //! phase of both kinds, each number that each call can answer, each corner
 //! where the paper's text is about words that no make leads to, each sort of
 //! settings that a script can have, each phase in which others may have stopped
-//! beside a lone operation, and the most steps of one.
+//! beside a solo operation, and the most steps of one.
 
 mod corners;
 mod counts;
-mod lone;
 mod numbers;
 mod phases;
 mod scripts;
+mod solo;
 
 use corners::CORNERS;
 use counts::Counts;
-use lone::Lone;
 use numbers::Numbers;
 use phases::Phases;
 use scripts::SCRIPTS;
 use second::{layout, Answer, Settings, NO_WORKER, UNFIT};
 use sides::{Call, SECOND};
+use solo::Solo;
 
 /// A call on a fit pool that was not refused, or only by its commit.
 struct Seen<'a> {
@@ -38,7 +38,7 @@ pub struct Coverage {
     phases: Phases,
     corners: Counts<{ CORNERS.len() }>,
     scripts: Counts<{ SCRIPTS.len() }>,
-    pub lone: Lone,
+    pub solo: Solo,
 }
 
 impl Coverage {
@@ -79,7 +79,7 @@ impl Coverage {
         missing.extend(self.numbers.report());
         missing.extend(self.corners.report(CORNERS));
         missing.extend(self.scripts.report(SCRIPTS));
-        missing.extend(self.lone.report());
+        missing.extend(self.solo.report());
         missing
     }
 }

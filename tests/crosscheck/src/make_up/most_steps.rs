@@ -1,7 +1,7 @@
-//! A script after which a lone operation takes the most steps that there can
+//! A script after which a solo operation takes the most steps that there can
 //! be. Two workers play it; any others never step.
 //!
-//! A lone operation that meets a spent window moves it, and the art is to leave
+//! A solo operation that meets a spent window moves it, and the art is to leave
 //! it more to do after that. In a queue the mover's put has moved the put
 //! window and stops: a take follows with its own window, finds all subs bare,
 //! and has to confirm it.
@@ -9,7 +9,7 @@
 //! In a stack the mover stops before a shift, and the filler undoes what led to
 //! it: takes what is in reach if the shift is a put's, fills all subs if it is
 //! a take's. The shift looks at the window's version alone and still moves it,
-//! so that all subs are two shifts away. The lone operation makes both of them;
+//! so that all subs are two shifts away. The solo operation makes both of them;
 //! or, if the window is at its end after one, it has to confirm that.
 
 use super::acts::{puts, takes, Act, Until};
@@ -33,7 +33,7 @@ pub fn script(rng: &mut Rng, settings: Settings, side: Side) -> Script {
 }
 
 /// The mover has stopped, any other may go on.
-pub fn lone_worker(rng: &mut Rng, settings: &Settings) -> u32 {
+pub fn solo_worker(rng: &mut Rng, settings: &Settings) -> u32 {
     let others = rng.below(settings.workers - 1);
     others + u32::from(others >= MOVER)
 }

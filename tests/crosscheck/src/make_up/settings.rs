@@ -38,9 +38,9 @@ pub fn of_script(rng: &mut Rng) -> Settings {
     }
 }
 
-/// With the workers that a script to a lone operation's most steps needs, and
+/// With the workers that a script to a solo operation's most steps needs, and
 /// in a stack with rows for two shifts.
-pub fn of_lone_script(rng: &mut Rng, kind: u32, width: u32, size: Size) -> Settings {
+pub fn of_solo_script(rng: &mut Rng, kind: u32, width: u32, size: Size) -> Settings {
     let settings = of_width(rng, kind, width, size);
     let least_rows = match kind {
         QUEUE => 0,

@@ -1,8 +1,8 @@
 //! Shortcuts over the four calls, and what more than one test needs.
 #![allow(dead_code)]
 
-pub mod lone;
 pub mod normal;
+pub mod solo;
 pub mod states;
 
 use second::{begin_put, begin_take, make, step, Answer, Settings, MOVING, QUEUE, STACK};

@@ -1,15 +1,15 @@
-//! A lone operation after a script that leaves it the most steps: as many as
+//! A solo operation after a script that leaves it the most steps: as many as
 //! the figure says.
 
 use super::operation;
 use crate::cases::from_make::FromMake;
 use crate::failure::Failure;
 use crate::make_up::most_steps;
-use crate::make_up::settings::{of_lone_script, Size};
+use crate::make_up::settings::{of_solo_script, Size};
 use crate::rng::Rng;
 use crate::side_by_side::Checks;
-use second::lone_steps;
 use second::phase::Side;
+use second::solo_steps;
 
 pub fn run(
     rng: &mut Rng,
@@ -19,18 +19,18 @@ pub fn run(
     checks: &mut Checks,
 ) -> Result<(), Failure> {
     let size = rng.pick(&[Size::Small, Size::Small, Size::Small, Size::Medium]);
-    let settings = of_lone_script(rng, kind, width, size);
+    let settings = of_solo_script(rng, kind, width, size);
     let mut run = FromMake::new("script", rng, settings, checks)?;
     let mut script = most_steps::script(rng, settings, side);
     while let Some(call) = script.next(rng, run.words()) {
         run.call(call, checks)?;
     }
-    let figure = lone_steps(&settings, side);
+    let figure = solo_steps(&settings, side);
     // K3: "the step count has that many left"; in half of the runs, no more.
     if rng.chance(50) {
         run.leave_steps(figure, checks);
     }
-    let worker = most_steps::lone_worker(rng, &settings);
+    let worker = most_steps::solo_worker(rng, &settings);
     let steps = operation(rng, &mut run, (worker, side), checks)?;
     if steps < figure {
         let ends = format!("its last operation takes {steps} steps, not {figure}");

@@ -1,16 +1,16 @@
-//! Lone operations (K3): the most steps for each kind, side and width beside
+//! Solo operations (K3): the most steps for each kind, side and width beside
 //! the figure, which a script comes up to, and where the other workers had
 //! stopped.
 
 use super::phases::{kind_name, phase_name};
 use second::phase::{self, Side, Stage};
-use second::{layout, lone_steps, Settings, QUEUE, STACK};
+use second::{layout, solo_steps, Settings, QUEUE, STACK};
 use std::collections::BTreeMap;
 
 const KINDS: [u32; 2] = [QUEUE, STACK];
 
 #[derive(Default)]
-pub struct Lone {
+pub struct Solo {
     pub operations: u64,
     /// By kind, name of the side, and width.
     most_steps: BTreeMap<(u32, &'static str, u32), u32>,
@@ -18,13 +18,13 @@ pub struct Lone {
     stopped: BTreeMap<(u32, u32, bool), u64>,
 }
 
-impl Lone {
-    /// The words before the lone worker's begin.
-    pub fn record_begin(&mut self, words: &[u32], lone_worker: u32) {
+impl Solo {
+    /// The words before the solo worker's begin.
+    pub fn record_begin(&mut self, words: &[u32], solo_worker: u32) {
         let settings = Settings::of_words(words);
         let workers =
             words[settings.workers_at()..settings.cells_at()].chunks(layout::WORKER_WORDS);
-        for (_, other) in (0..).zip(workers).filter(|(i, _)| *i != lone_worker) {
+        for (_, other) in (0..).zip(workers).filter(|(i, _)| *i != solo_worker) {
             let key = (settings.kind, other[layout::PHASE], is_mid_pass(other));
             *self.stopped.entry(key).or_default() += 1;
         }
@@ -40,7 +40,7 @@ impl Lone {
     /// Prints the most steps and the counts; what is missing comes back.
     pub fn report(&self) -> Vec<String> {
         println!(
-            "{} lone operations; by width their most steps and the figure, then where others had stopped:",
+            "{} solo operations; by width their most steps and the figure, then where others had stopped:",
             self.operations
         );
         let mut missing = Vec::new();
@@ -64,7 +64,7 @@ impl Lone {
             let figure = figure(kind, side, width);
             parts.push(format!("{width}: {most}/{figure}"));
             if most < figure {
-                missing.push(format!("lone {name}, width {width}, {figure} steps"));
+                missing.push(format!("solo {name}, width {width}, {figure} steps"));
             }
         }
         println!("{name:18} {}", parts.join(", "));
@@ -83,7 +83,7 @@ impl Lone {
                 let at = if mid_pass { " mid-pass" } else { "" };
                 let part = format!("{}{at}", phase_name(phase));
                 if count == 0 {
-                    missing.push(format!("{name} at {part} beside a lone operation"));
+                    missing.push(format!("{name} at {part} beside a solo operation"));
                 }
                 parts.push(format!("{part}: {count}"));
             }
@@ -102,7 +102,7 @@ fn figure(kind: u32, side: Side, width: u32) -> u32 {
         rows: 2,
         workers: 1,
     };
-    lone_steps(&settings, side)
+    solo_steps(&settings, side)
 }
 
 fn has_passes(phase: u32) -> bool {

@@ -1,17 +1,17 @@
 //! K3, a worker left by itself: the figures at settings worked out by hand, and
-//! lone operations from every state of small pools. The cross-check has lone
+//! solo operations from every state of small pools. The cross-check has solo
 //! operations of every width.
 
 mod common;
 
-use common::lone::{begin, every_lone_operation, is_idle, lone, Operation, SIDES};
+use common::solo::{begin, every_solo_operation, is_idle, solo, Operation, SIDES};
 use common::{queue, stack};
-use second::{lone_steps, lone_steps_bound, step};
+use second::{solo_steps, solo_steps_bound, step};
 use second::{Answer, Settings, BUSY, IDLE, MOVING, NO_WORKER, SPENT};
 
 /// Of a put and of a take.
 fn figures(settings: &Settings) -> [u32; 2] {
-    SIDES.map(|side| lone_steps(settings, side))
+    SIDES.map(|side| solo_steps(settings, side))
 }
 
 #[test]
@@ -27,7 +27,7 @@ fn figures_by_hand() {
         (stack(16, 1, 1, 3, 2), 56, [52, 52]),
     ];
     for (settings, bound, expected) in by_hand {
-        assert_eq!(lone_steps_bound(&settings), bound, "{settings:?}");
+        assert_eq!(solo_steps_bound(&settings), bound, "{settings:?}");
         assert_eq!(figures(&settings), expected, "{settings:?}");
     }
 }
@@ -36,7 +36,7 @@ fn figures_by_hand() {
 fn the_figures_stand_below_k3s() {
     for width in 1..=16 {
         for settings in [queue(width, 1, 2, 2), stack(width, 1, 1, 2, 2)] {
-            let bound = lone_steps_bound(&settings);
+            let bound = solo_steps_bound(&settings);
             assert!(figures(&settings).iter().all(|figure| *figure < bound));
         }
     }
@@ -45,7 +45,7 @@ fn the_figures_stand_below_k3s() {
 /// Of a put and of a take, from every state.
 fn most_steps(settings: Settings) -> [u32; 2] {
     let mut most = [0, 0];
-    every_lone_operation(settings, |_, (_, side), steps| {
+    every_solo_operation(settings, |_, (_, side), steps| {
         let most = &mut most[side as usize];
         *most = steps.max(*most);
     });
@@ -107,11 +107,11 @@ fn where_the_figures_are_not_reached() {
 fn one_step_less_is_too_few() {
     for settings in [queue(2, 1, 2, 2), stack(2, 1, 1, 3, 2)] {
         let mut at_the_figure = [0, 0];
-        every_lone_operation(settings, |words, operation, steps| {
-            if steps == lone_steps(&settings, operation.1) {
+        every_solo_operation(settings, |words, operation, steps| {
+            if steps == solo_steps(&settings, operation.1) {
                 at_the_figure[operation.1 as usize] += 1;
                 let refused = (Answer::of(SPENT), steps - 1);
-                assert_eq!(lone(words, operation, steps - 1, |_| {}), refused);
+                assert_eq!(solo(words, operation, steps - 1, |_| {}), refused);
             }
         });
         assert!(at_the_figure.iter().all(|times| *times > 0), "{settings:?}");
@@ -119,7 +119,7 @@ fn one_step_less_is_too_few() {
 }
 
 /// Calls by which nobody steps: a step of no worker; of an idle worker a step,
-/// then a begin; of a busy one, as the lone one is, a begin.
+/// then a begin; of a busy one, as the solo worker is, a begin.
 fn calls_between(words: &mut [u32], (_, side): Operation) {
     let workers = Settings::of_words(words).workers;
     assert_eq!(step(words, workers).number, NO_WORKER);
@@ -142,10 +142,10 @@ fn calls_between_its_steps_change_nothing() {
         stack(2, 1, 1, 3, 2),
     ];
     for settings in pools {
-        every_lone_operation(settings, |words, operation, steps| {
-            let left = lone_steps(&settings, operation.1);
+        every_solo_operation(settings, |words, operation, steps| {
+            let left = solo_steps(&settings, operation.1);
             let between = |words: &mut [u32]| calls_between(words, operation);
-            let (answer, steps_so) = lone(words, operation, left, between);
+            let (answer, steps_so) = solo(words, operation, left, between);
             assert!(answer.is_final() && steps_so == steps, "{words:?}");
         });
     }

@@ -12,7 +12,7 @@ use crate::make_up::schedule::{Numbers, Schedule};
 use crate::rng::Rng;
 use crate::side_by_side::Checks;
 use second::phase::Side;
-use second::{lone_steps, QUEUE, STACK};
+use second::{solo_steps, QUEUE, STACK};
 use sides::Call;
 use stops::Stops;
 
@@ -39,11 +39,11 @@ fn operation(
     (worker, side): (u32, Side),
     checks: &mut Checks,
 ) -> Result<u32, Failure> {
-    checks.coverage.lone.record_begin(run.words(), worker);
+    checks.coverage.solo.record_begin(run.words(), worker);
     run.call(begin(rng, worker, side), checks)?;
     let others = Schedule::new(rng, run.settings, Numbers::Any);
     let others_percent = rng.pick(&[0, 0, 40]);
-    let figure = lone_steps(&run.settings, side);
+    let figure = solo_steps(&run.settings, side);
     let who = format!("{side:?} of worker {worker} left by itself").to_lowercase();
     for steps in 1..=figure {
         while rng.chance(others_percent) {
@@ -52,7 +52,7 @@ fn operation(
         }
         let answer = run.call(Call::Step { worker }, checks)?;
         if answer.is_final() {
-            checks.coverage.lone.record_end(&run.settings, side, steps);
+            checks.coverage.solo.record_end(&run.settings, side, steps);
             return Ok(steps);
         }
         if answer.is_refusal() {

@@ -1,4 +1,4 @@
-//! Where the others have stopped before a lone operation.
+//! Where the others have stopped before a solo operation.
 
 use super::begin;
 use crate::cases::from_make::FromMake;
@@ -6,11 +6,11 @@ use crate::cases::runs::random_run;
 use crate::failure::Failure;
 use crate::make_up::most_steps;
 use crate::make_up::schedule::{Numbers, Schedule};
-use crate::make_up::settings::{of_kind, of_lone_script, Size};
+use crate::make_up::settings::{of_kind, of_solo_script, Size};
 use crate::rng::Rng;
 use crate::side_by_side::Checks;
 use second::phase::Side;
-use second::{lone_steps_bound, Settings, EMPTY, FULL, IDLE};
+use second::{solo_steps_bound, Settings, EMPTY, FULL, IDLE};
 use sides::Call;
 
 /// How they came there.
@@ -72,7 +72,7 @@ fn stop_one_by_one(
     for worker in 0..run.settings.workers {
         let calls = match worker {
             0 => 1_000,
-            _ => rng.below(lone_steps_bound(&run.settings)),
+            _ => rng.below(solo_steps_bound(&run.settings)),
         };
         for _ in 0..calls {
             let answer = run.call(Call::Step { worker }, checks)?;
@@ -94,7 +94,7 @@ fn disturbed_script(
     checks: &mut Checks,
 ) -> Result<FromMake, Failure> {
     let width = rng.between(1, 16);
-    let settings = of_lone_script(rng, kind, width, Size::Small);
+    let settings = of_solo_script(rng, kind, width, Size::Small);
     let mut run = FromMake::new("disturbed script", rng, settings, checks)?;
     let mut script = most_steps::script(rng, settings, side);
     let mut others = Schedule::new(rng, settings, Numbers::Any);

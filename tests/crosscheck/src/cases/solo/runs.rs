@@ -1,4 +1,4 @@
-//! A few lone operations, wherever the others have stopped.
+//! A few solo operations, wherever the others have stopped.
 
 use super::stops::Stops;
 use super::{operation, SIDES};
@@ -6,7 +6,7 @@ use crate::cases::from_make::FromMake;
 use crate::failure::Failure;
 use crate::rng::Rng;
 use crate::side_by_side::Checks;
-use second::{lone_steps_bound, IDLE};
+use second::{solo_steps_bound, IDLE};
 use sides::Call;
 
 pub fn run(rng: &mut Rng, kind: u32, stops: Stops, checks: &mut Checks) -> Result<(), Failure> {
@@ -23,8 +23,8 @@ pub fn run(rng: &mut Rng, kind: u32, stops: Stops, checks: &mut Checks) -> Resul
 
 /// The worker's operation under way comes to its end.
 fn come_to_rest(run: &mut FromMake, worker: u32, checks: &mut Checks) -> Result<(), Failure> {
-    // The rest of two passes, and then at most a lone operation's steps.
-    for _ in 0..2 * lone_steps_bound(&run.settings) {
+    // The rest of two passes, and then at most a solo operation's steps.
+    for _ in 0..2 * solo_steps_bound(&run.settings) {
         let answer = run.call(Call::Step { worker }, checks)?;
         if answer.is_final() || answer.number == IDLE {
             return Ok(());

@@ -1,9 +1,9 @@
-//! Lone operations: one worker begins, and no other steps until its final
+//! Solo operations: one worker begins, and no other steps until its final
 //! answer.
 
 use super::states::every_state;
 use second::phase::{self, Side};
-use second::{begin_put, begin_take, layout, lone_steps, step};
+use second::{begin_put, begin_take, layout, solo_steps, step};
 use second::{Answer, Settings, MOVING, STEP_LIMIT};
 
 pub const SIDES: [Side; 2] = [Side::Put, Side::Take];
@@ -20,7 +20,7 @@ pub fn begin(words: &mut [u32], (worker, side): Operation) -> Answer {
 
 /// From these words, with so many steps left in the step count, as after a long
 /// run: the last answer, and how many steps it took.
-pub fn lone(
+pub fn solo(
     words: &[u32],
     operation: Operation,
     left: u32,
@@ -48,12 +48,12 @@ pub fn is_idle(words: &[u32], worker: u32) -> bool {
 /// From every state, each idle worker's put and take, with just the figure's
 /// steps left: all come to a final answer. Looks at the words before the begin,
 /// the operation, and how many steps it takes.
-pub fn every_lone_operation(settings: Settings, mut look: impl FnMut(&[u32], Operation, u32)) {
+pub fn every_solo_operation(settings: Settings, mut look: impl FnMut(&[u32], Operation, u32)) {
     every_state(settings, |words| {
         for worker in (0..settings.workers).filter(|worker| is_idle(words, *worker)) {
             for operation in SIDES.map(|side| (worker, side)) {
-                let left = lone_steps(&settings, operation.1);
-                let (answer, steps) = lone(words, operation, left, |_| {});
+                let left = solo_steps(&settings, operation.1);
+                let (answer, steps) = solo(words, operation, left, |_| {});
                 assert!(answer.is_final(), "{operation:?}, {answer:?}: {words:?}");
                 look(words, operation, steps);
             }
