@@ -7,6 +7,7 @@ use lib.Dec.{leb, eqb}
 use Rattle.laws.specs.Choice.{cond}
 use Rattle.rules.specs.Answers.{Out, out, refuse}
 use Rattle.rules.specs.Layout.{stepsAt, workerAt}
+use Rattle.rules.specs.Limits.{stepLimit}
 use Rattle.rules.specs.Worker.{putSlot, fresh}
 use Rattle.rules.specs.Fit.{checkedOf}
 use Rattle.rules.specs.declared.Settings.{Settings}
@@ -17,9 +18,9 @@ use Rattle.rules.specs.declared.Checked.{Checked}
 use Rattle.rules.specs.declared.Checked.the-variants.{Unfit, Fit}
 use Rattle.rules.specs.declared.Answer.the-variants.{Moving}
 
--- 27: the step count is 4,000,000,000 or more
+-- 27: the step count is at its limit, or above
 abbrev pub stepsSpent : List ℕ → Bool
-stepsSpent ws = leb 4000000000 (getD ws stepsAt 0)
+stepsSpent ws = leb stepLimit (getD ws stepsAt 0)
 
 -- 25, 27, then the worker whose words start at `at` is begun
 unfoldable pub slotBegin : List ℕ → ℕ → Side → ℕ → Out

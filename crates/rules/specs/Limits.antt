@@ -1,5 +1,5 @@
--- The limits of the settings.
-use Prim.Native.Nat.{_*_, _%_, _≤_}
+-- The limits of the settings, and of the step count.
+use Prim.Native.Nat.{ℕ, _*_, _%_, _≤_}
 use mathlib.Core.List.{List, [], _∷_}
 use mathlib.Core.Bool.{Bool, true}
 use lib.Dec.{leb, eqb}
@@ -22,6 +22,10 @@ queueLimits g = eqb (g .shift) (g .depth) ∷ eqb (g .rows % g .depth) 0 ∷ []
 
 unfoldable pub settingsFit : Settings → Bool
 settingsFit g = both (all (limits g)) (cond (eqb (g .kind) 0) (all (queueLimits g)) true)
+
+-- a pool takes so many steps
+abbrev pub stepLimit : ℕ
+stepLimit = 4000000000
 
 -- the bounds that settings within limits have
 pub record Bounds (g : Settings) : Type 0 where

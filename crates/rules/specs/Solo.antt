@@ -10,6 +10,7 @@ use lib.Dec.{eqb}
 use Rattle.laws.specs.Choice.{cond}
 use Rattle.rules.specs.Answers.{numberOf}
 use Rattle.rules.specs.Layout.{stepsAt}
+use Rattle.rules.specs.Limits.{stepLimit}
 use Rattle.rules.specs.Sequential.{Operation, putting, taking}
 use Rattle.rules.specs.Run.{Call, beginPut, beginTake, step, begin, callOf, Event, run, at, Final, StepOf}
 use Rattle.rules.specs.Consequences.{wordsAfter, OfEveryRun}
@@ -36,7 +37,7 @@ soloSteps g o = cond (eqb (g .kind) 0) (queueSteps g o) (stackSteps g)
 -- ---- a begin that was not refused, with n steps left in the step count
 pub record Begun (ws : List ℕ) (i : ℕ) (o : Operation) (n : ℕ) : Type 0 where
   pub accepted : numberOf (callOf ws (begin i o) .answer) ≡ 0
-  pub enough : getD ws stepsAt 0 + n ≤ 4000000000
+  pub enough : getD ws stepsAt 0 + n ≤ stepLimit
 
 -- the run of more calls after it
 abbrev pub afterBegin : List ℕ → ℕ → Operation → List Call → List Event
