@@ -14,7 +14,7 @@ use Rattle.rules.specs.declared.Answer.the-variants.{Moving, Refused}
 use Rattle.rules.proofs.order.Law.{Next}
 use Rattle.rules.proofs.machine.Machine.{State, next, subIn, viewIn, applyIn, stepIn, withSlot, beginIn}
 
--- a call made of its worker, or what a refusal is: nothing but its number
+-- a call that may be made, with what is then made; or that is refused, and nothing changes
 pub data Called (s : State) (Able : Type 0) (made o : Next State) : Type 0 where
   refuses : (n : ℕ) → 24 ≤ n → ¬ Able → o ≡ next (Refused n) s → Called s Able made o
   does : Able → o ≡ made → Called s Able made o

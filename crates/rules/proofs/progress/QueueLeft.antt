@@ -9,6 +9,7 @@
 --   take   window 2w, or 3w + 2; read 2w - 1 - scan, or 3w + 1 - scan; shift 2w + 1; commit 0; confirm w - 1 - scan
 use mathlib.Core.Path.{_≡_}
 use Prim.Native.Nat.{ℕ, zero, suc, _+_, _-_, _≤_, _<_}
+use native.Mathlib.Omega.{arith}
 use Rattle.rules.specs.Effects.{movedOf}
 use Rattle.rules.proofs.Types.{Settings, Putting, Taking, Phase, Idle, Window, QueuePutRead, QueueTakeRead, StackRead, Check, QueueCommit, StackCommit, QueueShift, StackShift, Confirm, Slot}
 use Rattle.rules.proofs.machine.Machine.{State, viewIn, applyIn}
@@ -22,6 +23,12 @@ use Rattle.rules.proofs.progress.Confirm.{AtConfirm}
 abbrev pub Near : Settings → ℕ → (ℕ → ℕ) → ℕ → Type 0
 Near g window count zero = (j : ℕ) → j < g .width → count j < window
 Near g window count (suc k) = Unit {0}
+
+-- a window that has moved up is above every sub that was within it
+pub near-above : (g : Settings) (window raised : ℕ) (count : ℕ → ℕ) → ((j : ℕ) → j < g .width → count j ≤ window) → window < raised → (k : ℕ)
+    → Near g raised count k
+near-above g window raised count within up zero = λ j l. omega (arith, within j l)
+near-above g window raised count within up (suc k) = tt
 
 -- the steps of a pass with no shift to come, but for the final one: window and read, or window, w reads and w confirms
 abbrev pub putBase : ℕ

@@ -1,6 +1,6 @@
 -- Each step of a put on a queue, its worker alone, ends it or lowers what it has left (QueueLeft).
 use mathlib.Core.Path.{_≡_, refl, sym, subst}
-use Prim.Native.Nat.{ℕ, zero, suc, _+_, _-_, _≤_, _<_}
+use Prim.Native.Nat.{ℕ, suc, _+_, _-_, _≤_, _<_}
 use native.Mathlib.Omega.{arith}
 use lib.Dec.{ltb, eqb}
 use borrow.Author.Tests.{ltb-false, eqb-false}
@@ -23,7 +23,7 @@ use Rattle.rules.proofs.machine.Turns.{Common}
 use Rattle.rules.proofs.queue.Inv.{PutReads, Knows, Inv, top-few, put-few}
 use Rattle.rules.proofs.progress.Left.{AtWindow, AtRead, AtShift, window-left, window-read, read-again, read-shift, shift-window, shift-left}
 use Rattle.rules.proofs.progress.Steps.{Result, finishes, shifts-on, finds-nothing, miss-cases}
-use Rattle.rules.proofs.progress.QueueLeft.{Near, putBase, queueLeft, queue-on}
+use Rattle.rules.proofs.progress.QueueLeft.{Near, near-above, putBase, queueLeft, queue-on}
 
 module _ (g : Settings) (good : Good g) (kind : g .kind ≡ 0) (s : State) (q : Contents) (common : Common g s) (inv : Inv g s q) (i n : ℕ) where
   abbrev Steps : Effect → Type 0
@@ -97,8 +97,7 @@ module _ (g : Settings) (good : Good g) (kind : g .kind ≡ 0) (s : State) (q : 
     raised = s .top + g .depth
 
     nearer : (k : ℕ) → NearBy (suc k) → Near g raised put k
-    nearer zero near = λ m l. omega (arith, inv .pool .windows .put-le m l, good .bounds .depth1)
-    nearer (suc k) near = tt
+    nearer k near = near-above g (s .top) raised put (inv .pool .windows .put-le) (omega (arith, good .bounds .depth1)) k
 
     moved : Steps (shiftedOf (viewIn s i) Putting raised (s .mark))
     moved =

@@ -1,6 +1,6 @@
 -- Each step of a take on a queue, its worker alone, ends it or lowers what it has left (QueueLeft).
 use mathlib.Core.Path.{_≡_, refl, sym, subst}
-use Prim.Native.Nat.{ℕ, zero, suc, _+_, _^_, _≤_, _<_}
+use Prim.Native.Nat.{ℕ, suc, _+_, _^_, _≤_, _<_}
 use native.Mathlib.Omega.{arith}
 use lib.Dec.{ltb, leb, eqb}
 use borrow.Author.Tests.{ltb-false, leb-true, eqb-true, eqb-false}
@@ -29,7 +29,7 @@ use Rattle.rules.proofs.progress.Clean.{Clean, clean-start, clean-more,
 use Rattle.rules.proofs.progress.Left.{AtWindow, AtShift, window-left, window-read, read-again, read-shift, read-confirm, shift-window, shift-left}
 use Rattle.rules.proofs.progress.Steps.{Result, finishes, shifts-on, finds-nothing, miss-cases}
 use Rattle.rules.proofs.progress.Confirm.{AtConfirm, confirm-step}
-use Rattle.rules.proofs.progress.QueueLeft.{Near, takeBase, TakeRead, queueLeft, queue-on}
+use Rattle.rules.proofs.progress.QueueLeft.{Near, near-above, takeBase, TakeRead, queueLeft, queue-on}
 
 module _ (g : Settings) (good : Good g) (kind : g .kind ≡ 0) (s : State) (q : Contents) (common : Common g s) (inv : Inv g s q) (i n : ℕ) where
   abbrev Steps : Effect → Type 0
@@ -126,8 +126,7 @@ module _ (g : Settings) (good : Good g) (kind : g .kind ≡ 0) (s : State) (q : 
     raised = s .mark + g .depth
 
     nearer : (k : ℕ) → NearBy (suc k) → Near g raised taken k
-    nearer zero near = λ m l. omega (arith, inv .pool .windows .taken-le m l, good .bounds .depth1)
-    nearer (suc k) near = tt
+    nearer k near = near-above g (s .mark) raised taken (inv .pool .windows .taken-le) (omega (arith, good .bounds .depth1)) k
 
     moved : Steps (shiftedOf (viewIn s i) Taking (s .top) raised)
     moved =
