@@ -1,12 +1,15 @@
-// The functions that C calls: the answer's number is returned, and its five fields are written.
+// The functions that C calls: the answer's number is returned, and its five fields are written; of a dispatcher's result six.
 use crate::begin::begin_put;
 use crate::begin::begin_take;
+use crate::dispatcher::dispatch;
 use crate::new::make;
 use crate::work::step;
 use rules::Answer;
+use rules::Dispatched;
 ghost use mathlib.Core.Path.{_≡_};
 ghost use Rattle.rules.specs.Answers.{numberOf, fieldsOf};
 ghost use Rattle.rules.specs.Begin.{beginPutOf, beginTakeOf};
+ghost use Rattle.rules.specs.Dispatch.{dispatchOf, resultNumber, resultFields};
 ghost use Rattle.rules.specs.Make.{makeOf};
 ghost use Rattle.rules.specs.Step.{stepOf};
 
@@ -105,4 +108,45 @@ pub extern "C" fn pool_step(words: &mut [u32], worker: u32, fields: &mut [u32; 5
 {
     let a = step(words, worker);
     answered(a, fields)
+}
+
+// Writes the six fields of a dispatcher's result; its number.
+fn came_to(r: Dispatched, fields: &mut [u32; 6]) -> u32
+    ensures { λ n. ⌜ (n ≡ resultNumber r) × (now (fields .exit) ≡ resultFields r) ⌝ }
+{
+    match r {
+        Dispatched::Finished { worker, answer } => {
+            let mut five = [0, 0, 0, 0, 0];
+            let n = answered(answer, &mut five);
+            *fields = [five[0], five[1], five[2], five[3], five[4], worker];
+            n
+        }
+        Dispatched::NoneBusy => {
+            *fields = [0, 0, 0, 0, 0, 0];
+            5
+        }
+        Dispatched::RanOut { next } => {
+            *fields = [0, 0, 0, 0, 0, next];
+            6
+        }
+        Dispatched::Refused(n) => {
+            *fields = [0, 0, 0, 0, 0, 0];
+            n
+        }
+    }
+}
+
+#[no_mangle]
+pub extern "C" fn pool_dispatch(
+    words: &mut [u32],
+    worker: u32,
+    steps: u32,
+    fields: &mut [u32; 6],
+) -> u32
+    ensures { λ r. ⌜ r ≡ resultNumber ((dispatchOf (now (words .entry)) worker steps) .result) ⌝ }
+    ensures { λ _. ⌜ now (words .exit) ≡ (dispatchOf (now (words .entry)) worker steps) .words ⌝ }
+    ensures { λ _. ⌜ now (fields .exit) ≡ resultFields ((dispatchOf (now (words .entry)) worker steps) .result) ⌝ }
+{
+    let r = dispatch(words, worker, steps);
+    came_to(r, fields)
 }

@@ -2,6 +2,7 @@
 mod apply;
 mod begin;
 mod cells;
+mod dispatcher;
 mod distance;
 pub mod export;
 mod new;
@@ -11,5 +12,6 @@ mod work;
 
 pub use begin::begin_put;
 pub use begin::begin_take;
+pub use dispatcher::dispatch;
 pub use new::make;
 pub use work::step;

@@ -35,7 +35,7 @@ fn slot_step(words: &mut [u32], g: Settings, at: usize) -> Answer
 }
 
 // A step of worker `i` of a fit pool.
-fn fit_step(words: &mut [u32], g: Settings, i: u32) -> Answer
+pub fn fit_step(words: &mut [u32], g: Settings, i: u32) -> Answer
     requires { ⌜ FitPool g (now words) ⌝ }
     ensures { λ r. ⌜ out r (now (words .exit)) ≡ fitStep (now (words .entry)) g i ⌝ }
 {

@@ -6,12 +6,12 @@ use mathlib.Core.List.{List}
 use mathlib.Core.Bool.{Bool, true, false}
 use native.Mathlib.Omega.{arith}
 use lib.ListN.{getD, length}
-use lib.Dec.{ltb, leb, lit<}
+use lib.Dec.{ltb, leb, eqb, lit<}
 use borrow.Author.Tests.{ltb-true, ltb-false, leb-true, eq-eqb, ne-eqb, eqb-true}
 use Rattle.laws.specs.Choice.{cond, cases, both-true, all, all-holds, allBelow-at}
 use Rattle.rules.specs.Layout.{headWords, workerWords, workerAt, needed, settingsOf}
 use Rattle.rules.specs.Limits.{limits, queueLimits, settingsFit, Bounds}
-use Rattle.rules.specs.Fit.{headFit, subFit, subsFit, wordFit, workersFit, bodyChecked, checkedOf, refusalOf, SubFits, FitPool}
+use Rattle.rules.specs.Fit.{headFit, subFit, subsFit, phaseFit, wordFit, workersFit, bodyChecked, checkedOf, refusalOf, SubFits, FitPool}
 use Rattle.rules.specs.declared.Settings.{Settings}
 use Rattle.rules.specs.declared.Checked.{Checked}
 use Rattle.rules.specs.declared.Checked.the-variants.{Unfit, Fit}
@@ -108,6 +108,34 @@ fit-pool ws g e =
     let head = passed (headFit ws) 23 _ g (passed-not (ltb (length ws) headWords) 21 _ g e .1) in
     let p = body-fit ws (settingsOf ws) g refl (both-true _ _ (head .0) .0) (head .1) in
     subst (λ (h : Settings). FitPool h ws) (p .1) (p .0)
+
+-- its settings are within limits and its words 10 and 11 zero, and each worker is in a phase of its kind
+head-is : (ws : List ℕ) → headFit ws ≡ true → (settingsFit (settingsOf ws) ≡ true) × (getD ws 10 0 ≡ 0) × (getD ws 11 0 ≡ 0)
+unfolding headFit
+head-is ws e =
+    let zeros = both-true (eqb (getD ws 10 0) 0) (eqb (getD ws 11 0) 0) (both-true (settingsFit (settingsOf ws)) _ e .1) in
+    (both-true (settingsFit (settingsOf ws)) _ e .0, eqb-true _ _ (zeros .0), eqb-true _ _ (zeros .1))
+
+pub fit-head : (ws : List ℕ) (g : Settings) → checkedOf ws ≡ Fit g → (settingsFit g ≡ true) × (getD ws 10 0 ≡ 0) × (getD ws 11 0 ≡ 0)
+unfolding checkedOf
+fit-head ws g e =
+    let h = head-is ws (passed (headFit ws) 23 _ g (passed-not (ltb (length ws) headWords) 21 _ g e .1) .0) in
+    (subst (λ (x : Settings). settingsFit x ≡ true) (fit-pool ws g e .settings) (h .0), h .1, h .2)
+
+body-workers : (ws : List ℕ) (h g : Settings) → bodyChecked ws h ≡ Fit g → (workersFit ws h ≡ true) × (h ≡ g)
+unfolding bodyChecked
+body-workers ws h g e =
+    let workers = passed (workersFit ws h) 23 _ g (passed (subsFit ws h) 23 _ g (passed-not (ltb (length ws) (needed h)) 21 _ g e .1) .1) in
+    (workers .0, fit-settings h g (workers .1))
+
+pub fit-number : (ws : List ℕ) (g : Settings) → checkedOf ws ≡ Fit g → (i : ℕ) → i < g .workers → phaseFit (g .kind) (getD ws (workerAt g i) 0) ≡ true
+unfolding checkedOf wordFit cond
+fit-number ws g e i l =
+    let body = passed (headFit ws) 23 _ g (passed-not (ltb (length ws) headWords) 21 _ g e .1) .1 in
+    let p = body-workers ws (settingsOf ws) g body in
+    let workers : workersFit ws g ≡ true = subst (λ (h : Settings). workersFit ws h ≡ true) (p .1) (p .0) in
+    let z : workerAt g i + 0 ≡ workerAt g i = omega arith in
+    rw z at (worker-word ws g i 0 l (lit< tt) workers)
 
 -- a refusal's number is not 0, so 0 means that the pool is fit, and any other number is the refusal
 Numbered : Settings → Checked → Type 0

@@ -30,7 +30,7 @@ use Rattle.rules.proofs.machine.Does.{SharedAfter, rule-in}
 use Rattle.rules.proofs.order.Given.{item-of, item-not}
 use Rattle.rules.proofs.Transfer.{Related, next-related, related-after}
 use Rattle.rules.proofs.words.Says.{held-same}
-use Rattle.rules.proofs.words.Follows.{view-same}
+use Rattle.rules.proofs.words.Stores.{view-same}
 
 -- a stamp up to the next one is that one, or is up to the last
 next-stamp : (c stamp : ℕ) → bit (eqb (suc c) stamp) + bit (leb stamp c) ≤ bit (leb stamp (suc c))
@@ -109,7 +109,7 @@ module _ (g : Settings) (limits : settingsFit g ≡ true) (k : Kind g) where
         mark = rw (says .mark) (safe .mark);
         first = λ j l. rw (says .first j l) (safe .first j l);
         second = λ j l. rw (says .second j l) (safe .second j l);
-        rule = λ i l. rw (says .slot i l, view-same g limits ws s says (r .whole .common) counts i l) (safe .rule i);
+        rule = λ i l. rw (says .slot i l, view-same g ws s says i l (r .whole .common .slots i .index)) (safe .rule i);
       }
 
   pub safe-after : {ws : List ℕ} {s : State} → Rel ws s → (cs : List Call) → NoSumWraps g (wordsAfter ws cs)
@@ -134,7 +134,7 @@ module _ (g : Settings) (limits : settingsFit g ≡ true) (k : Kind g) where
   unfolding applyIn
   fine-rule s q common inv i = (
     not-21 s i (ruleOf g (viewIn s i)) (ruleOf g (viewIn s i) .outcome)
-        (rule-in g (settings-bounds g limits) s common (k .counts s q inv) i .shared),
+        (rule-in g (settings-bounds g limits) s common i .shared),
     k .safe s q common inv .able i,
   )
 

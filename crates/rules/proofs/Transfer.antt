@@ -57,7 +57,7 @@ module _ (g : Settings) (limits : settingsFit g ≡ true) (k : Kind g) where
   with-common m (wins i op u n l a b w h z) = wins i op u n l a b (rest w) (whole m h) z
 
   whole-turn : (s : State) (q : Contents) → Whole s q → (c : Call) → After s q c (nextIn g s c)
-  whole-turn s q h c = with-common (common-next g (settings-bounds g limits) s (h .common) (k .counts s q (h .inv)) c) (turn g k s q (h .common) (h .inv) c)
+  whole-turn s q h c = with-common (common-next g (settings-bounds g limits) s (h .common) c) (turn g k s q (h .common) (h .inv) c)
 
   -- ---- the list after a call
   pub record Onward (s : State) (q : Contents) (o : Next State) : Type 0 where

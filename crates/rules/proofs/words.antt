@@ -6,5 +6,7 @@ pub mod Places
 pub mod Fit
 pub mod After
 pub mod Landed
+pub mod Stores
+pub mod Stays
 pub mod Follows
 pub mod Made

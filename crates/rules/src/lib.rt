@@ -167,3 +167,18 @@ pub enum Checked {
     Unfit(u32),
     Fit(Settings),
 }
+
+// Whose turn it is: the worker's number.
+pub enum Turn {
+    NoneBusy,
+    Worker(u32),
+}
+
+// What a dispatcher comes to. `Finished` names the worker, with its final answer; where the count ran out, `next` is the
+// worker whose turn is next.
+pub enum Dispatched {
+    Finished { worker: u32, answer: Answer },
+    NoneBusy,
+    RanOut { next: u32 },
+    Refused(u32),
+}

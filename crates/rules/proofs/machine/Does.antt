@@ -72,12 +72,18 @@ pub record Removes (g : Settings) (v : View) (e : Effect) : Type 0 where
   pub low : rowsBelow g (v .second) < e .row .0
   pub high : e .row .0 ≤ v .first
 
+-- a sub that is fit, and whose counts are so few that one more does not wrap
+pub record Counted (g : Settings) (v : View) : Type 0 where
+  pub sub : SubFits g (v .first) (v .second)
+  pub first-few : v .first ≤ 4000000000
+  pub second-few : v .second ≤ 4000000000
+
 abbrev pub SharedAfter : Settings → View → Effect → Outcome → Type 0
 SharedAfter g v e (Refused n) = (n ≡ 23) ⊎ (n ≡ 26)
 SharedAfter g v e Moving = SameItems v e × SameWindow v e
 SharedAfter g v e Shifted = SameItems v e
-SharedAfter g v e Landed = Lands g v e
-SharedAfter g v e Removed = Removes g v e
+SharedAfter g v e Landed = Counted g v → Lands g v e
+SharedAfter g v e Removed = Counted g v → Removes g v e
 SharedAfter g v e Empty = SameItems v e × SameWindow v e
 SharedAfter g v e Full = SameItems v e × SameWindow v e
 
@@ -85,8 +91,7 @@ pub record Does (g : Settings) (v : View) (e : Effect) : Type 0 where
   pub slot : SlotFits g (e .slot)
   pub shared : SharedAfter g v e (e .outcome)
 
-module _ (g : Settings) (b : Bounds g) (v : View) (fits : SlotFits g (v .slot)) (sub : SubFits g (v .first) (v .second))
-    (first-few : v .first ≤ 4000000000) (second-few : v .second ≤ 4000000000) where
+module _ (g : Settings) (b : Bounds g) (v : View) (fits : SlotFits g (v .slot)) where
   abbrev D : Effect → Type 0
   D e = Does g v e
 
@@ -152,17 +157,17 @@ module _ (g : Settings) (b : Bounds g) (v : View) (fits : SlotFits g (v .slot)) 
 
   queue-does : g .kind ≡ 0 → (side : Side) (seen : ℕ) → D (queueCommit g v side seen)
   unfolding queueCommit
-  queue-does k Putting seen = commit-by Putting _ _ _ (rested _ (fits .index)) (λ e.
+  queue-does k Putting seen = commit-by Putting _ _ _ (rested _ (fits .index)) (λ e c.
       let free : sub32 (v .first) (v .second) < g .rows = ltb-true _ _ e in
       record {
         window = record { top = refl; mark = refl };
         below = refl;
-        first = add32-suc (v .first) (omega arith);
-        row = add32-suc (v .first) (omega arith);
-        free = rw (queue-below g k (v .second)) (omega (arith, sub .queue-order k, sub32-is (v .first) (v .second) (sub .queue-order k) (omega arith)));
+        first = add32-suc (v .first) (omega (arith, c .first-few));
+        row = add32-suc (v .first) (omega (arith, c .first-few));
+        free = rw (queue-below g k (v .second)) (omega (arith, c .sub .queue-order k, sub32-is (v .first) (v .second) (c .sub .queue-order k) (omega (arith, c .first-few))));
       })
-  queue-does k Taking seen = commit-by Taking _ _ _ (rested _ (fits .index)) (λ e.
-      let more : add32 (v .second) 1 ≡ suc (v .second) = add32-suc (v .second) (omega arith) in
+  queue-does k Taking seen = commit-by Taking _ _ _ (rested _ (fits .index)) (λ e c.
+      let more : add32 (v .second) 1 ≡ suc (v .second) = add32-suc (v .second) (omega (arith, c .second-few)) in
       let some : v .second < v .first = ltb-true _ _ e in
       record {
         window = record { top = refl; mark = refl };
@@ -174,18 +179,18 @@ module _ (g : Settings) (b : Bounds g) (v : View) (fits : SlotFits g (v .slot)) 
 
   stack-does : g .kind ≡ 1 → (side : Side) (seen : Version) → D (stackCommit g v side seen)
   unfolding stackCommit
-  stack-does k Putting seen = commit-by Putting _ _ _ (rested _ (fits .index)) (λ e.
+  stack-does k Putting seen = commit-by Putting _ _ _ (rested _ (fits .index)) (λ e c.
       let free : v .first < g .rows = ltb-true _ _ e in
       record {
         window = record { top = refl; mark = refl };
         below = stack-below g k _ ∙ sym (stack-below g k _);
-        first = add32-suc (v .first) (omega arith);
-        row = add32-suc (v .first) (omega arith);
+        first = add32-suc (v .first) (omega (arith, c .first-few));
+        row = add32-suc (v .first) (omega (arith, c .first-few));
         free = rw (stack-below g k (v .second)) (omega arith);
       })
-  stack-does k Taking seen = commit-by Taking _ _ _ (rested _ (fits .index)) (λ e.
+  stack-does k Taking seen = commit-by Taking _ _ _ (rested _ (fits .index)) (λ e c.
       let some : 0 < v .first = ltb-true _ _ e in
-      let less : sub32 (v .first) 1 ≡ v .first - 1 = sub32-is (v .first) 1 some (omega arith) in
+      let less : sub32 (v .first) 1 ≡ v .first - 1 = sub32-is (v .first) 1 some (omega (arith, c .first-few)) in
       record {
         window = record { top = refl; mark = refl };
         puts = refl;
@@ -235,11 +240,14 @@ module _ (g : Settings) (b : Bounds g) (v : View) (fits : SlotFits g (v .slot)) 
   rule-does = let t = phase-from (g .kind) (v .slot) in rule-by-does (phaseOf (g .kind) (v .slot)) (t .0) (t .1)
 
 -- ---- each call
-module _ (g : Settings) (b : Bounds g) (s : State) (common : Common g s) (counts : Counts g s) where
+module _ (g : Settings) (b : Bounds g) (s : State) (common : Common g s) where
   pub rule-in : (i : ℕ) → Does g (viewIn s i) (ruleOf g (viewIn s i))
-  rule-in i =
+  rule-in i = rule-does g b (viewIn s i) (common .slots i)
+
+  pub counted-in : Counts g s → (i : ℕ) → Counted g (viewIn s i)
+  counted-in counts i =
       let lj : subIn s i < g .width = common .slots i .index in
-      rule-does g b (viewIn s i) (common .slots i) (counts .sub _ lj) (counts .first-few _ lj) (counts .second-few _ lj)
+      record { sub = counts .sub _ lj; first-few = counts .first-few _ lj; second-few = counts .second-few _ lj }
 
   slots-upd : (i : ℕ) (x : Slot) → SlotFits g x → (j : ℕ) → SlotFits g (upd (s .slot) i x j)
   slots-upd i x l j = upd-all (λ m (y : Slot). SlotFits g y) (s .slot) i x j (λ e. l) (λ n. common .slots j)

@@ -1,4 +1,4 @@
--- Words that say a machine's state with fit slots and counts are checked fit: no call on a pool from make answers 21 or 23.
+-- Words that say a machine's state with fit slots and subs are checked fit: no call on a pool from make answers 21 or 23.
 use mathlib.Core.Path.{_≡_, refl, sym, subst}
 use mathlib.Core.Bool.{Bool, true}
 use mathlib.Core.List.{List}
@@ -15,7 +15,7 @@ use Rattle.rules.specs.Fit.{headFit, subFit, subsFit, wordFit, workersFi
 use Rattle.rules.proofs.Types.{Settings}
 use Rattle.rules.specs.declared.Checked.the-variants.{Fit}
 use Rattle.rules.proofs.machine.Machine.{State}
-use Rattle.rules.proofs.machine.Turns.{SlotFits, Common, Counts}
+use Rattle.rules.proofs.machine.Turns.{SlotFits, Common}
 use Rattle.rules.proofs.words.Says.{Says}
 
 -- a test that holds at each number below the bound
@@ -48,10 +48,10 @@ word-fit g ws at h k =
     (λ e. cases (λ (b : Bool). b ≡ true) (eqb k 5) _ _ (λ e. rw (eqb-true k 5 e) (lt-ltb _ _ (h .scan))) (λ e. refl)))
 
 module _ (g : Settings) (limits : settingsFit g ≡ true) (kind1 : g .kind ≤ 1) (ws : List ℕ) (s : State)
-    (says : Says g ws s) (common : Common g s) (counts : Counts g s) where
+    (says : Says g ws s) (common : Common g s) (subs : (j : ℕ) → j < g .width → SubFits g (s .first j) (s .second j)) where
   subs-fit : subsFit ws g ≡ true
   unfolding subsFit
-  subs-fit = all-below (g .width) _ (λ j l. rw (says .first j l, says .second j l) (sub-is-fit g (s .first j) (s .second j) kind1 (counts .sub j l)))
+  subs-fit = all-below (g .width) _ (λ j l. rw (says .first j l, says .second j l) (sub-is-fit g (s .first j) (s .second j) kind1 (subs j l)))
 
   workers-fit : workersFit ws g ≡ true
   unfolding workersFit

@@ -32,11 +32,12 @@ use Rattle.rules.proofs.Fitness.{settings-bounds}
 use Rattle.rules.proofs.Cells.{held-fits}
 use Rattle.rules.proofs.machine.Machine.{State, next, subIn, viewIn, belowIn, takenIn, afterIn, applyIn, applyInBy, stepIn, withSlot, beginIn, nextIn}
 use Rattle.rules.proofs.machine.Turns.{Common, Counts}
-use Rattle.rules.proofs.machine.Does.{SameItems, SameWindow, Keeps, same-keeps, SharedAfter, rule-in}
+use Rattle.rules.proofs.machine.Does.{SharedAfter, rule-in, counted-in}
 use Rattle.rules.proofs.words.Says.{Says, distance-same}
-use Rattle.rules.proofs.words.Writes.{slot-length, slot-off, slot-on, slot-kept, sharedSet, SamePuts, SameTop, SameSub, still-shared, shifted-shared, landed-shared, removed-shared}
+use Rattle.rules.proofs.words.Writes.{slot-length, slot-off, slot-on, slot-kept, SameTop, landed-shared, removed-shared}
 use Rattle.rules.proofs.words.Fit.{checked-fit}
-use Rattle.rules.proofs.words.After.{after-says, keeps-cells}
+use Rattle.rules.proofs.words.After.{after-says}
+use Rattle.rules.proofs.words.Stores.{index-same, number-same, view-same, puts-as, top-as, stores, stores-worker, stores-shifted}
 use Rattle.rules.proofs.words.Landed.{landed-says, landed-cells}
 
 pub record Follows (g : Settings) (o : Out) (n : Next State) : Type 0 where
@@ -65,22 +66,6 @@ module _ (g : Settings) (limits : settingsFit g ≡ true) (ws : List ℕ) (s : S
     lj : subIn s i < g .width
     lj = common .slots i .index
 
-    -- the worker's words, and what it reads
-    index-same : getD ws (workerAt g i + 2) 0 ≡ subIn s i
-    unfolding slotAt
-    index-same = ap (λ (x : Slot). x .index) (says .slot i li)
-
-    number-same : getD ws (workerAt g i) 0 ≡ s .slot i .number
-    unfolding slotAt
-    number-same = ap (λ (x : Slot). x .number) (says .slot i li)
-
-    pub view-same : viewOf ws (workerAt g i) ≡ viewIn s i
-    unfolding viewOf
-    view-same =
-        let a = ap (λ (x : ℕ). getD ws (subAt x) 0) index-same ∙ says .first (subIn s i) lj in
-        let b = ap (λ (x : ℕ). getD ws (subAt x + 1) 0) index-same ∙ says .second (subIn s i) lj in
-        λ u. record { top = says .top u; mark = says .mark u; puts = says .puts u; first = a u; second = b u; slot = says .slot i li u }
-
     -- ---- an effect, by how it ends
     module _ (few : s .steps < 4000000000) (e : Effect) where
       taken-same : (r : ℕ) → belowIn g s (subIn s i) < r → r ≤ s .first (subIn s i) → takenOf ws g (subIn s i) (record { 0 = r }) ≡ takenIn g s (subIn s i) r
@@ -90,31 +75,13 @@ module _ (g : Settings) (limits : settingsFit g ≡ true) (ws : List ℕ) (s : S
           ∙ ap (λ (d : ℕ). Taken (s .item (subIn s i) r .value) (subIn s i) (record { 0 = r }) (record { 0 = s .item (subIn s i) r .stamp }) d)
           (distance-same g ws s says order (s .item (subIn s i) r .stamp))
 
-      -- where the words are as they were
-      puts-as : e .puts ≡ s .puts → SamePuts ws (subIn s i) e
-      puts-as h = says .puts ∙ sym h
-
-      top-as : SameWindow (viewIn s i) e → SameTop ws (subIn s i) e
-      top-as h = (says .top ∙ sym (h .top), says .mark ∙ sym (h .mark))
-
-      sub-as : SameItems (viewIn s i) e → SameSub ws (subIn s i) e
-      sub-as h = (says .first _ lj ∙ sym (h .first), says .second _ lj ∙ sym (h .second))
-
-      -- from what an outcome stores to all that a step may store
-      stores : (vs : List ℕ) → vs ≡ sharedSet ws (subIn s i) e → Keeps g (viewIn s i) e → Says g (putWorker vs (workerAt g i) e) (afterIn s i e)
-      stores vs same h = rw same (after-says g ws s says i li lj e few (keeps-cells g ws s says i li lj e h))
-
-      stores-worker : SameItems (viewIn s i) e × SameWindow (viewIn s i) e → Says g (putWorker ws (workerAt g i) e) (afterIn s i e)
-      stores-worker h =
-          stores _ (still-shared ws (subIn s i) e (puts-as (h .0 .puts)) (top-as (h .1)) (sub-as (h .0))) (same-keeps g (viewIn s i) e (h .0))
-
       follow-apply : (o : Outcome) → SharedAfter g (viewIn s i) e o → Follows g (applyBy ws g (workerAt g i) (subIn s i) e o) (applyInBy g s i e o)
       unfolding putLanded applyBy applyInBy
       follow-apply (Refused n) h = record { answer = refl; says = says }
-      follow-apply Moving h = record { answer = refl; says = stores-worker h }
-      follow-apply Shifted h =
-          record { answer = refl; says = stores _ (shifted-shared ws (subIn s i) e (puts-as (h .puts)) (sub-as h)) (same-keeps g (viewIn s i) e h) }
-      follow-apply Landed h =
+      follow-apply Moving h = record { answer = refl; says = stores-worker g ws s says i li lj few e h }
+      follow-apply Shifted h = record { answer = refl; says = stores-shifted g ws s says i li lj few e h }
+      follow-apply Landed lands =
+          let h = lands (counted-in g bounds s common counts i) in
           let stored = landed-says g ws s says bounds i lj (counts .first-few _ lj) (order _ lj) e h in
           let top : SameTop (putItem ws g (subIn s i) (e .value) (e .row) (stampOf e)) (subIn s i) e =
           (stored .top ∙ sym (h .window .top), stored .mark ∙ sym (h .window .mark)) in
@@ -123,28 +90,30 @@ module _ (g : Settings) (limits : settingsFit g ≡ true) (ws : List ℕ) (s : S
             says = rw (landed-shared _ (subIn s i) e top) (after-says g _ _ stored i li lj e few
                 (landed-cells g ws s says bounds i lj (counts .first-few _ lj) (order _ lj) e h));
           }
-      follow-apply Removed h =
+      follow-apply Removed removes =
+          let h = removes (counted-in g bounds s common counts i) in
           record {
             answer = taken-same (e .row .0) (h .low) (h .high);
-            says = stores _ (removed-shared ws (subIn s i) e (puts-as (h .puts)) (top-as (h .window))) (h .keeps);
+            says = stores g ws s says i li lj few e _
+                (removed-shared ws (subIn s i) e (puts-as g ws s says i li lj few e (h .puts)) (top-as g ws s says i li lj few e (h .window))) (h .keeps);
           }
-      follow-apply Empty h = record { answer = refl; says = stores-worker h }
-      follow-apply Full h = record { answer = refl; says = stores-worker h }
+      follow-apply Empty h = record { answer = refl; says = stores-worker g ws s says i li lj few e h }
+      follow-apply Full h = record { answer = refl; says = stores-worker g ws s says i li lj few e h }
 
     follow-rule : s .steps < 4000000000
         → Follows g (applyOf ws g (workerAt g i) (getD ws (workerAt g i + 2) 0) (ruleOf g (viewOf ws (workerAt g i)))) (applyIn g s i (ruleOf g (viewIn s i)))
     unfolding applyOf applyIn
     follow-rule few =
-        rw (view-same, index-same)
+        rw (view-same g ws s says i li lj, index-same g ws s says i li)
         (follow-apply few (ruleOf g (viewIn s i)) (ruleOf g (viewIn s i) .outcome)
-        (rule-in g bounds s common counts i .shared))
+        (rule-in g bounds s common i .shared))
 
     follow-step : Follows g (slotStep ws g (workerAt g i))
         (cond (eqb (s .slot i .number) 0) (next (NotDone 26) s)
         (cond (leb 4000000000 (s .steps)) (next (NotDone 27) s) (applyIn g s i (ruleOf g (viewIn s i)))))
     unfolding slotStep
     follow-step =
-        rw (number-same, says .steps)
+        rw (number-same g ws s says i li, says .steps)
         (either g (eqb (s .slot i .number) 0) (λ a. refuses 26)
         (λ a. either g (leb 4000000000 (s .steps)) (λ b. refuses 27) (λ b. follow-rule (leb-false _ _ b))))
 
@@ -194,14 +163,14 @@ module _ (g : Settings) (limits : settingsFit g ≡ true) (ws : List ℕ) (s : S
         (next (NotDone 25) s))
     unfolding slotBegin
     follow-begin side v =
-        rw (number-same, says .steps, index-same)
+        rw (number-same g ws s says i li, says .steps, index-same g ws s says i li)
         (either g (eqb (s .slot i .number) 0)
         (λ a. either g (leb 4000000000 (s .steps)) (λ b. refuses 27) (λ b. record { answer = refl; says = begun-says _ }))
         (λ a. refuses 25))
 
   -- ---- a call
   checked : checkedOf ws ≡ Fit g
-  checked = checked-fit g limits (bounds .kind1) ws s says common counts
+  checked = checked-fit g limits (bounds .kind1) ws s says common (counts .sub)
 
   step-follows : (i : ℕ) → Follows g (stepOf ws i) (stepIn g s i)
   unfolding stepOf checkedStep fitStep stepIn

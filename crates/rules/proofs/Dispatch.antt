@@ -1,0 +1,108 @@
+-- The dispatcher's turns, as its code's proofs take them: the first busy worker found by looking at one after the other, and a turn by what its
+-- step answers.
+use mathlib.Core.Path.{_≡_, refl, _∙_, subst}
+use mathlib.Core.Logic.{_≢_}
+use mathlib.Core.List.{List, [], _∷_, _++_}
+use Prim.Native.Nat.{ℕ, zero, suc, _-_, _<_}
+use native.Mathlib.Nat.{mod-lt}
+use native.Mathlib.Omega.{arith}
+use lib.ListN.{getD}
+use lib.Dec.{eqb}
+use borrow.Author.Tests.{eq-eqb, ne-eqb, eqb-false}
+use Rattle.laws.specs.Choice.{cond, cases}
+use Rattle.rules.specs.Answers.{Out, numberOf, fieldsOf}
+use Rattle.rules.specs.Layout.{workerAt}
+use Rattle.rules.specs.Fit.{checkedOf}
+use Rattle.rules.specs.Step.{fitStep, checkedStep, stepOf}
+use Rattle.rules.specs.Dispatch.{dispatched, workerAfter, busyFrom, turnFrom, endedBy, afterStep, turnsOf}
+use Rattle.rules.specs.declared.Settings.{Settings}
+use Rattle.rules.specs.declared.Checked.the-variants.{Fit}
+use Rattle.rules.specs.declared.Answer.{Answer}
+use Rattle.rules.specs.declared.Answer.the-variants.{Moving, Put, Taken, Empty, Full, Refused}
+use Rattle.rules.specs.declared.Turn.{Turn}
+use Rattle.rules.specs.declared.Turn.the-variants.{NoneBusy as Nobody, Worker}
+use Rattle.rules.specs.declared.Dispatched.the-variants.{NoneBusy, RanOut}
+
+-- ---- whose turn it is
+module _ (ws : List ℕ) (g : Settings) where
+  abbrev phase : ℕ → ℕ
+  phase i = getD ws (workerAt g i) 0
+
+  pub busy-here : (i m : ℕ) → 0 < m → phase i ≢ 0 → busyFrom ws g i m ≡ Worker i
+  unfolding busyFrom cond
+  busy-here i zero l n = absurd (omega arith)
+  busy-here i (suc m) l n = rw (ne-eqb (phase i) 0 n) refl
+
+  pub busy-next : (i m : ℕ) → 0 < m → phase i ≡ 0 → busyFrom ws g i m ≡ busyFrom ws g (workerAfter g i) (m - 1)
+  unfolding busyFrom cond
+  busy-next i zero l e = absurd (omega arith)
+  busy-next i (suc m) l e = let less : suc m - 1 ≡ m = omega arith in rw (less, eq-eqb (phase i) 0 e) refl
+
+  pub busy-none : (i m : ℕ) → m ≡ 0 → busyFrom ws g i m ≡ Nobody
+  unfolding busyFrom
+  busy-none i zero e = refl
+  busy-none i (suc m) e = absurd (omega arith)
+
+  -- it is a worker of the pool's, and busy
+  pub record Turned (j : ℕ) : Type 0 where
+    pub among : j < g .workers
+    pub busy : phase j ≢ 0
+
+  worker-same : (i j : ℕ) → Worker i ≡ Worker j → i ≡ j
+  worker-same i j e = cc
+
+  nobody : (j : ℕ) → Nobody ≡ Worker j → ⊥
+  nobody j e = let z : _≡_ {A = ℕ} 0 1 = cc in omega arith
+
+  turned-by : (m i j : ℕ) → i < g .workers → busyFrom ws g i m ≡ Worker j → Turned j
+  unfolding busyFrom
+  turned-by zero i j l e = absurd (nobody j e)
+  turned-by (suc m) i j l e =
+      cases (λ (t : Turn). t ≡ Worker j → Turned j) (eqb (phase i) 0) _ _
+      (λ b f. turned-by m (workerAfter g i) j (mod-lt _ (omega arith)) f)
+      (λ b f. subst Turned (worker-same i j f) (record { among = l; busy = eqb-false _ _ b })) e
+
+  pub turned : (i j : ℕ) → i < g .workers → turnFrom ws g i ≡ Worker j → Turned j
+  turned i j l e = turned-by (g .workers) i j l e
+
+  -- ---- one turn
+  pub turns-none : (i k : ℕ) → turnFrom ws g i ≡ Nobody → turnsOf ws g i k ≡ dispatched NoneBusy ws
+  unfolding turnsOf
+  turns-none i zero e = rw e refl
+  turns-none i (suc k) e = rw e refl
+
+  pub turns-out : (i j k : ℕ) → k ≡ 0 → turnFrom ws g i ≡ Worker j → turnsOf ws g i k ≡ dispatched (RanOut i) ws
+  unfolding turnsOf
+  turns-out i j zero z e = rw e refl
+  turns-out i j (suc k) z e = absurd (omega arith)
+
+  pub turns-step : (i j k : ℕ) → 0 < k → turnFrom ws g i ≡ Worker j
+      → turnsOf ws g i k ≡ afterStep j (stepOf ws j) (turnsOf (stepOf ws j .words) g (workerAfter g j) (k - 1))
+  unfolding turnsOf
+  turns-step i j zero l e = absurd (omega arith)
+  turns-step i j (suc k) l e = let less : suc k - 1 ≡ k = omega arith in rw (less, e) refl
+
+  -- a step that moves, and one that ends the turns
+  module _ (i j k : ℕ) (l : 0 < k) (e : turnFrom ws g i ≡ Worker j) (o : Out) (step : stepOf ws j ≡ o) where
+    pub turns-on : numberOf (o .answer) ≡ 0 → turnsOf ws g i k ≡ turnsOf (o .words) g (workerAfter g j) (k - 1)
+    unfolding afterStep cond
+    turns-on z = turns-step i j k l e ∙ rw (step, eq-eqb (numberOf (o .answer)) 0 z) refl
+
+    pub turns-end : numberOf (o .answer) ≢ 0 → turnsOf ws g i k ≡ dispatched (endedBy j (o .answer)) (o .words)
+    unfolding afterStep cond
+    turns-end n = turns-step i j k l e ∙ rw (step, ne-eqb (numberOf (o .answer)) 0 n) refl
+
+  -- on a fit pool
+  pub fit-step : checkedOf ws ≡ Fit g → (j : ℕ) → stepOf ws j ≡ fitStep ws g j
+  unfolding stepOf checkedStep
+  fit-step e j = rw e refl
+
+-- ---- the six fields of a final answer are its five, and the worker
+pub six-fields : (a : Answer) (worker : ℕ) (five : List ℕ) → five ≡ fieldsOf a
+    → _≡_ {A = List ℕ} (getD five 0 0 ∷ getD five 1 0 ∷ getD five 2 0 ∷ getD five 3 0 ∷ getD five 4 0 ∷ worker ∷ []) (fieldsOf a ++ (worker ∷ []))
+six-fields Moving worker five e = rw e refl
+six-fields (Put value sub row stamp) worker five e = rw e refl
+six-fields (Taken value sub row stamp distance) worker five e = rw e refl
+six-fields Empty worker five e = rw e refl
+six-fields Full worker five e = rw e refl
+six-fields (Refused n) worker five e = rw e refl

@@ -1,0 +1,84 @@
+-- K7, the statement: "For a line from make, in all orders: of any 6 × n × (w + 1) + 1 counted steps in a row, begins between them allowed, at
+-- least one gives put, taken, empty or full." The field calls this lock freedom, with a bound: among the workers that step, some operation ends.
+-- How many steps in a row may go without a final answer is a parameter: K7 has its own number, and the closest one is exact.
+use Prim.Native.Nat.{ℕ, _+_, _-_, _*_, _≤_, _<_, max}
+use mathlib.Core.Path.{_≡_}
+use mathlib.Core.Logic.{_≢_}
+use mathlib.Core.List.{List, [], _∷_}
+use lib.ListN.{getD, take, drop}
+use lib.Dec.{leb, eqb}
+use Rattle.laws.specs.Choice.{cond}
+use Rattle.rules.specs.Answers.{numberOf}
+use Rattle.rules.specs.Layout.{stepsAt, workerAt}
+use Rattle.rules.specs.Limits.{stepLimit}
+use Rattle.rules.specs.Run.{Call, beginPut, beginTake, step, Event, run, at, Final, StepOf}
+use Rattle.rules.specs.Consequences.{wordsAfter, OfEveryRun}
+use Rattle.rules.specs.Dispatch.{DispatchOut, dispatchOf}
+use Rattle.rules.specs.declared.Settings.{Settings}
+use Rattle.rules.specs.declared.Answer.{Answer}
+use Rattle.rules.specs.declared.Dispatched.the-variants.{Finished}
+
+-- ---- the figures: the most counted steps in a row without a final answer
+-- K7's
+abbrev pub k7Stretch : Settings → ℕ
+k7Stretch g = 6 * g .workers * (g .width + 1)
+
+-- one worker: a take's window, w reads and shift, again window and w reads, and its commit is final; several: each of the others owes the rest of
+-- a pass, a confirm or a shift that fails, and what a take makes from its begin on
+abbrev pub exactStretch : Settings → ℕ
+exactStretch g =
+    cond (eqb (g .workers) 1) (2 * g .width + 3)
+    ((g .workers - 1) * max (5 * g .width + 1) (4 * g .width + 3) + (g .width + 4))
+
+-- ---- a stretch of a run: the m events from position p on
+abbrev pub stretch : ℕ → ℕ → List Event → List Event
+stretch p m es = take m (drop p es)
+
+-- "counted": a step that was not refused; begins and refused calls may stand between
+abbrev pub countedCall : Call → Answer → ℕ
+countedCall (beginPut i v) a = 0
+countedCall (beginTake i) a = 0
+countedCall (step i) a = cond (leb (numberOf a) 4) 1 0
+
+unfoldable pub countedSteps : List Event → ℕ
+countedSteps [] = 0
+countedSteps (e ∷ es) = countedCall (e .call) (e .answer) + countedSteps es
+
+-- "at least one gives put, taken, empty or full"
+pub record Finishes (es : List Event) : Type 0 where
+  pub worker : ℕ
+  pub position : ℕ
+  pub own : StepOf es worker position
+  pub final : Final (at es position .answer)
+
+-- ---- the claim: every stretch of the run of any list of calls on a new queue
+abbrev pub StretchWithin : (Settings → ℕ) → Type 0
+StretchWithin most = OfEveryRun (λ g ws cs.
+    g .kind ≡ 0 → (p m : ℕ) → most g < countedSteps (stretch p m (run ws cs)) → Finishes (stretch p m (run ws cs)))
+
+abbrev pub K7 : Type 0
+K7 = StretchWithin k7Stretch
+
+abbrev pub StretchExact : Type 0
+StretchExact = StretchWithin exactStretch
+
+-- ---- what a caller wants of it: a dispatcher finishes an operation, where a worker is busy, its count is more than such a stretch, and so are
+-- the steps left
+abbrev pub Busy : Settings → List ℕ → Type 0
+Busy g ws = (i : ℕ) × (i < g .workers) × (getD ws (workerAt g i) 0 ≢ 0)
+
+pub record FinishesIn (g : Settings) (o : DispatchOut) : Type 0 where
+  pub worker : ℕ
+  pub among : worker < g .workers
+  pub answer : Answer
+  pub result : o .result ≡ Finished worker answer
+  pub final : Final answer
+
+abbrev pub DispatchWithin : (Settings → ℕ) → Type 0
+DispatchWithin most = OfEveryRun (λ g ws cs.
+    g .kind ≡ 0 → (i steps : ℕ) → i < g .workers → Busy g (wordsAfter ws cs)
+    → most g < steps → getD (wordsAfter ws cs) stepsAt 0 + most g < stepLimit
+    → FinishesIn g (dispatchOf (wordsAfter ws cs) i steps))
+
+abbrev pub DispatchFinishes : Type 0
+DispatchFinishes = DispatchWithin exactStretch
