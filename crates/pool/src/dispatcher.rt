@@ -8,7 +8,7 @@ use rules::Settings;
 use rules::Turn;
 ghost use mathlib.Core.Path.{_≡_};
 ghost use Prim.Native.Nat.{_<_};
-ghost use Rattle.rules.specs.Answers.{numberOf, out};
+ghost use Rattle.rules.specs.Answers.{numberOf};
 ghost use Rattle.rules.specs.Fit.{FitPool, checkedOf};
 ghost use Rattle.rules.specs.Dispatch.{dispatched, turnFrom, endedBy, turnsOf, fitDispatch, dispatchOf};
 ghost use Rattle.rules.specs.declared.Checked.the-variants.{Fit};

@@ -32,7 +32,7 @@ use Rattle.rules.proofs.Cells.{cell-lt}
 use Rattle.rules.proofs.Fitness.{fit-pool}
 
 -- ---- stores below n
-unchanged : (n : ℕ) (ws : List ℕ) → Beyond n ws ws
+pub unchanged : (n : ℕ) (ws : List ℕ) → Beyond n ws ws
 unchanged n ws = record { length-same = refl; same = λ k l. refl }
 
 store-keeps : (n i v : ℕ) (ws after : List ℕ) → i < n → Beyond n ws after → Beyond n ws (set after i v)

@@ -1,7 +1,7 @@
 -- K7, the statement: "For a line from make, in all orders: of any 6 × n × (w + 1) + 1 counted steps in a row, begins between them allowed, at
 -- least one gives put, taken, empty or full." The field calls this lock freedom, with a bound: among the workers that step, some operation ends.
 -- How many steps in a row may go without a final answer is a parameter: K7 has its own number, and the closest one is exact.
-use Prim.Native.Nat.{ℕ, _+_, _-_, _*_, _≤_, _<_, max}
+use Prim.Native.Nat.{ℕ, _+_, _-_, _*_, _<_, max}
 use mathlib.Core.Path.{_≡_}
 use mathlib.Core.Logic.{_≢_}
 use mathlib.Core.List.{List, [], _∷_}
@@ -23,8 +23,8 @@ use Rattle.rules.specs.declared.Dispatched.the-variants.{Finished}
 abbrev pub k7Stretch : Settings → ℕ
 k7Stretch g = 6 * g .workers * (g .width + 1)
 
--- one worker: a take's window, w reads and shift, again window and w reads, and its commit is final; several: each of the others owes the rest of
--- a pass, a confirm or a shift that fails, and what a take makes from its begin on
+-- one worker: a take makes a window, w reads, a shift, a window and w reads, and its commit is final. Several: one has just begun a put, w + 4; each
+-- other makes a take whose pass comes to nothing, w - 1 reads and w confirms, or w reads and a shift, and then 3w + 2 from its window step on
 abbrev pub exactStretch : Settings → ℕ
 exactStretch g =
     cond (eqb (g .workers) 1) (2 * g .width + 3)
@@ -82,3 +82,6 @@ DispatchWithin most = OfEveryRun (λ g ws cs.
 
 abbrev pub DispatchFinishes : Type 0
 DispatchFinishes = DispatchWithin exactStretch
+
+abbrev pub DispatchK7 : Type 0
+DispatchK7 = DispatchWithin k7Stretch

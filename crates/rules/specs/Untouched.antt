@@ -7,6 +7,7 @@ use Rattle.rules.specs.Layout.{needed, settingsOf}
 use Rattle.rules.specs.Make.{makeOf}
 use Rattle.rules.specs.Begin.{beginOf}
 use Rattle.rules.specs.Step.{stepOf}
+use Rattle.rules.specs.Dispatch.{dispatchOf}
 use Rattle.rules.specs.declared.Settings.{Settings}
 use Rattle.rules.specs.declared.Side.{Side}
 
@@ -23,3 +24,6 @@ BeginKeeps = (ws : List ℕ) (i : ℕ) (side : Side) (value : ℕ) → Beyond (n
 
 abbrev pub StepKeeps : Type 0
 StepKeeps = (ws : List ℕ) (i : ℕ) → Beyond (needed (settingsOf ws)) ws (stepOf ws i .words)
+
+abbrev pub DispatchKeeps : Type 0
+DispatchKeeps = (ws : List ℕ) (i steps : ℕ) → Beyond (needed (settingsOf ws)) ws (dispatchOf ws i steps .words)

@@ -27,15 +27,17 @@ use Rattle.rules.specs.Apply.{putItem, putSub, putLanded, putShifted, putWorker
 use Rattle.rules.specs.Step.{ruleBy, ruleOf, slotStep, fitStep, checkedStep, stepOf}
 use Rattle.rules.specs.Sequential.{putting, taking, mostPassed, leastFull}
 use Rattle.rules.specs.Solo.{soloSteps}
+use Rattle.rules.specs.Stretch.{k7Stretch, exactStretch, countedSteps}
 use Rattle.rules.specs.Newer.{k14Bound, frameworkBound, thesisBound, exactBound}
 use Rattle.rules.specs.Run.{callOf, run}
 use Rattle.rules.specs.declared.Settings.{Settings}
 use Rattle.rules.specs.declared.Answer.the-variants.{Moving}
-use Rattle.runs.specs.Rows.{makeNumber, linesOf, runOf, AllHold, end, _also_}
+use Rattle.runs.specs.Rows.{makeNumber, linesOf, eventsOf, runOf, AllHold, end, _also_}
 use Rattle.runs.specs.Notation.{queue, stack}
 use Rattle.runs.specs.Table.{table}
 use Rattle.runs.specs.Extremes.{extremes}
 use Rattle.runs.specs.Solos.{solos}
+use Rattle.runs.specs.Stretches.{Unanswered, oneWorker, movedWindow, changedSub, endless, stretches}
 
 pub make-number : (ws : List ℕ) (g : Settings) → numberOf (makeOf ws g .answer) ≡ makeNumber g (length ws)
 unfolding makeOf makeNumber cond
@@ -46,8 +48,8 @@ make-number ws g = go (settingsFit g) (ltb (length ws) (needed g))
     go true false = refl
     go false b = refl
 
-pub runs-hold : AllHold table × AllHold extremes × AllHold solos
-unfolding table extremes solos runOf linesOf makeNumber settingsFit run callOf cond allBelow slotAt putSlot queuePhase stackPhase phaseOf decode encode encodePhase headFit subFit subsFit phaseFit wordFit workersFit bodyChecked checkedOf zeroed indexed madeWords makeOf slotBegin fitBegin checkedBegin beginOf viewOf nextOf windowRule missOf queuePutRead queueTakeRead stackRead checkRule commitBy queueCommit stackCommit shiftBy queueShift stackShift confirmedOf confirmRule itemsAbove heldSub heldBelow countItems distanceOf putItem putSub putLanded putShifted putWorker takenOf applyBy applyOf ruleBy ruleOf slotStep fitStep checkedStep stepOf
+pub runs-hold : AllHold table × AllHold extremes × AllHold solos × AllHold stretches
+unfolding table extremes solos stretches oneWorker movedWindow changedSub endless eventsOf runOf linesOf makeNumber settingsFit run callOf cond allBelow slotAt putSlot queuePhase stackPhase phaseOf decode encode encodePhase headFit subFit subsFit phaseFit wordFit workersFit bodyChecked checkedOf zeroed indexed madeWords makeOf slotBegin fitBegin checkedBegin beginOf viewOf nextOf windowRule missOf queuePutRead queueTakeRead stackRead checkRule commitBy queueCommit stackCommit shiftBy queueShift stackShift confirmedOf confirmRule itemsAbove heldSub heldBelow countItems distanceOf putItem putSub putLanded putShifted putWorker takenOf applyBy applyOf ruleBy ruleOf slotStep fitStep checkedStep stepOf
 runs-hold = (
   record { made = refl; lines = refl }
       also record { made = refl; lines = refl }
@@ -72,6 +74,11 @@ runs-hold = (
       also end,
   record { made = refl; lines = refl }
       also record { made = refl; lines = refl }
+      also record { made = refl; lines = refl }
+      also record { made = refl; lines = refl }
+      also record { made = refl; lines = refl }
+      also end,
+  record { made = refl; lines = refl }
       also record { made = refl; lines = refl }
       also record { made = refl; lines = refl }
       also record { made = refl; lines = refl }
@@ -105,3 +112,18 @@ pub solo-reached :
     × (soloSteps (stack 2 1 1 3 2) (putting 5) ≡ 12) × (soloSteps (stack 2 1 1 3 2) taking ≡ 12) × (soloSteps (stack 5 1 1 2 2) taking ≡ 19)
 unfolding cond
 solo-reached = (refl, refl, refl, refl, refl)
+
+-- and K7's: the three of queues are as long as its exact figure says, and the stack's is longer than K7's
+pub stretches-reached : Unanswered oneWorker 26 8 7 × Unanswered movedWindow 24 13 12 × Unanswered changedSub 20 18 17 × Unanswered endless 5 32 30
+unfolding oneWorker movedWindow changedSub endless eventsOf run callOf cond allBelow slotAt putSlot queuePhase stackPhase phaseOf decode encode encodePhase headFit subFit subsFit phaseFit wordFit workersFit bodyChecked checkedOf zeroed indexed madeWords makeOf slotBegin fitBegin checkedBegin beginOf viewOf nextOf windowRule missOf queuePutRead queueTakeRead stackRead checkRule commitBy queueCommit stackCommit shiftBy queueShift stackShift confirmedOf confirmRule itemsAbove heldSub heldBelow countItems distanceOf putItem putSub putLanded putShifted putWorker takenOf applyBy applyOf ruleBy ruleOf slotStep fitStep checkedStep stepOf settingsFit countedSteps
+stretches-reached = (
+  record { zeros = refl; counted = refl },
+  record { zeros = refl; counted = refl },
+  record { zeros = refl; counted = refl },
+  record { zeros = refl; counted = refl },
+)
+
+pub stretch-figures :
+    (exactStretch (queue 2 1 2 1) ≡ 7) × (exactStretch (queue 1 1 2 2) ≡ 12) × (exactStretch (queue 2 1 2 2) ≡ 17) × (k7Stretch (queue 1 1 2 2) ≡ 24)
+unfolding cond
+stretch-figures = (refl, refl, refl, refl)

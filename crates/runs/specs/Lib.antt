@@ -3,3 +3,4 @@ pub mod Notation
 pub mod Table
 pub mod Extremes
 pub mod Solos
+pub mod Stretches

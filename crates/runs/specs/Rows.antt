@@ -56,8 +56,11 @@ unfoldable pub linesOf : (ℕ → ℕ) → List Event → List Line
 linesOf f [] = []
 linesOf f (e ∷ es) = lineFor (stepsAfter f (e .call) (numberOf (e .answer))) e ++ linesOf (stepsAfter f (e .call) (numberOf (e .answer))) es
 
+unfoldable pub eventsOf : Row → List Event
+eventsOf r = run (set ((makeOf (replicate (r .lent) 0) (r .settings)) .words) stepsAt (r .counted)) (r .calls)
+
 unfoldable pub runOf : Row → List Line
-runOf r = linesOf (λ i. 0) (run (set ((makeOf (replicate (r .lent) 0) (r .settings)) .words) stepsAt (r .counted)) (r .calls))
+runOf r = linesOf (λ i. 0) (eventsOf r)
 
 -- a row holds: make answers as it says, and the run's finished operations and refusals are its lines
 pub record Holds (r : Row) : Type 0 where

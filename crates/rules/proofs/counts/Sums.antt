@@ -1,5 +1,5 @@
 -- Functions changed at one place, sums over the subs, and counts over the rows 1 to n. Nothing here knows a pool.
-use mathlib.Core.Path.{_≡_, refl, sym, ap}
+use mathlib.Core.Path.{_≡_, refl, sym, ap, _∙_}
 use mathlib.Core.Logic.{_≢_}
 use mathlib.Core.Bool.{Bool, true, false}
 use Prim.Native.Nat.{ℕ, zero, suc, _+_, _-_, _*_, _≤_, _<_}
@@ -62,6 +62,16 @@ sum-bump f g (suc n) i c l h e = elim (ℕ-discrete i n) [
       omega arith
   | no ne ↦ omega (arith, sum-bump f g n i c (omega arith) (λ k m. h k (omega arith)) e, h n (omega arith) (λ z. ne (sym z)))
 ]
+
+-- one value in place of another
+pub sum-swap : (f : ℕ → ℕ) (n i x : ℕ) → i < n → sumN (upd f i x) n + f i ≡ sumN f n + x
+sum-swap f n i x l =
+    let to : sumN (upd f i (f i + x)) n ≡ sumN f n + x =
+    sum-bump f (upd f i (f i + x)) n i x l (λ j m ne. upd-other f i (f i + x) j ne) (upd-same f i (f i + x)) in
+    let from : sumN (upd f i (f i + x)) n ≡ sumN (upd f i x) n + f i =
+    sum-bump (upd f i x) (upd f i (f i + x)) n i (f i) l (λ j m ne. upd-other f i (f i + x) j ne ∙ sym (upd-other f i x j ne))
+    (omega (arith, upd-same f i (f i + x), upd-same f i x)) in
+    omega arith
 
 -- pointwise below, and no less in all: equal everywhere
 pub sum-tight : (f g : ℕ → ℕ) (n : ℕ) → ((k : ℕ) → k < n → f k ≤ g k) → sumN g n ≤ sumN f n → (k : ℕ) → k < n → f k ≡ g k

@@ -2,6 +2,7 @@
 -- It goes by the same `ruleOf` as the words do. An item stays at its sub and row for good, taken or not; the words forget it
 -- when its cell is used again, which is why words and machine are joined over the held rows alone.
 use mathlib.Core.Path.{_≡_, refl, ap}
+use mathlib.Core.Logic.{_≢_}
 use mathlib.Core.Bool.{Bool}
 use Prim.Native.Nat.{ℕ, suc, _-_, _%_}
 use lib.Dec.{leb, eqb}
@@ -17,7 +18,7 @@ use Rattle.rules.specs.Run.{Call, beginPut, beginTake, step}
 use Rattle.rules.proofs.Types.{Settings, Side, Putting, Taking, Phase, Idle, Window, Slot, View, Effect, Outcome, Answer}
 use Rattle.rules.specs.declared.Outcome.the-variants.{Refused as Stays, Moving as Moves, Shifted, Landed, Removed, Empty as NoItem, Full as NoRoom}
 use Rattle.rules.specs.declared.Answer.the-variants.{Moving, Put, Taken, Empty, Full, Refused}
-use Rattle.rules.proofs.counts.Sums.{upd, upd-self, sumN, upTo}
+use Rattle.rules.proofs.counts.Sums.{upd, upd-other, upd-self, sumN, upTo}
 use Rattle.rules.proofs.order.Law.{Next}
 
 -- the words of a pool, the settings apart; `item` by sub and row
@@ -202,3 +203,18 @@ module _ (g : Settings) (s : State) (i : ℕ) where
       → applyIn g s i (finishedOf (viewIn s i) NoRoom index) ≡ next Full (turnedIn s i (s .top) (s .mark) (fresh 0 index Idle))
   unfolding applyIn applyInBy
   apply-full index = ap (next Full) (after-turned s i (s .top) (s .mark) _)
+
+  -- ---- any step leaves the other workers' slots
+  apply-other-by : (e : Effect) (j : ℕ) → j ≢ i → (o : Outcome) → applyInBy g s i e o .state .slot j ≡ s .slot j
+  unfolding applyInBy
+  apply-other-by e j n (Stays m) = refl
+  apply-other-by e j n Moves = upd-other (s .slot) i (e .slot) j n
+  apply-other-by e j n Shifted = upd-other (s .slot) i (e .slot) j n
+  apply-other-by e j n Landed = upd-other (s .slot) i (e .slot) j n
+  apply-other-by e j n Removed = upd-other (s .slot) i (e .slot) j n
+  apply-other-by e j n NoItem = upd-other (s .slot) i (e .slot) j n
+  apply-other-by e j n NoRoom = upd-other (s .slot) i (e .slot) j n
+
+  pub apply-other : (e : Effect) (j : ℕ) → j ≢ i → applyIn g s i e .state .slot j ≡ s .slot j
+  unfolding applyIn
+  apply-other e j n = apply-other-by e j n (e .outcome)

@@ -1,11 +1,14 @@
--- A slot's phase, and a slot that is written with a phase of its kind: it is fit where its index and its scan are.
-use mathlib.Core.Path.{_≡_, refl, sym, subst}
+-- A slot's phase, which is idle only where its number is 0, and a slot that is written with a phase of its kind: it is fit where its index
+-- and its scan are.
+use mathlib.Core.Path.{_≡_, refl, sym, ap, _∙_, subst}
 use mathlib.Core.Logic.{_≢_}
-use mathlib.Core.Bool.{Bool, true, false}
-use Prim.Native.Nat.{ℕ, _<_}
-use lib.Dec.{eqb}
-use borrow.Author.Tests.{eqb-true, eqb-false}
-use Rattle.laws.specs.Choice.{cond, cases}
+use mathlib.Core.Bool.{Bool, true, false, false≢true}
+use Prim.Native.Nat.{ℕ, _≤_, _<_}
+use native.Mathlib.Decide.{ℕ-discrete}
+use native.Mathlib.Omega.{arith}
+use lib.Dec.{ltb, eqb}
+use borrow.Author.Tests.{ltb-false, eqb-true, eqb-false}
+use Rattle.laws.specs.Choice.{cond, cases, allBelow, allBelow-at}
 use Rattle.rules.specs.Fit.{phaseFit}
 use Rattle.rules.specs.Worker.{phaseOf, queuePhase, stackPhase, encode, encodePhase}
 use Rattle.rules.proofs.Types.{Settings, Putting, Taking, Phase, Idle, Window, QueuePutRead, QueueTakeRead, StackRead, Check, QueueCommit, StackCommit, QueueShift, StackShift, Confirm, Slot}
@@ -44,6 +47,50 @@ phase-from kind o =
     cases (λ p. OfKind kind p × (scanIn p (o .scan) ≡ o .scan)) (eqb kind 0) _ _
     (λ e. (((λ k. queue-from o .0), (λ n. absurd (n (eqb-true _ _ e)))), queue-from o .1))
     (λ e. (((λ k. absurd (eqb-false _ _ e k)), (λ n. stack-from o .0)), stack-from o .1))
+
+-- ---- the number of a fit slot's phase is the slot's own: computed for each of the numbers up to 14
+abbrev numbered : Slot → ℕ → Slot
+numbered o x =
+    record {
+      number = x;
+      value = o .value;
+      index = o .index;
+      window = o .window;
+      extra = o .extra;
+      scan = o .scan;
+      seen = o .seen;
+      sum = o .sum;
+    }
+
+abbrev readsBack : ℕ → Slot → ℕ → Bool
+readsBack kind o x = cond (phaseFit kind x) (eqb (encodePhase (phaseOf kind (numbered o x)) 0 0 o .number) x) true
+
+queue-reads : (o : Slot) → allBelow 15 (readsBack 0 o) ≡ true
+unfolding allBelow phaseFit phaseOf queuePhase encodePhase cond
+queue-reads o = refl
+
+stack-reads : (o : Slot) → allBelow 15 (readsBack 1 o) ≡ true
+unfolding allBelow phaseFit phaseOf stackPhase encodePhase cond
+stack-reads o = refl
+
+reads : (kind : ℕ) → kind ≤ 1 → (o : Slot) → allBelow 15 (readsBack kind o) ≡ true
+reads kind l o = elim (ℕ-discrete kind 0) [
+  | yes e ↦ rw e (queue-reads o)
+  | no n ↦ let e : kind ≡ 1 = omega arith in rw e (stack-reads o)
+]
+
+number-few : (kind x : ℕ) → phaseFit kind x ≡ true → x < 15
+unfolding phaseFit
+number-few kind x = cases (λ (b : Bool). b ≡ true → x < 15) (ltb 14 x) _ _ (λ t e. absurd (false≢true e)) (λ t e. omega (arith, ltb-false 14 x t))
+
+number-back : (kind : ℕ) → kind ≤ 1 → (o : Slot) → phaseFit kind (o .number) ≡ true → encodePhase (phaseOf kind o) 0 0 o .number ≡ o .number
+unfolding cond
+number-back kind l o fit = eqb-true _ _ (rw fit at (allBelow-at 15 (readsBack kind o) (o .number) (number-few kind (o .number) fit) (reads kind l o)))
+
+-- so a worker whose phase's number is not 0 is not idle
+pub not-idle : (g : Settings) → g .kind ≤ 1 → (o : Slot) → SlotFits g o → o .number ≢ 0 → phaseOf (g .kind) o ≢ Idle
+unfolding encodePhase
+not-idle g l o fits busy e = busy (sym (number-back (g .kind) l o (fits .number)) ∙ ap (λ (p : Phase). encodePhase p 0 0 o .number) e)
 
 -- ---- a slot that is written with a phase of the kind
 pub of-both : (kind : ℕ) (b : Bool) → (kind ≡ 0 → b ≡ true) → cond (eqb kind 0) b true ≡ true

@@ -18,8 +18,12 @@ pub record Clean (w : ℕ) (count : ℕ → ℕ) (index scan sum : ℕ) : Type 0
   pub summed : Summed w count index scan sum
   pub exact : (j : ℕ) → j < w → Visited w index scan j → summed .reads j ≡ count j
 
+-- a pass that has read nothing yet
+pub clean-none : {w : ℕ} {count : ℕ → ℕ} {index sum : ℕ} → Summed w count index 0 sum → Clean w count index 0 sum
+clean-none k = record { summed = k; exact = λ j l v. absurd (visited-none l v) }
+
 pub clean-start : (w : ℕ) (count : ℕ → ℕ) (index : ℕ) → Clean w count index 0 0
-clean-start w count index = record { summed = summed-start w count index; exact = λ j l v. absurd (visited-none l v) }
+clean-start w count index = clean-none (summed-start w count index)
 
 -- one sub more
 pub clean-more : (g : Settings) (count : ℕ → ℕ) (index scan sum : ℕ) → index < g .width → scan < g .width

@@ -1,6 +1,7 @@
 -- What a kind shows for K3, its law of a worker that steps alone; the queue's and the stack's.
 use mathlib.Core.Path.{_≡_, refl}
-use Prim.Native.Nat.{ℕ}
+use mathlib.Core.Logic.{inl}
+use Prim.Native.Nat.{ℕ, _+_, _*_, _<_}
 use native.Mathlib.Nat.{le-refl}
 use native.Mathlib.Omega.{arith}
 use Rattle.rules.specs.Step.{ruleOf, ruleBy}
@@ -9,15 +10,14 @@ use Rattle.rules.proofs.Types.{Settings, Side, Putting, Taking, Phase, 
 use Rattle.rules.proofs.machine.Machine.{State, subIn, viewIn, phaseIn, applyIn, withSlot}
 use Rattle.rules.proofs.machine.Good.{Good}
 use Rattle.rules.proofs.machine.Turns.{Common, Kind}
-use Rattle.rules.proofs.queue.Inv.{Inv as QueueInv}
 use Rattle.rules.proofs.queue.Turn.{queueKind}
 use Rattle.rules.proofs.stack.Inv.{Inv as StackInv}
 use Rattle.rules.proofs.stack.Turn.{stackKind}
-use Rattle.rules.proofs.progress.Left.{due}
+use Rattle.rules.proofs.progress.StackDue.{due}
 use Rattle.rules.proofs.progress.Steps.{Measure, Result}
-use Rattle.rules.proofs.progress.QueueLeft.{putBase, takeBase, queueLeft}
-use Rattle.rules.proofs.progress.QueuePut.{put-window, put-read, put-commit, put-shift}
-use Rattle.rules.proofs.progress.QueueTake.{take-window, take-read, take-commit, take-shift, take-confirm}
+use Rattle.rules.proofs.progress.QueueLeft.{PutWindow, TakeWindow, queueLeft}
+use Rattle.rules.proofs.progress.QueueResult.{result}
+use Rattle.rules.proofs.progress.QueueSteps.{queue-step}
 use Rattle.rules.proofs.progress.StackLeft.{stackBase, stackLeft}
 use Rattle.rules.proofs.progress.StackPass.{window-step, read-step, check-step, commit-step}
 use Rattle.rules.proofs.progress.StackShift.{shift-step, stack-confirm}
@@ -32,44 +32,29 @@ pub record SoloLaw (g : Settings) (k : Kind g) (begun : Side → ℕ) : Type 1 w
   pub steps : (s : State) (q : Contents) → Common g s → k .Inv s q → (i n : ℕ) → Left s n (subIn s i) (phaseIn g s i)
       → Result g Left s i n (applyIn g s i (ruleOf g (viewIn s i)))
 
--- ---- the queue: a begun operation has one shift to come
+-- ---- the queue: a take that starts where every sub is below the window has 2w left, its window, w reads and all confirms but the last
 abbrev pub queueBegun : Settings → Side → ℕ
-queueBegun g Putting = due (g .width) putBase 1
-queueBegun g Taking = due (g .width) (takeBase g) 1
+queueBegun g Putting = g .width + 4
+queueBegun g Taking = g .width + 2 + 2 * g .width
 
 module _ (g : Settings) (good : Good g) (kind : g .kind ≡ 0) where
-  queue-by : (s : State) (q : Contents) → Common g s → QueueInv g s q → (i n : ℕ) (p : Phase) → phaseIn g s i ≡ p → queueLeft g s n (subIn s i) p
-      → Result g (queueLeft g) s i n (applyIn g s i (ruleBy g (viewIn s i) p))
-  unfolding ruleBy
-  queue-by s q common inv i n Idle now x = absurd x
-  queue-by s q common inv i n (Window Putting) now x = put-window g good kind s q common inv i n x
-  queue-by s q common inv i n (Window Taking) now x = take-window g good kind s q common inv i n x
-  queue-by s q common inv i n (QueuePutRead window scan) now x = put-read g good kind s q common inv i n window scan now (x .0) (x .1)
-  queue-by s q common inv i n (QueueTakeRead window bare scan sum) now x = take-read g good kind s q common inv i n window bare scan sum now x
-  queue-by s q common inv i n (StackRead side window version scan sum) now x = absurd x
-  queue-by s q common inv i n (Check side version seen) now x = absurd x
-  queue-by s q common inv i n (QueueCommit Putting seen) now x = put-commit g good kind s q common inv i n seen now x
-  queue-by s q common inv i n (QueueCommit Taking seen) now x = take-commit g good kind s q common inv i n seen now x
-  queue-by s q common inv i n (StackCommit side seen) now x = absurd x
-  queue-by s q common inv i n (QueueShift Putting window) now x = put-shift g good kind s q common inv i n window (x .0) (x .1)
-  queue-by s q common inv i n (QueueShift Taking window) now x = take-shift g good kind s q common inv i n window (x .0) (x .1)
-  queue-by s q common inv i n (StackShift side version scan sum) now x = absurd x
-  queue-by s q common inv i n (Confirm Putting scan sum) now x = absurd x
-  queue-by s q common inv i n (Confirm Taking scan sum) now x = take-confirm g good kind s q common inv i n scan sum now x
+  -- L is enough, wherever the take window moves
+  pub twice : g .width < 2 * g .width
+  twice = omega (arith, good .bounds .width1)
 
-  queue-begins : (s : State) (index : ℕ) (side : Side) → queueLeft g s (queueBegun g side) index (Window side)
-  queue-begins s index Putting = record { shifts = 1; near = tt; left = le-refl _ }
-  queue-begins s index Taking = record { shifts = 1; near = tt; left = le-refl _ }
+  queue-begins : (s : State) (index : ℕ) (side : Side) → queueLeft g (2 * g .width) s (queueBegun g side) index (Window side)
+  queue-begins s index Putting = PutWindow.any (le-refl _)
+  queue-begins s index Taking = TakeWindow.any (le-refl _)
 
   pub queueSolo : SoloLaw g (queueKind g good kind) (queueBegun g)
-  unfolding queueKind ruleOf
+  unfolding queueKind
   queueSolo =
       record {
-        Left = queueLeft g;
+        Left = queueLeft g (2 * g .width);
         busy = λ s n index x. x;
         apart = λ s j x n index p left. left;
         begins = λ s q inv index side. queue-begins s index side;
-        steps = λ s q common inv i n x. queue-by s q common inv i n (phaseIn g s i) refl x;
+        steps = λ s q common inv i n x. result (queue-step g good kind (2 * g .width) twice s q common inv (λ l. inl (le-refl _)) i n x);
       }
 
 -- ---- the stack: two shifts, since the corridor is d + s high

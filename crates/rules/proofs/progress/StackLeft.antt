@@ -1,4 +1,4 @@
--- What a stack's worker that steps alone has left (Left), by its phase.
+-- What a stack's worker that steps alone has left (StackDue), by its phase.
 --
 -- Its reads are all fresh: it saw the present window and its version, and the versions that its pass read are still so; no check and no
 -- commit of its own fails. It shifts at most twice, in one direction. For the corridor (stack/Inv) is d + s high: a put finds no sub more
@@ -16,8 +16,8 @@ use Rattle.rules.proofs.machine.Machine.{State, viewIn, applyIn}
 use Rattle.rules.proofs.machine.Phases.{worker, OfStack, stack-phase}
 use Rattle.rules.proofs.stack.Inv.{Sight, sight, Hit}
 use Rattle.rules.proofs.progress.Clean.{Clean}
-use Rattle.rules.proofs.progress.Left.{AtWindow, AtRead, AtShift}
-use Rattle.rules.proofs.progress.Steps.{Measure, Result, moves-on}
+use Rattle.rules.proofs.progress.StackDue.{AtWindow, AtRead, AtShift}
+use Rattle.rules.proofs.progress.Steps.{Measure, Result, goes, moves-on}
 use Rattle.rules.proofs.progress.Confirm.{AtConfirm}
 
 -- the window after a shift
@@ -75,4 +75,4 @@ stackLeft g s n index p = Left g (sight s) n index p
 pub stack-on : (g : Settings) → g .kind ≡ 1 → (s : State) (i n index : ℕ) (p : Phase) → OfStack p → (kept : Slot) → 1 ≤ n → stackLeft g s (n - 1) index p
     → Result g (stackLeft g) s i n (applyIn g s i (movedOf (viewIn s i) index p kept))
 stack-on g kind s i n index p of kept some left =
-    moves-on g (stackLeft g) s i n index p kept (stack-phase g kind (worker (s .slot i .value) index p) of kept) some left
+    goes (moves-on g (stackLeft g) s i n index p kept (stack-phase g kind (worker (s .slot i .value) index p) of kept) some left)

@@ -25,7 +25,7 @@ use Rattle.rules.proofs.stack.After.{versions-few}
 use Rattle.rules.proofs.stack.Moves.{sum-le-versions}
 use Rattle.rules.proofs.stack.Safe.{landsOf, commit-cases}
 use Rattle.rules.proofs.progress.Clean.{Clean, clean-start, clean-more}
-use Rattle.rules.proofs.progress.Left.{AtWindow, window-left, window-read, read-again, read-shift}
+use Rattle.rules.proofs.progress.StackDue.{AtWindow, window-left, window-read, read-again, read-shift}
 use Rattle.rules.proofs.progress.Steps.{Result, finishes, miss-cases}
 use Rattle.rules.proofs.progress.StackLeft.{Near, stackBase, Reads, Checks, stackLeft, stack-on}
 
@@ -86,7 +86,7 @@ module _ (g : Settings) (good : Good g) (kind : g .kind ≡ 1) (s : State) (q : 
           window-is = a .window-is;
           version-is = a .version-is;
           clean = more;
-          left = read-again (a .left) hit-base (λ near. absurd (none near)) l;
+          left = read-again (a .left) hit-base none l;
         }))
         (λ e. stack-on g kind s i n (nextOf g j) (StackShift side version 0 (sum + s .second j)) tt _ (omega arith)
         (record { version-is = a .version-is; clean = rw e at more; left = read-shift (a .left) none e }))))

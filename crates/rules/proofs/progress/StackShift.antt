@@ -6,7 +6,7 @@ use lib.Dec.{eqb}
 use borrow.Author.Tests.{eqb-false}
 use Rattle.laws.specs.Choice.{cond-false, cases}
 use Rattle.laws.specs.Wrap.{add32, sub32}
-use Rattle.rules.specs.Effects.{movedOf}
+use Rattle.rules.specs.Effects.{movedOf, nextOf}
 use Rattle.rules.specs.Shift.{stackShift, shiftBy, shiftedOf}
 use Rattle.rules.specs.Confirm.{counted, confirmRule}
 use Rattle.rules.specs.Sequential.{Contents}
@@ -20,9 +20,9 @@ use Rattle.rules.proofs.machine.Turns.{Common}
 use Rattle.rules.proofs.stack.Inv.{sight, Shifting, Inv}
 use Rattle.rules.proofs.stack.After.{versions-few, window-ge, window-le}
 use Rattle.rules.proofs.progress.Clean.{rest-start}
-use Rattle.rules.proofs.progress.Left.{shift-window, shift-confirm, shift-left}
-use Rattle.rules.proofs.progress.Steps.{Result, shifts-on}
-use Rattle.rules.proofs.progress.Confirm.{AtConfirm, confirm-step}
+use Rattle.rules.proofs.progress.StackDue.{shift-window, shift-confirm, shift-left}
+use Rattle.rules.proofs.progress.Steps.{Result, goes, shifts-on, finds-nothing}
+use Rattle.rules.proofs.progress.Confirm.{AtConfirm, confirm-some, confirm-more, confirm-ends, confirm-cases}
 use Rattle.rules.proofs.progress.StackLeft.{shifted, Away, Shifts, stackLeft, stack-on}
 
 module _ (g : Settings) (good : Good g) (kind : g .kind ≡ 1) (s : State) (q : Contents) (common : Common g s) (inv : Inv g s q) (i n : ℕ) where
@@ -46,8 +46,8 @@ module _ (g : Settings) (good : Good g) (kind : g .kind ≡ 1) (s : State) (q : 
 
     moved : (side : Side) → Shifts g (sight s) n side j (version .0) sum → Steps (shiftedOf (viewIn s i) side (shifted g side (s .top)) (suc (s .mark)))
     moved side a =
-        shifts-on g (stackLeft g) s i n side (shifted g side (s .top)) (suc (s .mark)) (stack-phase g kind (worker (s .slot i .value) j (Window side)) tt (s .slot i))
-        (shift-left (a .left)) (shift-window (a .left) (λ k near m l. nearer side (s .first m) k (near m l)))
+        goes (shifts-on g (stackLeft g) s i n side (shifted g side (s .top)) (suc (s .mark)) (stack-phase g kind (worker (s .slot i .value) j (Window side)) tt (s .slot i))
+        (shift-left (a .left)) (shift-window (a .left) (λ k near m l. nearer side (s .first m) k (near m l))))
 
     to-confirm : (side : Side) → phaseIn g s i ≡ StackShift side version scan sum → Shifts g (sight s) n side j (version .0) sum
         → Steps (movedOf (viewIn s i) j (Confirm side scan sum) (s .slot i))
@@ -84,5 +84,7 @@ module _ (g : Settings) (good : Good g) (kind : g .kind ≡ 1) (s : State) (q : 
       let read : counted g (viewIn s i) ≡ s .second j = rw kind (cond-false _ _) in
       let few : sumN (s .second) (g .width) < 2 ^ 32 = omega (arith, versions-few (inv .pool)) in
       let scan-lt : scan < g .width = rw now at (inv .knows i) in
-      confirm-step g good (stackLeft g) s i n side (s .second) read few index
-      (λ x m t. stack-phase g kind (worker (s .slot i .value) x (Confirm side m t)) tt (s .slot i)) (λ x m t c. c) scan sum scan-lt a
+      confirm-cases g good (viewIn s i) Steps side scan sum (s .second j) read scan-lt
+      (λ l. stack-on g kind s i n (nextOf g j) (Confirm side (suc scan) (sub32 sum (s .second j))) tt _ (confirm-some a l) (confirm-more g a few index scan-lt))
+      (λ e. finds-nothing g (stackLeft g) s i n side (nextOf g j))
+      (λ e z kept. absurd (z (confirm-ends g a few index scan-lt good e)))

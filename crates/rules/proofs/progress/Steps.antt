@@ -1,5 +1,6 @@
--- A step of a worker that steps alone, for either kind. A measure says of a state, a number n, an index and a phase that a worker there
--- makes at most n more steps before the one that gives its final answer. A step gives that answer, or it goes on with one less.
+-- A worker's step, for either kind. A measure says of a state, a number n, an index and a phase that a worker there makes at most n more
+-- steps before the one that gives its final answer: a stack's while it steps alone, a queue's while nobody gives a final answer. A step
+-- gives that answer, or it goes on with one less.
 use mathlib.Core.Path.{_≡_, refl, sym, subst}
 use Prim.Native.Nat.{ℕ, suc, _-_, _≤_, _<_}
 use native.Mathlib.Omega.{arith}
@@ -8,7 +9,7 @@ use borrow.Author.Tests.{ltb-true, ltb-false}
 use Rattle.laws.specs.Choice.{cases}
 use Rattle.laws.specs.Wrap.{add32}
 use Rattle.rules.specs.Answers.{numberOf}
-use Rattle.rules.specs.Worker.{phaseOf, encode}
+use Rattle.rules.specs.Worker.{phaseOf, encode, fresh, zeroSlot}
 use Rattle.rules.specs.Effects.{movedOf, finishedOf, nothingFor, nextOf}
 use Rattle.rules.specs.Read.{missOf}
 use Rattle.rules.specs.Shift.{shiftedOf}
@@ -20,7 +21,8 @@ use Rattle.rules.proofs.counts.Wraps.{add32-suc}
 use Rattle.rules.proofs.order.Law.{Next}
 use Rattle.rules.proofs.order.Gives.{final-empty, final-full}
 use Rattle.rules.proofs.machine.Machine.{State, next, subIn, viewIn, phaseIn, applyIn, applyInBy, turnedIn, apply-moved, apply-shifted}
-use Rattle.rules.proofs.machine.Phases.{worker, encode-index}
+use Rattle.rules.proofs.machine.Phases.{worker, encode-index, window-phase}
+use Rattle.rules.proofs.machine.Calls.{begun}
 use Rattle.rules.proofs.machine.Good.{Good}
 
 abbrev pub Measure : Type 1
@@ -34,6 +36,13 @@ at-slot g M t i n k kept slot back left =
     let there : M t n (x .index) (k .phase) = subst (λ (m : ℕ). M t n m (k .phase)) (sym (encode-index k kept)) left in
     let in-phase : M t n (x .index) (phaseOf (g .kind) x) = subst (λ (p : Phase). M t n (x .index) p) (sym back) there in
     subst (λ (y : Slot). M t n (y .index) (phaseOf (g .kind) y)) (sym slot) in-phase
+
+-- and of one that has just begun
+pub at-begun : (g : Settings) (M : Measure) (s : State) (i n : ℕ) (side : Side) (v : ℕ) → M (begun s i side v) n (subIn s i) (Window side)
+    → M (begun s i side v) n (subIn (begun s i side v) i) (phaseIn g (begun s i side v) i)
+at-begun g M s i n side v left =
+    at-slot g M (begun s i side v) i n (worker v (subIn s i) (Window side)) zeroSlot (upd-same (s .slot) i (fresh v (subIn s i) (Window side)))
+    (window-phase (g .kind) side v (subIn s i) zeroSlot) left
 
 -- worker i's slot, as a step writes it that goes on to phase p at an index
 abbrev pub written : State → ℕ → ℕ → Phase → Slot → Slot
@@ -53,23 +62,23 @@ module _ (g : Settings) (M : Measure) (s : State) (i n : ℕ) where
 
   -- ---- on to phase p at an index: nothing that is shared changes, or the window words do
   module _ (top mark index : ℕ) (p : Phase) (kept : Slot) (back : phaseOf (g .kind) (written s i index p kept) ≡ p) (some : 1 ≤ n) where
-    turned-on : M (turnedIn s i top mark (written s i index p kept)) (n - 1) index p → Result (next Moving (turnedIn s i top mark (written s i index p kept)))
+    turned-on : M (turnedIn s i top mark (written s i index p kept)) (n - 1) index p → Goes (next Moving (turnedIn s i top mark (written s i index p kept)))
     turned-on left =
         let x : Slot = written s i index p kept in
-        goes (record {
+        record {
           answer = refl;
           steps = refl;
           some = some;
           left = at-slot g M (turnedIn s i top mark x) i (n - 1) (worker (s .slot i .value) index p) kept (upd-same (s .slot) i x) back left;
-        })
+        }
 
   pub moves-on : (index : ℕ) (p : Phase) (kept : Slot) → phaseOf (g .kind) (written s i index p kept) ≡ p → 1 ≤ n
-      → M (turnedIn s i (s .top) (s .mark) (written s i index p kept)) (n - 1) index p → Result (applyIn g s i (movedOf (viewIn s i) index p kept))
+      → M (turnedIn s i (s .top) (s .mark) (written s i index p kept)) (n - 1) index p → Goes (applyIn g s i (movedOf (viewIn s i) index p kept))
   moves-on index p kept back some left = rw (apply-moved g s i index p kept) (turned-on (s .top) (s .mark) index p kept back some left)
 
   pub shifts-on : (side : Side) (top mark : ℕ) → phaseOf (g .kind) (written s i (subIn s i) (Window side) (s .slot i)) ≡ Window side → 1 ≤ n
       → M (turnedIn s i top mark (written s i (subIn s i) (Window side) (s .slot i))) (n - 1) (subIn s i) (Window side)
-      → Result (applyIn g s i (shiftedOf (viewIn s i) side top mark))
+      → Goes (applyIn g s i (shiftedOf (viewIn s i) side top mark))
   shifts-on side top mark back some left =
       rw (apply-shifted g s i side top mark) (turned-on top mark (subIn s i) (Window side) (s .slot i) back some left)
 

@@ -201,3 +201,8 @@ queueKind g good kind =
       holding = λ s q inv. record { held = holds-below g kind s q (inv .pool); count = inv .pool .count };
       safe = safe g good kind;
     }
+
+-- its invariant, from the kind, which stays shut
+pub queue-inv : (g : Settings) (good : Good g) (kind : g .kind ≡ 0) (s : State) (q : Contents) → queueKind g good kind .Inv s q → Inv g s q
+unfolding queueKind
+queue-inv g good kind s q inv = inv

@@ -14,11 +14,11 @@ use Rattle.laws.specs.Choice.{cond}
 use Rattle.rules.specs.Answers.{Out, refuse}
 use Rattle.rules.specs.Limits.{settingsFit, Bounds}
 use Rattle.rules.specs.Layout.{subAt, workerAt, cellAt, settingsOf}
-use Rattle.rules.specs.Worker.{slotAt, putSlot, fresh}
+use Rattle.rules.specs.Worker.{putSlot, fresh}
 use Rattle.rules.specs.Held.{Item, itemAt, distanceOf}
 use Rattle.rules.specs.Fit.{checkedOf}
 use Rattle.rules.specs.Effects.{viewOf}
-use Rattle.rules.specs.Apply.{putItem, stampOf, putLanded, putWorker, takenOf, applyBy, applyOf}
+use Rattle.rules.specs.Apply.{putItem, stampOf, putLanded, takenOf, applyBy, applyOf}
 use Rattle.rules.specs.Begin.{slotBegin, fitBegin, checkedBegin, beginOf}
 use Rattle.rules.specs.Step.{ruleOf, slotStep, fitStep, checkedStep, stepOf}
 use Rattle.rules.specs.Run.{Call, beginPut, beginTake, step, callOf}
@@ -30,7 +30,7 @@ use Rattle.rules.proofs.counts.Sums.{upd-same, upd-other}
 use Rattle.rules.proofs.order.Law.{Next}
 use Rattle.rules.proofs.Fitness.{settings-bounds}
 use Rattle.rules.proofs.Cells.{held-fits}
-use Rattle.rules.proofs.machine.Machine.{State, next, subIn, viewIn, belowIn, takenIn, afterIn, applyIn, applyInBy, stepIn, withSlot, beginIn, nextIn}
+use Rattle.rules.proofs.machine.Machine.{State, next, subIn, viewIn, belowIn, takenIn, applyIn, applyInBy, stepIn, withSlot, beginIn, nextIn}
 use Rattle.rules.proofs.machine.Turns.{Common, Counts}
 use Rattle.rules.proofs.machine.Does.{SharedAfter, rule-in, counted-in}
 use Rattle.rules.proofs.words.Says.{Says, distance-same}

@@ -1,6 +1,5 @@
 -- `pool::dispatcher::ended` meets its contract: at each return the test that led there picks the same branch of `endedBy`.
 use borrow.Author.Tests.{le-leb, lt-leb}
-use mathlib.Core.Path.{sym}
 use borrow.Author.Needs.{needs}
 use Rattle.rules.specs.Dispatch.{endedBy}
 use Rattle.laws.specs.Choice.{cond}

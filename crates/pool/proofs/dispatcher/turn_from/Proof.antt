@@ -5,7 +5,7 @@ use native.Mathlib.Nat.{le-refl, mod-lt}
 use native.Mathlib.Omega.{arith}
 use borrow.Author.Needs.{needs}
 use Rattle.rules.specs.Dispatch.{busyFrom}
-use Rattle.rules.proofs.Dispatch.{busy-here, busy-next, busy-none}
+use Rattle.rules.proofs.dispatch.Turns.{busy-here, busy-next, busy-none}
 use Rattle.pool.proofs.dispatcher.turn_from.Statement.{statement}
 use Rattle.pool.proofs.dispatcher.turn_from.Tie as tie
 

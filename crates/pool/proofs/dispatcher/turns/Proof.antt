@@ -11,7 +11,7 @@ use Rattle.rules.specs.Fit.{checkedOf}
 use Rattle.rules.specs.Dispatch.{dispatched, turnsOf}
 use Rattle.rules.specs.declared.Checked.the-variants.{Fit}
 use Rattle.rules.proofs.Fitness.{fit-pool}
-use Rattle.rules.proofs.Dispatch.{turned, turns-none, turns-out, turns-on, turns-end, fit-step}
+use Rattle.rules.proofs.dispatch.Turns.{turned, turns-none, turns-out, turns-on, turns-end, fit-step}
 use Rattle.rules.proofs.words.Stays.{stays-fit}
 use Rattle.pool.proofs.dispatcher.turns.Statement.{statement}
 use Rattle.pool.proofs.dispatcher.turns.Tie as tie

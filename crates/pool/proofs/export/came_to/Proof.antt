@@ -2,7 +2,7 @@
 use mathlib.Core.Path.{ap, sym, _∙_}
 use borrow.Author.Needs.{needs}
 use Rattle.rules.specs.Dispatch.{resultFields, resultNumber}
-use Rattle.rules.proofs.Dispatch.{six-fields}
+use Rattle.rules.proofs.dispatch.Turns.{six-fields}
 use Rattle.pool.proofs.export.came_to.Statement.{statement}
 use Rattle.pool.proofs.export.came_to.Tie as tie
 

@@ -1,14 +1,15 @@
 -- The dispatcher's turns, as its code's proofs take them: the first busy worker found by looking at one after the other, and a turn by what its
 -- step answers.
 use mathlib.Core.Path.{_≡_, refl, _∙_, subst}
-use mathlib.Core.Logic.{_≢_}
+use mathlib.Core.Logic.{_≢_, _⊎_, inl, inr}
 use mathlib.Core.List.{List, [], _∷_, _++_}
-use Prim.Native.Nat.{ℕ, zero, suc, _-_, _<_}
-use native.Mathlib.Nat.{mod-lt}
+use Prim.Native.Nat.{ℕ, zero, suc, _+_, _-_, _<_}
+use native.Mathlib.Nat.{mod-lt, mod-eq-of-lt, mod-self}
+use native.Mathlib.Decide.{decLe, decLt}
 use native.Mathlib.Omega.{arith}
 use lib.ListN.{getD}
 use lib.Dec.{eqb}
-use borrow.Author.Tests.{eq-eqb, ne-eqb, eqb-false}
+use borrow.Author.Tests.{eq-eqb, ne-eqb, eqb-true, eqb-false}
 use Rattle.laws.specs.Choice.{cond, cases}
 use Rattle.rules.specs.Answers.{Out, numberOf, fieldsOf}
 use Rattle.rules.specs.Layout.{workerAt}
@@ -48,6 +49,9 @@ module _ (ws : List ℕ) (g : Settings) where
     pub among : j < g .workers
     pub busy : phase j ≢ 0
 
+  abbrev pub Found : Turn → Type 0
+  Found t = (j : ℕ) × (t ≡ Worker j)
+
   worker-same : (i j : ℕ) → Worker i ≡ Worker j → i ≡ j
   worker-same i j e = cc
 
@@ -64,6 +68,45 @@ module _ (ws : List ℕ) (g : Settings) where
 
   pub turned : (i j : ℕ) → i < g .workers → turnFrom ws g i ≡ Worker j → Turned j
   turned i j l e = turned-by (g .workers) i j l e
+
+  -- worker b is d workers on from i: at i + d, or there once the numbers have begun anew
+  abbrev On : ℕ → ℕ → ℕ → Type 0
+  On i b d = (i + d ≡ b) ⊎ (i + d ≡ b + g .workers)
+
+  on-here : (i b : ℕ) → i < g .workers → On i b 0 → i ≡ b
+  on-here i b l (inl e) = omega arith
+  on-here i b l (inr e) = absurd (omega arith)
+
+  on-next : (i b d : ℕ) → i < g .workers → b < g .workers → On i b (suc d) → On (workerAfter g i) b d
+  on-next i b d li lb there = by (decLt (i + 1) (g .workers)) there
+    where
+      by : Dec (i + 1 < g .workers) → On i b (suc d) → On (workerAfter g i) b d
+      by (yes k) (inl e) = let one : workerAfter g i ≡ i + 1 = mod-eq-of-lt k in inl (omega arith)
+      by (yes k) (inr e) = let one : workerAfter g i ≡ i + 1 = mod-eq-of-lt k in inr (omega arith)
+      by (no k) (inl e) = absurd (omega arith)
+      by (no k) (inr e) =
+          let last : i + 1 ≡ g .workers = omega arith in
+          let first : workerAfter g i ≡ 0 = rw last (mod-self (g .workers)) in
+          inl (omega arith)
+
+  -- a busy worker is found
+  found : (m i b d : ℕ) → i < g .workers → b < g .workers → phase b ≢ 0 → d < m → On i b d → Found (busyFrom ws g i m)
+  unfolding busyFrom
+  found zero i b d li lb busy l there = absurd (omega arith)
+  found (suc m) i b zero li lb busy l there =
+      cases Found (eqb (phase i) 0) _ _
+      (λ e. absurd (busy (subst (λ (x : ℕ). phase x ≡ 0) (on-here i b li there) (eqb-true _ _ e))))
+      (λ e. (i, refl))
+  found (suc m) i b (suc d) li lb busy l there =
+      cases Found (eqb (phase i) 0) _ _
+      (λ e. found m (workerAfter g i) b d (mod-lt _ (omega arith)) lb busy (omega arith) (on-next i b d li lb there))
+      (λ e. (i, refl))
+
+  pub busy-found : (i b : ℕ) → i < g .workers → b < g .workers → phase b ≢ 0 → Found (turnFrom ws g i)
+  busy-found i b li lb busy = elim (decLe i b) [
+    | yes l ↦ found (g .workers) i b (b - i) li lb busy (omega arith) (inl (omega arith))
+    | no l ↦ found (g .workers) i b (b + g .workers - i) li lb busy (omega arith) (inr (omega arith))
+  ]
 
   -- ---- one turn
   pub turns-none : (i k : ℕ) → turnFrom ws g i ≡ Nobody → turnsOf ws g i k ≡ dispatched NoneBusy ws

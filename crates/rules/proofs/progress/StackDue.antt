@@ -1,9 +1,9 @@
--- What a worker that steps alone has left, in numbers, for either kind and side. n is how many steps it makes at most before the one that
+-- What a stack's worker that steps alone has left, in numbers, for either side. n is how many steps it makes at most before the one that
 -- gives its final answer.
 --
 -- A pass that ends in a shift takes w + 2 steps, its window's and its shift's among them. `Near k` says of the pool that after at most k
 -- shifts of its own the worker's pass ends otherwise; from that pass' window step on `base` steps are enough, and from a read that hits
--- on `hit` steps. So a queue's put has base 2 and hit 1, and a begun one is near by one shift: w + 2 + 2.
+-- on `hit` steps.
 use mathlib.Core.Path.{_≡_}
 use Prim.Native.Nat.{ℕ, zero, suc, _+_, _-_, _≤_, _<_}
 use native.Mathlib.Nat.{le-refl}
@@ -47,14 +47,14 @@ module _ {w base hit : ℕ} {Near : ℕ → Type 0} {n : ℕ} where
       record { shifts = a .shifts; near = a .near; left = omega (arith, a .left); able = omega arith }
 
   module _ {scan : ℕ} (a : AtRead w base Near n hit scan) where
-    -- a miss, not the last: where no shift is to come, it is a miss of a pass that ends in confirm
-    pub read-again : hit < base → (Near 0 → hit + w ≤ base) → suc scan < w → AtRead w base Near (n - 1) hit (suc scan)
-    read-again l ending m =
+    -- a miss, not the last: a shift is to come
+    pub read-again : hit < base → (Near 0 → ⊥) → suc scan < w → AtRead w base Near (n - 1) hit (suc scan)
+    read-again l more m =
         let many : hit < n = enough (a .shifts) (a .near) (a .left) in
         record { shifts = a .shifts; near = a .near; left = omega (arith, a .left); able = omega arith }
       where
         enough : (k : ℕ) → Near k → due w base k ≤ n + scan + 1 → hit < n
-        enough zero near left = omega (arith, ending near)
+        enough zero near left = absurd (more near)
         enough (suc k) near left = omega (arith, base-due w base k)
 
     -- the last miss: to shift
@@ -64,10 +64,6 @@ module _ {w base hit : ℕ} {Near : ℕ → Type 0} {n : ℕ} where
         by : (k : ℕ) → Near k → due w base k ≤ n + scan + 1 → AtShift w base Near (n - 1)
         by zero near left = absurd (more near)
         by (suc k) near left = record { shifts = k; near = near; left = omega arith }
-
-    -- or to confirm
-    pub read-confirm : w + w ≤ base → suc scan ≡ w → w ≤ n
-    read-confirm l e = omega (arith, a .left, base-due w base (a .shifts))
 
 module _ {w base : ℕ} {Near : ℕ → Type 0} {n : ℕ} (a : AtShift w base Near n) where
   -- the window moves, and the pool is nearer by one shift

@@ -1,0 +1,141 @@
+-- A dispatcher makes steps and nothing else: its turns are the calls that it makes, and a step that is refused leaves the words as they were. So a
+-- list of calls with dispatches among them comes to the words of a list of calls.
+use mathlib.Core.Path.{_≡_, refl, sym, ap, _∙_}
+use mathlib.Core.Logic.{_≢_}
+use mathlib.Core.List.{List, [], _∷_, _++_}
+use Prim.Native.Nat.{ℕ, zero, suc, _≤_, _<_}
+use native.Mathlib.Omega.{arith}
+use lib.ListN.{length, getD}
+use lib.Dec.{leb, eqb}
+use borrow.Author.Tests.{leb-true, leb-false, eqb-true, eqb-false}
+use Rattle.laws.specs.Choice.{cases}
+use Rattle.rules.specs.Answers.{Out, numberOf}
+use Rattle.rules.specs.Layout.{workerAt}
+use Rattle.rules.specs.Fit.{checkedOf}
+use Rattle.rules.specs.Begin.{stepsSpent}
+use Rattle.rules.specs.Apply.{takenOf, applyBy, applyOf}
+use Rattle.rules.specs.Step.{slotStep, fitStep, checkedStep, stepOf}
+use Rattle.rules.specs.Run.{Call, step, callOf}
+use Rattle.rules.specs.Consequences.{wordsAfter}
+use Rattle.rules.specs.Dispatch.{DispatchOut, dispatched, workerAfter, turnFrom, endedBy, afterStep, turnsOf, fitDispatch, checkedDispatch, dispatchOf, ifBusy}
+use Rattle.rules.specs.DispatchSteps.{Made, nobody, ran-out, refused, finished, moved, DispatchBySteps, call, dispatch, wordsAsked, AskedByCalls}
+use Rattle.rules.proofs.Types.{Settings, Effect, Outcome}
+use Rattle.rules.specs.declared.Outcome.the-variants.{Refused as Stays, Moving, Shifted, Landed, Removed, Empty, Full}
+use Rattle.rules.specs.declared.Checked.{Checked}
+use Rattle.rules.specs.declared.Checked.the-variants.{Unfit, Fit}
+use Rattle.rules.specs.declared.Turn.{Turn}
+use Rattle.rules.specs.declared.Turn.the-variants.{NoneBusy as Nobody, Worker}
+use Rattle.rules.specs.declared.Dispatched.{Dispatched}
+use Rattle.rules.specs.declared.Dispatched.the-variants.{Finished, RanOut, Refused}
+
+-- ---- a refused step
+module _ (ws : List ℕ) where
+  abbrev Kept : Out → Type 0
+  Kept o = 4 < numberOf (o .answer) → o .words ≡ ws
+
+  applied-kept : (g : Settings) (at j : ℕ) (e : Effect) (o : Outcome) → Kept (applyBy ws g at j e o)
+  unfolding applyBy takenOf
+  applied-kept g at j e (Stays n) l = refl
+  applied-kept g at j e Moving l = absurd (omega arith)
+  applied-kept g at j e Shifted l = absurd (omega arith)
+  applied-kept g at j e Landed l = absurd (omega arith)
+  applied-kept g at j e Removed l = absurd (omega arith)
+  applied-kept g at j e Empty l = absurd (omega arith)
+  applied-kept g at j e Full l = absurd (omega arith)
+
+  fit-kept : (g : Settings) (i : ℕ) → Kept (fitStep ws g i)
+  unfolding fitStep slotStep applyOf
+  fit-kept g i =
+      cases Kept (leb (g .workers) i) _ _ (λ a l. refl)
+      (λ a. cases Kept (eqb (getD ws (workerAt g i) 0) 0) _ _ (λ b l. refl)
+      (λ b. cases Kept (stepsSpent ws) _ _ (λ c l. refl) (λ c. applied-kept g _ _ _ _)))
+
+  pub refused-kept : (i : ℕ) → Kept (stepOf ws i)
+  unfolding stepOf checkedStep
+  refused-kept i = by (checkedOf ws)
+    where
+      by : (c : Checked) → Kept (checkedStep ws c i)
+      by (Unfit n) l = refl
+      by (Fit g) l = fit-kept g i l
+
+-- ---- turns
+pub record Makes (ws : List ℕ) (most : ℕ) (o : DispatchOut) : Type 0 where
+  pub calls : List Call
+  pub made : Made ws calls o
+  pub few : length calls ≤ most
+
+none-made : {ws : List ℕ} {most : ℕ} {o : DispatchOut} → Made ws [] o → Makes ws most o
+none-made m = record { calls = []; made = m; few = omega arith }
+
+-- one step, from what the turns after it make
+step-made : (ws : List ℕ) (j k : ℕ) (rest : DispatchOut) → Makes (stepOf ws j .words) k rest → Makes ws (suc k) (afterStep j (stepOf ws j) rest)
+unfolding afterStep endedBy
+step-made ws j k rest x =
+    cases (Makes ws (suc k)) (eqb number 0) _ _
+    (λ z. record { calls = step j ∷ x .calls; made = moved (eqb-true _ _ z) (x .made); few = omega (arith, x .few) })
+    (λ z.
+    let some : number ≢ 0 = eqb-false _ _ z in
+    cases (λ (r : Dispatched). Makes ws (suc k) (dispatched r (stepOf ws j .words))) (leb number 4) (Finished j (stepOf ws j .answer)) (Refused number)
+    (λ l. record {
+      calls = step j ∷ [];
+      made = finished (record { low = omega arith; high = leb-true _ _ l });
+      few = omega arith;
+    })
+    (λ l. rw (refused-kept ws j (leb-false _ _ l)) (none-made refused)))
+  where
+    number : ℕ
+    number = numberOf (stepOf ws j .answer)
+
+turns-made : (g : Settings) (ws : List ℕ) (i k : ℕ) → Makes ws k (turnsOf ws g i k)
+unfolding turnsOf
+turns-made g ws i zero = by (turnFrom ws g i)
+  where
+    by : (t : Turn) → Makes ws 0 (ifBusy ws t (λ j. dispatched (RanOut i) ws))
+    by Nobody = none-made nobody
+    by (Worker j) = none-made ran-out
+turns-made g ws i (suc k) = by (turnFrom ws g i) (λ j. turns-made g (stepOf ws j .words) (workerAfter g j) k)
+  where
+    by : (t : Turn) → ((j : ℕ) → Makes (stepOf ws j .words) k (turnsOf (stepOf ws j .words) g (workerAfter g j) k))
+        → Makes ws (suc k) (ifBusy ws t (λ j. afterStep j (stepOf ws j) (turnsOf (stepOf ws j .words) g (workerAfter g j) k)))
+    by Nobody rest = none-made nobody
+    by (Worker j) rest = step-made ws j k _ (rest j)
+
+dispatch-made : (ws : List ℕ) (i steps : ℕ) → Makes ws steps (dispatchOf ws i steps)
+unfolding dispatchOf checkedDispatch fitDispatch
+dispatch-made ws i steps = by (checkedOf ws)
+  where
+    by : (c : Checked) → Makes ws steps (checkedDispatch ws c i steps)
+    by (Unfit n) = none-made refused
+    by (Fit g) = cases (Makes ws steps) (leb (g .workers) i) _ _ (λ e. none-made refused) (λ e. turns-made g ws i steps)
+
+-- the words are those after the calls
+made-words : {ws : List ℕ} {cs : List Call} {o : DispatchOut} → Made ws cs o → o .words ≡ wordsAfter ws cs
+unfolding wordsAfter callOf
+made-words nobody = refl
+made-words ran-out = refl
+made-words refused = refl
+made-words (finished f) = refl
+made-words (moved z m) = made-words m
+
+pub dispatch-by-steps : DispatchBySteps
+dispatch-by-steps ws i steps =
+    let x = dispatch-made ws i steps in
+    record { calls = x .calls; made = x .made; few = x .few; words = made-words (x .made) }
+
+-- ---- lists with dispatches among the calls
+after-both : (ws : List ℕ) (cs ds : List Call) → wordsAfter ws (cs ++ ds) ≡ wordsAfter (wordsAfter ws cs) ds
+unfolding wordsAfter
+after-both ws [] ds = refl
+after-both ws (c ∷ cs) ds = after-both (callOf ws c .words) cs ds
+
+pub asked-by-calls : AskedByCalls
+unfolding wordsAsked wordsAfter
+asked-by-calls ws [] = record { calls = []; words = refl }
+asked-by-calls ws (call c ∷ asks) = let x = asked-by-calls (callOf ws c .words) asks in record { calls = c ∷ x .calls; words = x .words }
+asked-by-calls ws (dispatch i steps ∷ asks) =
+    let d = dispatch-by-steps ws i steps in
+    let x = asked-by-calls (dispatchOf ws i steps .words) asks in
+    record {
+      calls = d .calls ++ x .calls;
+      words = x .words ∙ ap (λ (vs : List ℕ). wordsAfter vs (x .calls)) (d .words) ∙ sym (after-both ws (d .calls) (x .calls));
+    }

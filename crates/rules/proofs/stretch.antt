@@ -1,0 +1,13 @@
+-- K7: how many counted steps of a queue's run may go without a final answer.
+pub mod Owed
+pub mod Kept
+pub mod Acts
+pub mod Debts
+pub mod Bounded
+pub mod Stocked
+pub mod Lead
+pub mod Past
+pub mod Calm
+pub mod Parts
+pub mod Within
+pub mod Theorem

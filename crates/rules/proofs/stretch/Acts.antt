@@ -1,0 +1,118 @@
+-- What a call does to a queue: nothing, where it is refused; it begins an operation; it moves a worker on, which leaves every operation
+-- open that was; or it gives a final answer, and its worker is idle.
+use mathlib.Core.Path.{_≡_, refl, sym, ap, _∙_}
+use mathlib.Core.Logic.{_≢_, inl, inr}
+use Prim.Native.Nat.{ℕ, _*_, _<_}
+use native.Mathlib.Decide.{ℕ-discrete}
+use native.Mathlib.Nat.{le-refl}
+use native.Mathlib.Omega.{arith}
+use Rattle.rules.specs.Answers.{numberOf}
+use Rattle.rules.specs.Worker.{phaseOf, fresh, zeroSlot}
+use Rattle.rules.specs.Step.{ruleOf}
+use Rattle.rules.specs.Sequential.{putting, taking, Contents}
+use Rattle.rules.specs.Run.{Call, beginPut, beginTake, step, Final}
+use Rattle.rules.specs.Stretch.{countedCall}
+use Rattle.rules.proofs.Types.{Settings, Side, Putting, Taking, Idle, Window, Slot}
+use Rattle.rules.specs.declared.Answer.the-variants.{Moving}
+use Rattle.rules.proofs.counts.Sums.{upd-same, upd-other}
+use Rattle.rules.proofs.order.Law.{Next, refused, opened, walks, tries, stays, loses, ends as ends-here, wins}
+use Rattle.rules.proofs.machine.Machine.{State, next, subIn, viewIn, phaseIn, applyIn, nextIn, apply-other}
+use Rattle.rules.proofs.machine.Phases.{statusOf, idle-phase, window-phase}
+use Rattle.rules.proofs.machine.Calls.{Called, refuses, does, able-does, Steps, Begins, step-called, begun, begin-called}
+use Rattle.rules.proofs.machine.Good.{Good}
+use Rattle.rules.proofs.machine.Turns.{Common, Turned}
+use Rattle.rules.proofs.machine.Slots.{not-idle}
+use Rattle.rules.proofs.machine.Ways.{Snap}
+use Rattle.rules.proofs.queue.Inv.{Inv, putsIn}
+use Rattle.rules.proofs.queue.Turn.{stepped}
+use Rattle.rules.proofs.progress.Steps.{Result}
+use Rattle.rules.proofs.progress.QueueLeft.{queueLeft}
+use Rattle.rules.proofs.progress.QueueResult.{openPut, putIn, Moved, Ended, QueueResult, moves, ends, result}
+use Rattle.rules.proofs.progress.QueueSteps.{queue-step}
+use Rattle.rules.proofs.progress.Law.{twice}
+use Rattle.rules.proofs.stretch.Owed.{OwesIn, mostOwed, owes-most}
+
+pub data Acts (g : Settings) (s : State) (c : Call) (o : Next State) : Type 0 where
+  same : o .state ≡ s → Acts g s c o
+  begins : (i : ℕ) (side : Side) (v : ℕ) → i < g .workers → phaseIn g s i ≡ Idle → countedCall c (o .answer) ≡ 0 → o .state ≡ begun s i side v → Acts g s c o
+  goes : (i : ℕ) → i < g .workers → Moved g s i (o .state) → ((j : ℕ) → putIn g (o .state) j ≡ putIn g s j) → Acts g s c o
+  answers : (i : ℕ) → c ≡ step i → i < g .workers → Final (o .answer) → phaseIn g (o .state) i ≡ Idle
+      → ((j : ℕ) → j ≢ i → putIn g (o .state) j ≡ putIn g s j) → Ended g s i (o .state) → Acts g s c o
+
+-- ---- who has a put under way
+abbrev slotPut : Settings → Slot → ℕ
+slotPut g x = openPut (statusOf (x .value) (phaseOf (g .kind) x))
+
+pub put-begun : (g : Settings) (s : State) (i : ℕ) (side : Side) (v : ℕ) → putIn g (begun s i side v) i ≡ openPut (statusOf v (Window side))
+put-begun g s i side v =
+    ap (slotPut g) (upd-same (s .slot) i (fresh v (subIn s i) (Window side))) ∙ by side
+  where
+    by : (side : Side) → slotPut g (fresh v (subIn s i) (Window side)) ≡ openPut (statusOf v (Window side))
+    by Putting = rw (window-phase (g .kind) Putting v (subIn s i) zeroSlot) refl
+    by Taking = rw (window-phase (g .kind) Taking v (subIn s i) zeroSlot) refl
+
+pub put-begun-other : (g : Settings) (s : State) (i : ℕ) (side : Side) (v j : ℕ) → j ≢ i → putIn g (begun s i side v) j ≡ putIn g s j
+put-begun-other g s i side v j n =
+    ap (slotPut g) (upd-other (s .slot) i (fresh v (subIn s i) (Window side)) j n)
+
+pub put-idle : (g : Settings) (s : State) (i : ℕ) → phaseIn g s i ≡ Idle → putIn g s i ≡ 0
+put-idle g s i e = rw e refl
+
+-- by demand 3's law a step that is not final leaves its worker's operation open
+put-kept : {g : Settings} {s : State} {q : Contents} {i : ℕ} {o : Next State} → Turned g (Inv g) (Snap g putsIn) s q (step i) o → numberOf (o .answer) ≡ 0
+    → putIn g (o .state) i ≡ putIn g s i
+put-kept (refused n e) moving = absurd (omega arith)
+put-kept (opened j (putting v) u n a b w h) moving = absurd (let z : _≡_ {A = ℕ} 0 1 = cc in omega arith)
+put-kept (opened j taking u n a b w h) moving = absurd (let z : _≡_ {A = ℕ} 0 1 = cc in omega arith)
+put-kept {i = i} (walks j op u n a b w h) moving = let e : i ≡ j = cc in rw e (ap openPut b ∙ sym (ap openPut a))
+put-kept {i = i} (tries j op u n a b w h z) moving = let e : i ≡ j = cc in rw e (ap openPut b ∙ sym (ap openPut a))
+put-kept {i = i} (stays j op u n a b w h z) moving = let e : i ≡ j = cc in rw e (ap openPut b ∙ sym (ap openPut a))
+put-kept {i = i} (loses j op u n a b w h) moving = let e : i ≡ j = cc in rw e (ap openPut b ∙ sym (ap openPut a))
+put-kept (ends-here j op u n a b w q′ give h) moving = absurd (omega (arith, n .low))
+put-kept (wins j op u n m a b w h z) moving = absurd (omega (arith, n .low))
+
+module _ (g : Settings) (good : Good g) (kind : g .kind ≡ 0) (s : State) (q : Contents) (common : Common g s) (inv : Inv g s q) where
+  -- ---- a step
+  module _ (i : ℕ) where
+    abbrev o : Next State
+    o = applyIn g s i (ruleOf g (viewIn s i))
+
+    put-other : (j : ℕ) → j ≢ i → putIn g (o .state) j ≡ putIn g s j
+    put-other j n = ap (slotPut g) (apply-other g s i (ruleOf g (viewIn s i)) j n)
+
+    -- a busy worker's step
+    busy-result : s .slot i .number ≢ 0 → QueueResult g (2 * g .width) s i (mostOwed g (2 * g .width)) o
+    busy-result busy = by (owes-most g good (2 * g .width) (twice g good kind) s q inv i)
+      where
+        by : OwesIn g (2 * g .width) s (mostOwed g (2 * g .width)) i → QueueResult g (2 * g .width) s i (mostOwed g (2 * g .width)) o
+        by (inl r) = absurd (not-idle g (good .bounds .kind1) (s .slot i) (common .slots i) busy (r .idle))
+        by (inr x) = queue-step g good kind (2 * g .width) (twice g good kind) s q common inv (λ l. inl (le-refl _)) i (mostOwed g (2 * g .width)) x
+
+    -- is final, or answers 0 and is counted
+    pub busy-step : i < g .workers → s .slot i .number ≢ 0 → s .steps < 4000000000
+        → Result g (queueLeft g (2 * g .width)) s i (mostOwed g (2 * g .width)) (nextIn g s (step i))
+    unfolding nextIn
+    busy-step l busy time = rw (able-does (record { worker = l; busy = busy; time = time }) (step-called g s i)) (result (busy-result busy))
+
+    by-result : Steps g s i → {n : ℕ} → QueueResult g (2 * g .width) s i n o → Acts g s (step i) o
+    by-result able (moves x m) =
+        let here : putIn g (o .state) i ≡ putIn g s i = put-kept (stepped g good kind s q common inv i .turn (able .time)) (x .answer) in
+        goes i (able .worker) m (λ j. elim (ℕ-discrete j i) [ yes e ↦ rw e here | no n ↦ put-other j n ])
+    by-result able (ends f e m) = answers i refl (able .worker) f e put-other m
+
+    by-step : {o′ : Next State} → Called s (Steps g s i) o o′ → Acts g s (step i) o′
+    by-step (refuses n l unable e) = rw e (same refl)
+    by-step (does able e) = rw e (by-result able (busy-result (able .busy)))
+
+  -- ---- a begin
+  by-begin : (c : Call) (i : ℕ) (side : Side) (v : ℕ) (o′ : Next State) → countedCall c (o′ .answer) ≡ 0
+      → Called s (Begins g s i) (next Moving (begun s i side v)) o′ → Acts g s c o′
+  by-begin c i side v o′ z (refuses n l unable e) = same (ap (λ (x : Next State). x .state) e)
+  by-begin c i side v o′ z (does able e) =
+      begins i side v (able .worker) (idle-phase (g .kind) (s .slot i) (able .idle)) z (ap (λ (x : Next State). x .state) e)
+
+  pub acts : (c : Call) → Acts g s c (nextIn g s c)
+  unfolding nextIn
+  acts (beginPut i v) = by-begin (beginPut i v) i Putting v _ refl (begin-called g s i Putting v)
+  acts (beginTake i) = by-begin (beginTake i) i Taking 0 _ refl (begin-called g s i Taking 0)
+  acts (step i) = by-step i (step-called g s i)

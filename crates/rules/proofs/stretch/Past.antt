@@ -1,0 +1,111 @@
+-- What is true of a queue from make at any time, for the exact figure:
+--
+--   lead      some worker owes no more than an operation that it has just begun (Lead), where a take that starts low has 2w left
+--   second    the same with w + 1, which is enough where the take window's next move finds an item; or a put is under way
+--   stocked   where the take window is below the put window, it finds one; or a put is under way (Stocked)
+use mathlib.Core.Path.{_≡_, refl}
+use mathlib.Core.Logic.{_⊎_, inl, inr}
+use mathlib.Core.Bool.{true}
+use mathlib.Core.List.{List, [], _∷_}
+use Prim.Native.Nat.{ℕ, _+_, _*_, _<_}
+use native.Mathlib.Decide.{decLt}
+use native.Mathlib.Nat.{le-refl}
+use native.Mathlib.Omega.{arith}
+use lib.Dec.{eqb}
+use Rattle.laws.specs.Choice.{cond, cond-true}
+use Rattle.rules.specs.Limits.{settingsFit}
+use Rattle.rules.specs.Make.{makeOf}
+use Rattle.rules.specs.Sequential.{Contents}
+use Rattle.rules.specs.Run.{Call}
+use Rattle.rules.specs.Consequences.{wordsAfter}
+use Rattle.rules.proofs.Types.{Settings, Idle}
+use Rattle.rules.proofs.machine.Machine.{State, phaseIn, nextIn, madeIn}
+use Rattle.rules.proofs.machine.Phases.{idle-phase}
+use Rattle.rules.proofs.machine.Good.{Good}
+use Rattle.rules.proofs.machine.Turns.{Common}
+use Rattle.rules.proofs.queue.Inv.{Inv}
+use Rattle.rules.proofs.queue.Turn.{queueKind, queue-inv}
+use Rattle.rules.proofs.words.Made.{Accepted}
+use Rattle.rules.proofs.Transfer.{Related, next-related, made-related}
+use Rattle.rules.proofs.progress.QueueResult.{Filled}
+use Rattle.rules.proofs.progress.Law.{twice}
+use Rattle.rules.proofs.stretch.Acts.{Acts, acts}
+use Rattle.rules.proofs.stretch.Stocked.{PutOpen, put-open-begins, put-open-goes, Stocked, stocked-next, ready-filled}
+use Rattle.rules.proofs.stretch.Lead.{Lead, idle-leads, lead-next}
+
+pub record Past (g : Settings) (s : State) : Type 0 where
+  pub lead : Lead g (2 * g .width) s
+  pub second : Lead g (g .width + 1) s ⊎ PutOpen g s
+  pub stocked : Stocked g s
+
+module _ (g : Settings) (good : Good g) (kind : g .kind ≡ 0) where
+  pub once : g .width < g .width + 1
+  once = omega arith
+
+  past-made : Past g (madeIn g)
+  unfolding madeIn
+  past-made =
+      let idle : phaseIn g (madeIn g) 0 ≡ Idle = idle-phase (g .kind) (madeIn g .slot 0) refl in
+      let same : cond (eqb (g .kind) 0) (g .depth) 0 ≡ g .depth = rw kind (cond-true _ _) in
+      record {
+        lead = idle-leads g good (2 * g .width) (twice g good kind) (madeIn g) 0 (good .bounds .workers1) idle;
+        second = inl (idle-leads g good (g .width + 1) once (madeIn g) 0 (good .bounds .workers1) idle);
+        stocked = λ l. absurd (omega arith);
+      }
+
+  -- ---- after a call
+  module _ (s : State) (q : Contents) (common : Common g s) (inv : Inv g s q) (past : Past g s) (c : Call) where
+    abbrev t : State
+    t = nextIn g s c .state
+
+    abbrev Second : Type 0
+    Second = Lead g (g .width + 1) t ⊎ PutOpen g t
+
+    open-next : PutOpen g s → Acts g s c (nextIn g s c) → Second
+    open-next x (Acts.same e) = inr (rw e x)
+    open-next x (Acts.begins i side v l e z u) = inr (rw u (put-open-begins g s i side v e x))
+    open-next x (Acts.goes i l m keeps) = inr (put-open-goes g s t keeps x)
+    open-next x (Acts.answers i w l f e keeps m) = inl (idle-leads g good (g .width + 1) once t i l e)
+
+    lead-small : Lead g (g .width + 1) s → Second
+    lead-small x = elim (decLt (s .mark) (s .top)) [
+      | yes l ↦ by (past .stocked l)
+      | no l ↦ inl (lead-next g good (g .width + 1) once kind s q common inv (λ b. absurd (l b)) x c)
+    ]
+      where
+        by : Filled g s ⊎ PutOpen g s → Second
+        by (inl y) = inl (lead-next g good (g .width + 1) once kind s q common inv (ready-filled g s q inv y) x c)
+        by (inr y) = open-next y (acts g good kind s q common inv c)
+
+    second-next : Lead g (g .width + 1) s ⊎ PutOpen g s → Second
+    second-next (inl x) = lead-small x
+    second-next (inr x) = open-next x (acts g good kind s q common inv c)
+
+    past-next : Past g t
+    past-next =
+        record {
+          lead = lead-next g good (2 * g .width) (twice g good kind) kind s q common inv (λ l. inl (le-refl _)) (past .lead) c;
+          second = second-next (past .second);
+          stocked = stocked-next g s (past .stocked) (acts g good kind s q common inv c);
+        }
+
+  -- ---- the words after a list of calls on a new queue
+  pub record Reached (limits : settingsFit g ≡ true) (ws : List ℕ) : Type 0 where
+    pub state : State
+    pub related : Related g limits (queueKind g good kind) ws state
+    pub past : Past g state
+
+  module _ (limits : settingsFit g ≡ true) where
+    pub reached-after : {ws : List ℕ} → Reached limits ws → (cs : List Call) → Reached limits (wordsAfter ws cs)
+    unfolding wordsAfter
+    reached-after r [] = r
+    reached-after r (c ∷ cs) =
+        let k = r .related in
+        reached-after (record {
+          state = nextIn g (r .state) c .state;
+          related = next-related g limits (queueKind g good kind) k c .related;
+          past = past-next (r .state) (k .list) (k .whole .common) (queue-inv g good kind (r .state) (k .list) (k .whole .inv)) (r .past) c;
+        }) cs
+
+    pub reached : (ws : List ℕ) → Accepted ws g → (cs : List Call) → Reached limits (wordsAfter (makeOf ws g .words) cs)
+    reached ws a cs = reached-after (record { state = madeIn g; related = made-related g limits (queueKind g good kind) ws a; past = past-made }) cs

@@ -1,0 +1,94 @@
+-- Where a queue from make has its take window below its put window, some sub has an item in the put window or has reached it (Filled), or a
+-- put is under way: the put that moved the put window, until one lands or answers full. Where it is filled a take window that moves finds an
+-- item, since it stays a window below.
+use mathlib.Core.Path.{_≡_, _∙_}
+use mathlib.Core.Logic.{_≢_, _⊎_, inl, inr}
+use Prim.Native.Nat.{ℕ, _+_, _≤_, _<_}
+use native.Mathlib.Nat.{le-refl}
+use native.Mathlib.Decide.{ℕ-discrete}
+use native.Mathlib.Omega.{arith}
+use Rattle.rules.specs.Sequential.{Contents}
+use Rattle.rules.specs.Run.{Call}
+use Rattle.rules.proofs.Types.{Settings, Side, Idle}
+use Rattle.rules.proofs.counts.Wraps.{multiple-lt}
+use Rattle.rules.proofs.order.Law.{Next}
+use Rattle.rules.proofs.machine.Machine.{State, phaseIn}
+use Rattle.rules.proofs.machine.Calls.{begun}
+use Rattle.rules.proofs.queue.Inv.{Inv}
+use Rattle.rules.proofs.progress.QueueLeft.{Ready}
+use Rattle.rules.proofs.progress.QueueResult.{putIn, Moved, still, up, on, Filled, Ended, filled, taken}
+use Rattle.rules.proofs.stretch.Acts.{Acts, put-begun-other, put-idle}
+
+-- ---- a step that is not final is a put's, or what was filled still is; and where the take window is below the put window, it was before
+pub record Keeps (g : Settings) (s t : State) : Type 0 where
+  pub below : t .mark < t .top → s .mark < s .top
+  pub filled : Filled g s → Filled g t
+
+pub put-or-keeps : (g : Settings) (s t : State) (i : ℕ) → Moved g s i t → (putIn g s i ≡ 1) ⊎ Keeps g s t
+put-or-keeps g s t i (still x e) = inr (rw e (record { below = λ l. l; filled = λ y. y }))
+put-or-keeps g s t i (up raised x e one not-low now-low) = inl one
+put-or-keeps g s t i (on raised x e below not-low now-low) = inr (rw e (record { below = λ l. below; filled = λ y. y }))
+
+module _ (g : Settings) where
+  -- ---- a put is under way
+  pub record PutOpen (s : State) : Type 0 where
+    pub who : ℕ
+    pub among : who < g .workers
+    pub putting : putIn g s who ≡ 1
+
+  pub put-open-begins : (s : State) (i : ℕ) (side : Side) (v : ℕ) → phaseIn g s i ≡ Idle → PutOpen s → PutOpen (begun s i side v)
+  put-open-begins s i side v e x = elim (ℕ-discrete (x .who) i) [
+    | yes y ↦ absurd (let one : putIn g s i ≡ 1 = rw y at (x .putting) in omega (arith, put-idle g s i e))
+    | no n ↦ record { who = x .who; among = x .among; putting = put-begun-other g s i side v (x .who) n ∙ x .putting }
+  ]
+
+  pub put-open-goes : (s t : State) → ((j : ℕ) → putIn g t j ≡ putIn g s j) → PutOpen s → PutOpen t
+  put-open-goes s t same x = record { who = x .who; among = x .among; putting = same (x .who) ∙ x .putting }
+
+  -- ---- stocked
+  abbrev pub Stocked : State → Type 0
+  Stocked s = s .mark < s .top → Filled g s ⊎ PutOpen s
+
+  module _ (s : State) (stocked : Stocked s) where
+    stocked-begins : (i : ℕ) (side : Side) (v : ℕ) → phaseIn g s i ≡ Idle → Stocked (begun s i side v)
+    stocked-begins i side v e l = by (stocked l)
+      where
+        by : Filled g s ⊎ PutOpen s → Filled g s ⊎ PutOpen (begun s i side v)
+        by (inl x) = inl x
+        by (inr x) = inr (put-open-begins s i side v e x)
+
+    module _ (t : State) (i : ℕ) where
+      stocked-goes : i < g .workers → ((j : ℕ) → putIn g t j ≡ putIn g s j) → Moved g s i t → Stocked t
+      stocked-goes li same m = by (put-or-keeps g s t i m)
+        where
+          kept : Keeps g s t → Filled g s ⊎ PutOpen s → Filled g t ⊎ PutOpen t
+          kept k (inl x) = inl (k .filled x)
+          kept k (inr x) = inr (put-open-goes s t same x)
+
+          by : (putIn g s i ≡ 1) ⊎ Keeps g s t → Stocked t
+          by (inl one) l = inr (record { who = i; among = li; putting = same i ∙ one })
+          by (inr k) l = kept k (stocked (k .below l))
+
+      stocked-ends : ((j : ℕ) → j ≢ i → putIn g t j ≡ putIn g s j) → Ended g s i t → Stocked t
+      stocked-ends same (filled x) l = inl x
+      stocked-ends same (taken none top mark first) l = by (stocked (omega arith))
+        where
+          by : Filled g s ⊎ PutOpen s → Filled g t ⊎ PutOpen t
+          by (inl x) = inl (x .0, x .1, rw (top, first) (x .2))
+          by (inr x) =
+              let other : x .who ≢ i = λ e. let one : putIn g s i ≡ 1 = rw e at (x .putting) in omega arith in
+              inr (record { who = x .who; among = x .among; putting = same (x .who) other ∙ x .putting })
+
+    pub stocked-next : {c : Call} {o : Next State} → Acts g s c o → Stocked (o .state)
+    stocked-next (Acts.same e) = rw e stocked
+    stocked-next (Acts.begins i side v l e z u) = rw u (stocked-begins i side v e)
+    stocked-next {o = o} (Acts.goes i l m same) = stocked-goes (o .state) i l same m
+    stocked-next {o = o} (Acts.answers i w l f e same m) = stocked-ends (o .state) i same m
+
+  -- ---- a take window that moves finds an item
+  pub ready-filled : (s : State) (q : Contents) → Inv g s q → Filled g s → s .mark < s .top → Ready g (g .width + 1) (s .first) (s .second)
+  ready-filled s q inv x below =
+      let o = inv .pool .windows in
+      let far : s .mark + g .depth ≤ s .top =
+      omega (arith, o .mark-is, o .top-is, multiple-lt (o .marks) (o .tops) (g .depth) (omega (arith, o .mark-is, o .top-is))) in
+      inr (le-refl _, (x .0, x .1, omega (arith, x .2, o .taken-le (x .0) (x .1))))
