@@ -1,14 +1,17 @@
-//! The compiled library's four calls: as a C caller makes them, with an area
+//! The compiled library's calls: as a C caller makes them, with an area
 //! for the answer's fields, and with the types of the second implementation, so
 //! that the two can stand in one table.
 
-use second::{Answer, Settings};
+use second::{Answer, Returned, Settings};
 
 /// Value, sub, row, stamp and distance.
 pub type Fields = [u32; 5];
 
+/// The same, and a worker.
+pub type DispatchFields = [u32; 6];
+
 /// The library must write every field: none of them starts as zero.
-const UNWRITTEN: Fields = [0xdead_beef; 5];
+const UNWRITTEN: u32 = 0xdead_beef;
 
 extern "C" {
     fn pool_make(
@@ -31,10 +34,12 @@ extern "C" {
     ) -> u32;
     fn pool_begin_take(words: *mut u32, len: usize, worker: u32, fields: *mut u32) -> u32;
     fn pool_step(words: *mut u32, len: usize, worker: u32, fields: *mut u32) -> u32;
+    fn pool_dispatch(words: *mut u32, len: usize, worker: u32, steps: u32, fields: *mut u32)
+        -> u32;
 }
 
 // As C calls them. Safety, of each: the pointer and length are those of a live,
-// unshared slice, and `fields` has five words.
+// unshared slice, and `fields` has five words, or six for a dispatch.
 
 #[inline]
 pub fn make_into(words: &mut [u32], settings: Settings, fields: &mut Fields) -> u32 {
@@ -69,6 +74,17 @@ pub fn step_into(words: &mut [u32], worker: u32, fields: &mut Fields) -> u32 {
     unsafe { pool_step(start, len, worker, fields.as_mut_ptr()) }
 }
 
+#[inline]
+pub fn dispatch_into(
+    words: &mut [u32],
+    worker: u32,
+    steps: u32,
+    fields: &mut DispatchFields,
+) -> u32 {
+    let (start, len) = (words.as_mut_ptr(), words.len());
+    unsafe { pool_dispatch(start, len, worker, steps, fields.as_mut_ptr()) }
+}
+
 // With the second implementation's answer.
 
 pub fn make(words: &mut [u32], settings: Settings) -> Answer {
@@ -87,8 +103,14 @@ pub fn step(words: &mut [u32], worker: u32) -> Answer {
     answer(|fields| step_into(words, worker, fields))
 }
 
+pub fn dispatch(words: &mut [u32], worker: u32, steps: u32) -> Returned {
+    let mut fields = [UNWRITTEN; 6];
+    let number = dispatch_into(words, worker, steps, &mut fields);
+    (number, fields)
+}
+
 fn answer(call: impl FnOnce(&mut Fields) -> u32) -> Answer {
-    let mut fields = UNWRITTEN;
+    let mut fields = [UNWRITTEN; 5];
     let number = call(&mut fields);
     Answer::with(number, fields)
 }

@@ -1,14 +1,14 @@
 //! What a failing case prints.
 
-use second::{layout, Answer, Settings};
-use sides::Call;
+use second::{layout, Settings};
 use std::fmt;
 
 pub struct Difference {
-    pub call: Call,
+    /// A call or a dispatch.
+    pub call: String,
     pub other: &'static str,
     /// Of the second implementation and of the other one.
-    pub answers: [Answer; 2],
+    pub answers: [String; 2],
     pub before: Vec<u32>,
     pub after: [Vec<u32>; 2],
 }
@@ -16,7 +16,7 @@ pub struct Difference {
 pub enum Failure {
     Different(Box<Difference>),
     /// A refusal that changed words, or a write outside the lent words.
-    Broken(&'static str, Call, Answer),
+    Broken(&'static str, String),
     /// Anything that is said in words.
     Said(String),
 }
@@ -25,10 +25,12 @@ impl fmt::Display for Failure {
     fn fmt(&self, to: &mut fmt::Formatter) -> fmt::Result {
         match self {
             Failure::Different(difference) => difference.fmt(to),
-            Failure::Broken(name, call, answer) => writeln!(
-                to,
-                "  {name} changed words that it may not change: {call:?} answered {answer:?}"
-            ),
+            Failure::Broken(name, answered) => {
+                writeln!(
+                    to,
+                    "  {name} changed words that it may not change: {answered}"
+                )
+            }
             Failure::Said(text) => writeln!(to, "  {text}"),
         }
     }
@@ -37,9 +39,9 @@ impl fmt::Display for Failure {
 impl fmt::Display for Difference {
     fn fmt(&self, to: &mut fmt::Formatter) -> fmt::Result {
         let [ours, theirs] = &self.after;
-        writeln!(to, "  call: {:?} on {} words", self.call, ours.len())?;
-        writeln!(to, "  second answers {:?}", self.answers[0])?;
-        writeln!(to, "  {} answers {:?}", self.other, self.answers[1])?;
+        writeln!(to, "  call: {} on {} words", self.call, ours.len())?;
+        writeln!(to, "  second answers {}", self.answers[0])?;
+        writeln!(to, "  {} answers {}", self.other, self.answers[1])?;
         for at in (0..ours.len()).filter(|at| ours[*at] != theirs[*at]) {
             let name = word_name(&self.before, at);
             writeln!(

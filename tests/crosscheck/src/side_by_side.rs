@@ -1,10 +1,11 @@
-//! One pool in as many copies as there are implementations: a call is made on
-//! each copy, and all words and all six numbers must be equal afterwards.
+//! One pool in as many copies as there are implementations: a call or a dispatch
+//! is made on each copy, and all words and all numbers must be equal afterwards.
 
 use crate::coverage::Coverage;
 use crate::failure::{Difference, Failure};
-use second::Answer;
-use sides::{Call, Implementation, COMPILED, FAST, SECOND};
+use second::{dispatch_watched, Answer, Dispatched};
+use sides::{Call, Dispatch, Implementation, COMPILED, FAST, SECOND};
+use std::fmt::Debug;
 
 /// What is compared with the second implementation.
 pub static OTHERS: [Implementation; 2] = [COMPILED, FAST];
@@ -73,26 +74,65 @@ impl SideBySide {
         self.before.copy_from_slice(self.second.lent());
         let answer = SECOND.call(self.second.lend(), call);
         let unchanged = self.before == self.second.lent();
-        if answer.is_refusal() && !unchanged || !self.second.guards_stand() {
-            return Err(Failure::Broken(SECOND.name, call, answer));
+        if answer.is_refusal() && !unchanged {
+            return Err(broken(SECOND.name, call, answer));
+        }
+        self.compare(call, answer, |other, words| other.call(words, call))?;
+        let coverage = &mut checks.coverage;
+        coverage.record(call, answer, &self.before, self.second.lent());
+        Ok(answer)
+    }
+
+    /// What it came to, and its steps by worker and answer.
+    pub fn dispatch(
+        &mut self,
+        dispatch: Dispatch,
+        checks: &mut Checks,
+    ) -> Result<(Dispatched, Vec<(u32, Answer)>), Failure> {
+        self.before.copy_from_slice(self.second.lent());
+        let Dispatch { worker, steps } = dispatch;
+        let mut made = Vec::new();
+        let dispatched = dispatch_watched(self.second.lend(), worker, steps, |worker, answer| {
+            made.push((worker, answer));
+        });
+        let returned = dispatched.returned();
+        self.compare(dispatch, returned, |other, words| {
+            other.dispatch(words, dispatch)
+        })?;
+        let coverage = &mut checks.coverage;
+        coverage.record_dispatch(dispatch, dispatched, &made, &self.before);
+        Ok((dispatched, made))
+    }
+
+    /// The same call of the others must answer and leave what the second's does.
+    fn compare<A: PartialEq + Debug>(
+        &mut self,
+        call: impl Debug,
+        answer: A,
+        make: impl Fn(&Implementation, &mut [u32]) -> A,
+    ) -> Result<(), Failure> {
+        if !self.second.guards_stand() {
+            return Err(broken(SECOND.name, call, answer));
         }
         for (other, copy) in &mut self.others {
-            let theirs = other.call(copy.lend(), call);
+            let theirs = make(other, copy.lend());
             if !copy.guards_stand() {
-                return Err(Failure::Broken(other.name, call, theirs));
+                return Err(broken(other.name, call, theirs));
             }
             if theirs != answer || copy.lent() != self.second.lent() {
                 return Err(Failure::Different(Box::new(Difference {
-                    call,
+                    call: format!("{call:?}"),
                     other: other.name,
-                    answers: [answer, theirs],
+                    answers: [answer, theirs].map(|answer| format!("{answer:?}")),
                     before: self.before.clone(),
                     after: [self.second.lent().to_vec(), copy.lent().to_vec()],
                 })));
             }
         }
-        let coverage = &mut checks.coverage;
-        coverage.record(call, answer, &self.before, self.second.lent());
-        Ok(answer)
+        Ok(())
     }
+}
+
+fn broken(name: &'static str, call: impl Debug, answer: impl Debug) -> Failure {
+    Failure::Broken(name, format!("{call:?} answered {answer:?}"))
 }

@@ -2,7 +2,7 @@
 
 use crate::cases::files::Lister;
 use crate::cases::runs::Runs;
-use crate::cases::{images, makes, scripts, solo};
+use crate::cases::{dispatch, images, makes, scripts, solo, stretch};
 use crate::coverage::Coverage;
 use crate::failure::Failure;
 use crate::options::Options;
@@ -21,10 +21,12 @@ const MAKES: u64 = 40;
 const SCRIPTS: u64 = 6;
 /// Which cases are of which sort goes by their number modulo this: most are
 /// runs, which say the most, and a case of run files takes as long as ten.
-const SORTS: u64 = 16;
+const SORTS: u64 = 18;
 const RUN_FILES: u64 = 4;
 const OF_SCRIPTS: u64 = 5;
 const SOLO: u64 = 6;
+const DISPATCH: u64 = 7;
+const STRETCH: u64 = 8;
 
 pub struct Tally {
     checks: Checks,
@@ -108,11 +110,9 @@ impl Tally {
                     self.scripts += 1;
                 }
             }
-            SOLO => {
-                // Sixteen widths in turn: the least cases come to each of them.
-                let width = 1 + (case / SORTS % 16) as u32;
-                solo::run(rng, width, &mut self.checks)?;
-            }
+            SOLO => solo::run(rng, width_in_turn(case), &mut self.checks)?,
+            DISPATCH => dispatch::run(rng, &mut self.checks)?,
+            STRETCH => stretch::run(rng, width_in_turn(case), &mut self.checks)?,
             _ => self.runs.run(rng, &mut self.checks)?,
         }
         Ok(())
@@ -130,12 +130,13 @@ impl Tally {
         self.report_runs();
         println!(
             "crosscheck: {} calls, {} images, {} runs one at a time, {} scripts, {} solo operations, \
-             {} run files: all equal",
+             {} dispatches, {} run files: all equal",
             self.checks.coverage.calls,
             self.images,
             self.runs.runs,
             self.scripts,
             self.checks.coverage.solo.operations,
+            self.checks.coverage.dispatches,
             self.lister.as_ref().map_or(0, |lister| lister.files),
         );
         ExitCode::SUCCESS
@@ -153,4 +154,9 @@ impl Tally {
              {queues} runs of queues and {stacks} of stacks came to it",
         );
     }
+}
+
+/// Sixteen widths: the least cases come to each of them.
+fn width_in_turn(case: u64) -> u32 {
+    1 + (case / SORTS % 16) as u32
 }

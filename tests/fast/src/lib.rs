@@ -5,11 +5,13 @@
 //! distance run over contiguous words without branches.
 
 mod admit;
+mod dispatch;
 mod distance;
 mod queue;
 mod stack;
 
 use admit::{admit, Parts};
+pub use dispatch::dispatch;
 use second::layout::WORKER_WORDS;
 use second::layout::{self, HEADER_WORDS, INDEX, PHASE, PUTS_MADE, STEPS_COUNTED, SUM, VALUE};
 use second::TOO_SHORT;

@@ -54,7 +54,7 @@ const fn lister_fault(
     }
 }
 
-pub const FAULTS: [Fault; 21] = [
+pub const FAULTS: [Fault; 26] = [
     trap(
         "empty after one pass, without confirm",
         "stages/read.rs",
@@ -102,6 +102,36 @@ pub const FAULTS: [Fault; 21] = [
         "solo.rs",
         "w + 5",
         "w + 6",
+    ),
+    fault(
+        "a dispatch that begins after the named worker",
+        "dispatch.rs",
+        "let mut turn = named;",
+        "let mut turn = (named + 1) % settings.workers;",
+    ),
+    fault(
+        "a count of 0 that ran out where nobody is busy",
+        "dispatch.rs",
+        "if busy_from(words, settings, turn).is_none() {",
+        "if count > 0 && busy_from(words, settings, turn).is_none() {",
+    ),
+    fault(
+        "a next turn that passes over idle workers",
+        "dispatch.rs",
+        "Dispatched::RanOut { next: turn }",
+        "Dispatched::RanOut { next: busy_from(words, settings, turn).unwrap_or(turn) }",
+    ),
+    fault(
+        "the longest stretch, one step less",
+        "stretch.rs",
+        "let put = w + 4;",
+        "let put = w + 3;",
+    ),
+    fault(
+        "the longest stretch, one step more",
+        "stretch.rs",
+        "let put = w + 4;",
+        "let put = w + 5;",
     ),
     trap(
         "a stack's version stays at a take",

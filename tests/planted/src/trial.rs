@@ -35,11 +35,13 @@ pub fn finder(printed: &str) -> &'static str {
     let signs = [
         ("never reached", "something is never reached"),
         ("left by itself", "a worker left by itself"),
+        ("steps in a row", "a stretch"),
         ("script with", "a script"),
         ("one at a time: no place", "one at a time"),
         ("one at a time: undecided", "one at a time, undecided"),
         ("one at a time", "one at a time"),
         ("listings of a run file", "run files"),
+        ("call: Dispatch", "a dispatch compared"),
         ("compiled answers", "a call compared"),
         ("may not change", "a word that may not change"),
         ("panicked", "a panic"),

@@ -52,6 +52,11 @@ impl Answer {
         }
     }
 
+    /// Its fields, in the same order.
+    pub fn fields(&self) -> [u32; 5] {
+        [self.value, self.sub, self.row, self.stamp, self.distance]
+    }
+
     pub fn of(number: u32) -> Answer {
         Answer {
             number,

@@ -1,4 +1,4 @@
-//! The windowed pool once more, written from paper 01 alone.
+//! The windowed pool once more, written from the papers alone.
 //!
 //! The calls are total: any number of words, any words, any arguments. A pool
 //! is a queue (the paper's line) or a stack (its pile). Nothing here is made
@@ -7,11 +7,13 @@
 mod answer;
 mod bounds;
 mod calls;
+mod dispatch;
 mod listing;
 mod one_at_a_time;
 mod pool;
 mod solo;
 mod stages;
+mod stretch;
 
 pub use answer::{Answer, STEP_LIMIT};
 pub use answer::{BUSY, IDLE, NO_WORKER, OFF_LIMITS, SPENT, TOO_SHORT, UNFIT};
@@ -19,8 +21,10 @@ pub use answer::{EMPTY, FULL, MOVING, PUT, TAKEN};
 pub use bounds::{closer_distance_bound, distance_bound, framework_figure};
 pub use bounds::{full_bound, thesis_figure, worst_distance};
 pub use calls::{begin_put, begin_take, make, step};
+pub use dispatch::{dispatch, dispatch_watched, Dispatched, Returned, NONE_BUSY, RAN_OUT};
 pub use listing::{list, ABOVE_BOUND, CUT, OUT_OF_PLACE};
 pub use one_at_a_time::{one_at_a_time, Event, Placed};
 pub use pool::settings::{Settings, QUEUE, STACK};
 pub use pool::{layout, phase};
 pub use solo::{solo_steps, solo_steps_bound};
+pub use stretch::{longest_stretch, stretch_bound};

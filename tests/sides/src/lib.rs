@@ -1,7 +1,7 @@
-//! A call of the pool, and the implementations that can be asked to make it:
-//! one table for the cross-check and the benchmark.
+//! A call of the pool or of its dispatcher, and the implementations that can be
+//! asked to make it: one table for the cross-check and the benchmark.
 
-use second::{Answer, Settings};
+use second::{Answer, Returned, Settings};
 
 #[derive(Clone, Copy, Debug, PartialEq, Eq)]
 pub enum Call {
@@ -11,12 +11,20 @@ pub enum Call {
     Step { worker: u32 },
 }
 
+/// From the worker on, at most so many steps.
+#[derive(Clone, Copy, Debug, PartialEq, Eq)]
+pub struct Dispatch {
+    pub worker: u32,
+    pub steps: u32,
+}
+
 pub struct Implementation {
     pub name: &'static str,
     make: fn(&mut [u32], Settings) -> Answer,
     begin_put: fn(&mut [u32], u32, u32) -> Answer,
     begin_take: fn(&mut [u32], u32) -> Answer,
     step: fn(&mut [u32], u32) -> Answer,
+    dispatch: fn(&mut [u32], u32, u32) -> Returned,
 }
 
 impl Implementation {
@@ -28,6 +36,10 @@ impl Implementation {
             Call::Step { worker } => (self.step)(words, worker),
         }
     }
+
+    pub fn dispatch(&self, words: &mut [u32], Dispatch { worker, steps }: Dispatch) -> Returned {
+        (self.dispatch)(words, worker, steps)
+    }
 }
 
 /// The one that says what is right.
@@ -37,6 +49,7 @@ pub const SECOND: Implementation = Implementation {
     begin_put: second::begin_put,
     begin_take: second::begin_take,
     step: second::step,
+    dispatch: |words, worker, steps| second::dispatch(words, worker, steps).returned(),
 };
 
 /// The library under test.
@@ -46,6 +59,7 @@ pub const COMPILED: Implementation = Implementation {
     begin_put: compiled::begin_put,
     begin_take: compiled::begin_take,
     step: compiled::step,
+    dispatch: compiled::dispatch,
 };
 
 /// The one that the benchmark measures the compiled library against.
@@ -55,4 +69,5 @@ pub const FAST: Implementation = Implementation {
     begin_put: fast::begin_put,
     begin_take: fast::begin_take,
     step: fast::step,
+    dispatch: |words, worker, steps| fast::dispatch(words, worker, steps).returned(),
 };

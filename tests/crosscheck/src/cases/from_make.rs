@@ -6,9 +6,9 @@ use crate::make_up::junk;
 use crate::rng::Rng;
 use crate::side_by_side::{Checks, SideBySide};
 use second::phase::Side;
-use second::{layout, one_at_a_time, worst_distance};
-use second::{Answer, Event, Placed, Settings, STEP_LIMIT};
-use sides::Call;
+use second::{layout, longest_stretch, one_at_a_time, worst_distance};
+use second::{Answer, Dispatched, Event, Placed, Settings, QUEUE, STEP_LIMIT};
+use sides::{Call, Dispatch};
 
 pub struct FromMake {
     /// What a failure calls it.
@@ -18,6 +18,9 @@ pub struct FromMake {
     events: Vec<Event>,
     /// The greatest distance of a take so far.
     pub greatest: u32,
+    /// Steps since the last final answer, and the most of them so far.
+    pub stretch: u32,
+    pub longest: u32,
 }
 
 impl FromMake {
@@ -37,6 +40,8 @@ impl FromMake {
             pools,
             events: Vec::new(),
             greatest: 0,
+            stretch: 0,
+            longest: 0,
         })
     }
 
@@ -47,8 +52,40 @@ impl FromMake {
     pub fn call(&mut self, call: Call, checks: &mut Checks) -> Result<Answer, Failure> {
         let answer = self.pools.call(call, checks)?;
         self.events.push(event(call, answer));
-        self.greatest = self.greatest.max(answer.distance);
+        if let Call::Step { .. } = call {
+            self.note_step(answer)?;
+        }
         Ok(answer)
+    }
+
+    pub fn dispatch(
+        &mut self,
+        dispatch: Dispatch,
+        checks: &mut Checks,
+    ) -> Result<Dispatched, Failure> {
+        let (dispatched, made) = self.pools.dispatch(dispatch, checks)?;
+        for (worker, answer) in made {
+            self.events.push(Event::Step { worker, answer });
+            self.note_step(answer)?;
+        }
+        Ok(dispatched)
+    }
+
+    /// In a queue no stretch may be longer than the figure.
+    fn note_step(&mut self, answer: Answer) -> Result<(), Failure> {
+        self.greatest = self.greatest.max(answer.distance);
+        if answer.is_final() {
+            self.stretch = 0;
+        } else if !answer.is_refusal() {
+            self.stretch += 1;
+        }
+        self.longest = self.longest.max(self.stretch);
+        let figure = longest_stretch(&self.settings);
+        if self.settings.kind == QUEUE && self.stretch > figure {
+            let what = format!("no answer in {} steps in a row", self.stretch);
+            return Err(self.said(&format!("{what}, the longest stretch has {figure}")));
+        }
+        Ok(())
     }
 
     /// As after a long run: with so many steps left in the step count.

@@ -8,12 +8,7 @@ use second::layout;
 use sides::Call;
 
 pub fn run(rng: &mut Rng, checks: &mut Checks) -> Result<(), Failure> {
-    let words = match rng.below(10) {
-        0 => image::random(rng),
-        1 => image::short(rng),
-        2 | 3 => image::damaged(rng),
-        _ => image::fit(rng),
-    };
+    let words = image::any(rng);
     let workers = words.get(layout::WORKERS).copied().unwrap_or(1);
     let mut pools = SideBySide::new(&words, checks);
     let mut worker = junk::worker(rng, workers);

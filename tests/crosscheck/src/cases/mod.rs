@@ -1,9 +1,12 @@
 //! The sorts of cases.
 
+pub mod dispatch;
 pub mod files;
 mod from_make;
 pub mod images;
 pub mod makes;
+mod play;
 pub mod runs;
 pub mod scripts;
 pub mod solo;
+pub mod stretch;

@@ -31,6 +31,7 @@ impl Runs {
         self.operations += placed.events.len() as u64;
         self.not_at_last_steps += u64::from(placed.returns > 0);
         self.note_distance(&settings, run.greatest);
+        checks.coverage.stretch.record_run(&settings, run.longest);
         Ok(())
     }
 

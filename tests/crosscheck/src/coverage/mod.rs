@@ -2,23 +2,28 @@
 //! phase of both kinds, each number that each call can answer, each corner
 //! where the paper's text is about words that no make leads to, each sort of
 //! settings that a script can have, each phase in which others may have stopped
-//! beside a solo operation, and the most steps of one.
+//! beside a solo operation, and the most steps of one; each corner of a
+//! dispatch, and the most steps of a stretch.
 
 mod corners;
 mod counts;
+mod dispatch;
 mod numbers;
 mod phases;
 mod scripts;
 mod solo;
+mod stretch;
 
 use corners::CORNERS;
 use counts::Counts;
+use dispatch::DISPATCHES;
 use numbers::Numbers;
 use phases::Phases;
 use scripts::SCRIPTS;
-use second::{layout, Answer, Settings, NO_WORKER, UNFIT};
-use sides::{Call, SECOND};
+use second::{layout, Answer, Dispatched, Settings, NO_WORKER, UNFIT};
+use sides::{Call, Dispatch, SECOND};
 use solo::Solo;
+use stretch::Stretch;
 
 /// A call on a fit pool that was not refused, or only by its commit.
 struct Seen<'a> {
@@ -34,22 +39,28 @@ struct Seen<'a> {
 #[derive(Default)]
 pub struct Coverage {
     pub calls: u64,
+    pub dispatches: u64,
     numbers: Numbers,
     phases: Phases,
     corners: Counts<{ CORNERS.len() }>,
     scripts: Counts<{ SCRIPTS.len() }>,
     pub solo: Solo,
+    dispatch: Counts<{ DISPATCHES.len() }>,
+    pub stretch: Stretch,
 }
 
 impl Coverage {
     pub fn record(&mut self, call: Call, answer: Answer, before: &[u32], after: &[u32]) {
         self.calls += 1;
-        self.numbers.record(call, answer.number);
-        let worker = match call {
-            Call::Make(_) => return,
-            Call::BeginPut { worker, .. } => worker,
-            Call::BeginTake { worker } => worker,
-            Call::Step { worker } => worker,
+        let (name, worker) = match call {
+            Call::Make(_) => ("make", None),
+            Call::BeginPut { worker, .. } => ("begin put", Some(worker)),
+            Call::BeginTake { worker } => ("begin take", Some(worker)),
+            Call::Step { worker } => ("step", Some(worker)),
+        };
+        self.numbers.record(name, answer.number);
+        let Some(worker) = worker else {
+            return;
         };
         if answer.is_refusal() && !(answer.number == UNFIT && is_fit(before)) {
             return;
@@ -68,6 +79,25 @@ impl Coverage {
         self.corners.add(CORNERS.map(|(_, reached)| reached(&seen)));
     }
 
+    pub fn record_dispatch(
+        &mut self,
+        dispatch: Dispatch,
+        dispatched: Dispatched,
+        made: &[(u32, Answer)],
+        before: &[u32],
+    ) {
+        self.dispatches += 1;
+        self.numbers.record("dispatch", dispatched.returned().0);
+        let seen = dispatch::Seen {
+            dispatch,
+            dispatched,
+            made,
+            before,
+        };
+        let reached = DISPATCHES.map(|(_, reached)| reached(&seen));
+        self.dispatch.add(reached);
+    }
+
     /// A script that came to its end.
     pub fn record_script(&mut self, settings: &Settings) {
         self.scripts.add(SCRIPTS.map(|(_, has)| has(settings)));
@@ -80,6 +110,8 @@ impl Coverage {
         missing.extend(self.corners.report(CORNERS));
         missing.extend(self.scripts.report(SCRIPTS));
         missing.extend(self.solo.report());
+        missing.extend(self.dispatch.report(DISPATCHES));
+        missing.extend(self.stretch.report());
         missing
     }
 }

@@ -13,6 +13,8 @@ pub enum Until {
     AllFull,
     /// All but the last sub.
     OthersFull,
+    /// This sub.
+    Full(u32),
     LastHolds(u32),
     /// The worker's next take is that of the last sub's item in this row.
     NextIsInLast {
@@ -20,10 +22,16 @@ pub enum Until {
     },
     /// The worker stands before this stage.
     Before(Stage),
+    /// It stands before this stage, in its pass after so many subs.
+    At(Stage, u32),
     /// P or G.
     WindowIs(u32),
+    /// T.
+    TakeWindowIs(u32),
     /// No take finds an item before the window moves.
     NoneInReach,
+    /// Nor in this sub.
+    OutOfReach(u32),
     Idle,
 }
 
@@ -56,17 +64,22 @@ impl Act {
         let last = workers.settings.width - 1;
         let full = |subs: u32| (0..subs).all(|j| workers.top_row(j) == window);
         let none_in_reach = |mut subs: Range<u32>| subs.all(|j| workers.in_reach(j) == 0);
+        let is_before = |stage| workers.stage(self.worker) == Some((self.side, stage));
         match self.until {
             Until::AllFull => full(last + 1),
             Until::OthersFull => full(last),
+            Until::Full(sub) => workers.top_row(sub) == window,
             Until::LastHolds(items) => workers.top_row(last) == items,
             Until::NextIsInLast { row } => {
                 let on_its_way = workers.index(self.worker)..last;
                 none_in_reach(on_its_way) && workers.top_row(last) == row
             }
             Until::NoneInReach => none_in_reach(0..last + 1),
-            Until::Before(stage) => workers.stage(self.worker) == Some((self.side, stage)),
+            Until::OutOfReach(sub) => none_in_reach(sub..sub + 1),
+            Until::Before(stage) => is_before(stage),
+            Until::At(stage, subs) => is_before(stage) && workers.scan(self.worker) == subs,
             Until::WindowIs(wanted) => window == wanted,
+            Until::TakeWindowIs(wanted) => workers.take_window() == wanted,
             Until::Idle => workers.is_idle(self.worker),
         }
     }

@@ -8,7 +8,17 @@ use crate::rng::Rng;
 use second::phase;
 use second::{layout, Settings, QUEUE};
 
-pub fn fit(rng: &mut Rng) -> Vec<u32> {
+/// A fit one more often than not.
+pub fn any(rng: &mut Rng) -> Vec<u32> {
+    match rng.below(10) {
+        0 => random(rng),
+        1 => short(rng),
+        2 | 3 => damaged(rng),
+        _ => fit(rng),
+    }
+}
+
+fn fit(rng: &mut Rng) -> Vec<u32> {
     let size = rng.pick(&[Size::Small, Size::Small, Size::Small, Size::Medium]);
     let settings = within(rng, size);
     let beyond = rng.below(4) as usize;
@@ -31,7 +41,7 @@ pub fn fit(rng: &mut Rng) -> Vec<u32> {
 }
 
 /// A fit image with one word changed, mostly one that the check reads.
-pub fn damaged(rng: &mut Rng) -> Vec<u32> {
+fn damaged(rng: &mut Rng) -> Vec<u32> {
     let mut words = fit(rng);
     let settings = Settings::of_words(&words);
     let in_worker = settings.workers_at()
@@ -53,7 +63,7 @@ pub fn damaged(rng: &mut Rng) -> Vec<u32> {
 }
 
 /// A fit or damaged image, cut near 12 words or near the needed ones.
-pub fn short(rng: &mut Rng) -> Vec<u32> {
+fn short(rng: &mut Rng) -> Vec<u32> {
     let mut words = if rng.chance(80) {
         fit(rng)
     } else {
@@ -70,7 +80,7 @@ pub fn short(rng: &mut Rng) -> Vec<u32> {
 }
 
 /// No pool at all.
-pub fn random(rng: &mut Rng) -> Vec<u32> {
+fn random(rng: &mut Rng) -> Vec<u32> {
     let len = rng.below(100) as usize;
     junk::words(rng, len)
 }

@@ -2,8 +2,10 @@
 
 mod acts;
 mod ambush;
+pub mod dispatches;
 pub mod image;
 pub mod junk;
+pub mod longest_stretch;
 pub mod most_steps;
 pub mod run_file;
 pub mod schedule;

@@ -53,6 +53,20 @@ pub fn of_solo_script(rng: &mut Rng, kind: u32, width: u32, size: Size) -> Setti
     }
 }
 
+/// A queue, for the script to its longest stretch: with one worker, with two, or
+/// with three or more.
+pub fn of_stretch_script(rng: &mut Rng, width: u32, crew: u32, size: Size) -> Settings {
+    let settings = of_width(rng, QUEUE, width, size);
+    let workers = match crew {
+        1 | 2 => crew,
+        _ => settings.workers.max(3),
+    };
+    Settings {
+        workers,
+        ..settings
+    }
+}
+
 /// Settings of this kind within limits.
 pub fn of_kind(rng: &mut Rng, kind: u32, size: Size) -> Settings {
     let widths = match size {

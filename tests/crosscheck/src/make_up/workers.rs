@@ -30,9 +30,18 @@ impl Workers<'_> {
         self.word(worker, layout::INDEX)
     }
 
+    pub fn scan(&self, worker: u32) -> u32 {
+        self.word(worker, layout::SCAN)
+    }
+
     /// P or G: both stand in word 8.
     pub fn put_window(&self) -> u32 {
         self.words[layout::PUT_WINDOW]
+    }
+
+    /// T.
+    pub fn take_window(&self) -> u32 {
+        self.words[layout::TAKE_WINDOW]
     }
 
     /// G; a queue's windows only go up and never come back.
@@ -52,7 +61,7 @@ impl Workers<'_> {
             top.saturating_sub(self.put_window() - self.settings.depth)
         } else {
             let taken = self.sub_word(sub, layout::ITEMS_TAKEN);
-            top.min(self.words[layout::TAKE_WINDOW]) - taken
+            top.min(self.take_window()) - taken
         }
     }
 

@@ -1,9 +1,11 @@
 //! Shortcuts over the four calls, and what more than one test needs.
 #![allow(dead_code)]
 
+pub mod dispatch;
 pub mod normal;
 pub mod solo;
 pub mod states;
+pub mod stretch;
 
 use second::{begin_put, begin_take, make, step, Answer, Settings, MOVING, QUEUE, STACK};
 

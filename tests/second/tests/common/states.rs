@@ -12,6 +12,27 @@ pub const CALLS: [fn(&mut [u32], u32) -> Answer; 3] = [
     step,
 ];
 
+/// A call of CALLS that is not refused, by its place there; its answer, and the
+/// state after it.
+pub type Move = (usize, Answer, Vec<u32>);
+
+/// All moves from a state, in normal words.
+pub fn moves(words: &[u32]) -> Vec<Move> {
+    let mut moves = Vec::new();
+    for worker in 0..Settings::of_words(words).workers {
+        for (which, call) in CALLS.iter().enumerate() {
+            let mut after = words.to_vec();
+            let answer = call(&mut after, worker);
+            if answer.is_refusal() {
+                assert!([BUSY, IDLE].contains(&answer.number), "{answer:?}");
+                continue;
+            }
+            moves.push((which, answer, normal(&after)));
+        }
+    }
+    moves
+}
+
 /// Looks at each state once, in its normal words; how many there are.
 pub fn every_state(settings: Settings, mut look: impl FnMut(&[u32])) -> usize {
     let first = normal(&made(settings));
@@ -19,19 +40,10 @@ pub fn every_state(settings: Settings, mut look: impl FnMut(&[u32])) -> usize {
     let mut ahead = vec![first];
     while let Some(words) = ahead.pop() {
         look(&words);
-        for worker in 0..settings.workers {
-            for call in CALLS {
-                let mut after = words.clone();
-                let answer = call(&mut after, worker);
-                if answer.is_refusal() {
-                    assert!([BUSY, IDLE].contains(&answer.number), "{answer:?}");
-                    continue;
-                }
-                let after = normal(&after);
-                if !known.contains(&after) {
-                    known.insert(after.clone());
-                    ahead.push(after);
-                }
+        for (_, _, after) in moves(&words) {
+            if !known.contains(&after) {
+                known.insert(after.clone());
+                ahead.push(after);
             }
         }
     }

@@ -3,6 +3,7 @@
 
 use super::operation;
 use crate::cases::from_make::FromMake;
+use crate::cases::play::play;
 use crate::failure::Failure;
 use crate::make_up::most_steps;
 use crate::make_up::settings::{of_solo_script, Size};
@@ -21,10 +22,8 @@ pub fn run(
     let size = rng.pick(&[Size::Small, Size::Small, Size::Small, Size::Medium]);
     let settings = of_solo_script(rng, kind, width, size);
     let mut run = FromMake::new("script", rng, settings, checks)?;
-    let mut script = most_steps::script(rng, settings, side);
-    while let Some(call) = script.next(rng, run.words()) {
-        run.call(call, checks)?;
-    }
+    let script = most_steps::script(rng, settings, side);
+    play(rng, &mut run, script, checks)?;
     let figure = solo_steps(&settings, side);
     // K3: "the step count has that many left"; in half of the runs, no more.
     if rng.chance(50) {

@@ -2,10 +2,10 @@
 
 use super::begin;
 use crate::cases::from_make::FromMake;
+use crate::cases::play::play_disturbed;
 use crate::cases::runs::random_run;
 use crate::failure::Failure;
 use crate::make_up::most_steps;
-use crate::make_up::schedule::{Numbers, Schedule};
 use crate::make_up::settings::{of_kind, of_solo_script, Size};
 use crate::rng::Rng;
 use crate::side_by_side::Checks;
@@ -20,8 +20,7 @@ pub enum Stops {
     AtRandom,
     /// After it one by one, with puts alone or takes alone.
     OneByOne(Side),
-    /// By a script to the most steps of this side, with calls at random in it:
-    /// near there a figure that is too low would be passed first.
+    /// By a script to the most steps of this side, with calls at random in it.
     NearTheMost(Side),
 }
 
@@ -96,15 +95,7 @@ fn disturbed_script(
     let width = rng.between(1, 16);
     let settings = of_solo_script(rng, kind, width, Size::Small);
     let mut run = FromMake::new("disturbed script", rng, settings, checks)?;
-    let mut script = most_steps::script(rng, settings, side);
-    let mut others = Schedule::new(rng, settings, Numbers::Any);
-    let others_percent = rng.pick(&[1, 4, 10]);
-    while let Some(call) = script.next(rng, run.words()) {
-        run.call(call, checks)?;
-        if rng.chance(others_percent) {
-            let call = others.next(rng, run.words());
-            run.call(call, checks)?;
-        }
-    }
+    let script = most_steps::script(rng, settings, side);
+    play_disturbed(rng, &mut run, script, checks)?;
     Ok(run)
 }
