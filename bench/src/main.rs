@@ -1,6 +1,8 @@
 //! The compiled library's time per call beside that of `fast`, the second
 //! implementation made fast, as Markdown for a page in docs.
 
+mod busy;
+mod dispatching;
 mod machine;
 mod measure;
 mod reading;
@@ -21,9 +23,12 @@ fn main() {
         measure::ROUNDS
     );
     println!("  same calls on the same words, which are compared afterwards.");
-    println!("- Workers take turns with whole operations, each from its begin to its answer. A");
-    println!("  take's last call counts its distance over all held items.\n");
+    println!(
+        "- Workers take turns with whole operations, each from its begin to its answer, but for"
+    );
+    println!("  dispatches. A take's last step counts its distance over all held items.\n");
     tables::all_sizes();
     tables::growth();
+    dispatching::table();
     reading::table();
 }

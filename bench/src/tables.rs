@@ -33,10 +33,7 @@ pub fn all_sizes() {
             }
         }
     }
-    ratios.sort_by(f64::total_cmp);
-    let (least, most) = (ratios[0], ratios[ratios.len() - 1]);
-    let median = ratios[ratios.len() / 2];
-    println!("\nRatios: least {least:.2}, median {median:.2}, greatest {most:.2}.\n");
+    print_range(ratios);
 }
 
 /// One size grows, the others stay.
@@ -100,6 +97,14 @@ pub fn settings(kind: u32, width: u32, rows: u32, workers: u32) -> Settings {
         rows,
         workers,
     }
+}
+
+/// The line under a table of ratios.
+pub fn print_range(mut ratios: Vec<f64>) {
+    ratios.sort_by(f64::total_cmp);
+    let (least, most) = (ratios[0], ratios[ratios.len() - 1]);
+    let median = ratios[ratios.len() / 2];
+    println!("\nRatios: least {least:.2}, median {median:.2}, greatest {most:.2}.\n");
 }
 
 fn cell(times: Times) -> String {

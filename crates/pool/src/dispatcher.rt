@@ -1,16 +1,15 @@
 // Turns for the workers: steps of the busy ones, round and round by number, up to the first final answer.
-use crate::work::fit_step;
+use crate::answers::final_answer;
+use crate::work::fit_answer;
 use fitness::refusal;
 use fitness::settings;
-use rules::Answer;
 use rules::Dispatched;
 use rules::Settings;
 use rules::Turn;
 ghost use mathlib.Core.Path.{_≡_};
 ghost use Prim.Native.Nat.{_<_};
-ghost use Rattle.rules.specs.Answers.{numberOf};
 ghost use Rattle.rules.specs.Fit.{FitPool, checkedOf};
-ghost use Rattle.rules.specs.Dispatch.{dispatched, turnFrom, endedBy, turnsOf, fitDispatch, dispatchOf};
+ghost use Rattle.rules.specs.Dispatch.{dispatched, turnFrom, endedOf, turnsOf, fitDispatch, dispatchOf};
 ghost use Rattle.rules.specs.declared.Checked.the-variants.{Fit};
 
 // The first busy worker from `from` on.
@@ -31,40 +30,14 @@ fn turn_from(words: &[u32], g: Settings, from: u32) -> Turn
     Turn::NoneBusy
 }
 
-// The number of an answer.
-fn number(a: Answer) -> u32
-    ensures { λ r. ⌜ r ≡ numberOf a ⌝ }
+// What the turns come to with an answer of worker `j`, by its number, which is not 0, and its five fields.
+fn ended(j: u32, n: u32, five: [u32; 5]) -> Dispatched
+    ensures { λ r. ⌜ r ≡ endedOf j n five ⌝ }
 {
-    match a {
-        Answer::Moving => 0,
-        Answer::Put {
-            value: _,
-            sub: _,
-            row: _,
-            stamp: _,
-        } => 1,
-        Answer::Taken {
-            value: _,
-            sub: _,
-            row: _,
-            stamp: _,
-            distance: _,
-        } => 2,
-        Answer::Empty => 3,
-        Answer::Full => 4,
-        Answer::Refused(n) => n,
-    }
-}
-
-// What the turns come to with an answer of worker `j` that is not 0.
-fn ended(j: u32, a: Answer) -> Dispatched
-    ensures { λ r. ⌜ r ≡ endedBy j a ⌝ }
-{
-    let n = number(a);
     if n <= 4 {
         Dispatched::Finished {
             worker: j,
-            answer: a,
+            answer: final_answer(n, five),
         }
     } else {
         Dispatched::Refused(n)
@@ -79,14 +52,15 @@ fn turns(words: &mut [u32], g: Settings, first: u32, steps: u32) -> Dispatched
 {
     let mut i = first;
     let mut left = steps;
+    let mut five = [0, 0, 0, 0, 0];
     while 0 < left {
         let t = turn_from(words, g, i);
         let Turn::Worker(j) = t else {
             return Dispatched::NoneBusy;
         };
-        let a = fit_step(words, g, j);
-        if number(a) != 0 {
-            return ended(j, a);
+        let n = fit_answer(words, j, &mut five);
+        if n != 0 {
+            return ended(j, n, five);
         }
         i = (j + 1) % g.workers;
         left = left - 1;

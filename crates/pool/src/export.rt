@@ -1,9 +1,13 @@
 // The functions that C calls: the answer's number is returned, and its five fields are written; of a dispatcher's result six.
+use crate::answers::answered;
+use crate::answers::fields;
+use crate::answers::number;
 use crate::begin::begin_put;
 use crate::begin::begin_take;
 use crate::dispatcher::dispatch;
 use crate::new::make;
-use crate::work::step;
+use crate::work::fit_answer;
+use fitness::refusal;
 use rules::Answer;
 use rules::Dispatched;
 ghost use mathlib.Core.Path.{_≡_};
@@ -12,49 +16,6 @@ ghost use Rattle.rules.specs.Begin.{beginPutOf, beginTakeOf};
 ghost use Rattle.rules.specs.Dispatch.{dispatchOf, resultNumber, resultFields};
 ghost use Rattle.rules.specs.Make.{makeOf};
 ghost use Rattle.rules.specs.Step.{stepOf};
-
-// Writes the five fields of an answer; its number.
-fn answered(a: Answer, fields: &mut [u32; 5]) -> u32
-    ensures { λ r. ⌜ (r ≡ numberOf a) × (now (fields .exit) ≡ fieldsOf a) ⌝ }
-{
-    match a {
-        Answer::Moving => {
-            *fields = [0, 0, 0, 0, 0];
-            0
-        }
-        Answer::Put {
-            value,
-            sub,
-            row,
-            stamp,
-        } => {
-            *fields = [value, sub, row.0, stamp.0, 0];
-            1
-        }
-        Answer::Taken {
-            value,
-            sub,
-            row,
-            stamp,
-            distance,
-        } => {
-            *fields = [value, sub, row.0, stamp.0, distance];
-            2
-        }
-        Answer::Empty => {
-            *fields = [0, 0, 0, 0, 0];
-            3
-        }
-        Answer::Full => {
-            *fields = [0, 0, 0, 0, 0];
-            4
-        }
-        Answer::Refused(n) => {
-            *fields = [0, 0, 0, 0, 0];
-            n
-        }
-    }
-}
 
 #[no_mangle]
 pub extern "C" fn pool_make(
@@ -106,31 +67,33 @@ pub extern "C" fn pool_step(words: &mut [u32], worker: u32, fields: &mut [u32; 5
     ensures { λ _. ⌜ now (words .exit) ≡ (stepOf (now (words .entry)) worker) .words ⌝ }
     ensures { λ _. ⌜ now (fields .exit) ≡ fieldsOf ((stepOf (now (words .entry)) worker) .answer) ⌝ }
 {
-    let a = step(words, worker);
-    answered(a, fields)
+    let n = refusal(words);
+    if n != 0 {
+        return answered(Answer::Refused(n), fields);
+    }
+    fit_answer(words, worker, fields)
 }
 
 // Writes the six fields of a dispatcher's result; its number.
-fn came_to(r: Dispatched, fields: &mut [u32; 6]) -> u32
-    ensures { λ n. ⌜ (n ≡ resultNumber r) × (now (fields .exit) ≡ resultFields r) ⌝ }
+fn came_to(r: Dispatched, six: &mut [u32; 6]) -> u32
+    ensures { λ n. ⌜ (n ≡ resultNumber r) × (now (six .exit) ≡ resultFields r) ⌝ }
 {
     match r {
         Dispatched::Finished { worker, answer } => {
-            let mut five = [0, 0, 0, 0, 0];
-            let n = answered(answer, &mut five);
-            *fields = [five[0], five[1], five[2], five[3], five[4], worker];
-            n
+            let five = fields(answer);
+            *six = [five[0], five[1], five[2], five[3], five[4], worker];
+            number(answer)
         }
         Dispatched::NoneBusy => {
-            *fields = [0, 0, 0, 0, 0, 0];
+            *six = [0, 0, 0, 0, 0, 0];
             5
         }
         Dispatched::RanOut { next } => {
-            *fields = [0, 0, 0, 0, 0, next];
+            *six = [0, 0, 0, 0, 0, next];
             6
         }
         Dispatched::Refused(n) => {
-            *fields = [0, 0, 0, 0, 0, 0];
+            *six = [0, 0, 0, 0, 0, 0];
             n
         }
     }

@@ -1,4 +1,5 @@
-// The pool on lent words: make, begin put, begin take and step, for all words.
+// The pool on lent words: make, begin put, begin take, step and the dispatcher, for all words.
+mod answers;
 mod apply;
 mod begin;
 mod cells;

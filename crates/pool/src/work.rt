@@ -1,4 +1,5 @@
 // One step of a worker.
+use crate::answers::answered;
 use crate::apply::apply;
 use crate::view::view;
 use fitness::refusal;
@@ -10,9 +11,9 @@ use rules::Settings;
 ghost use mathlib.Core.Path.{_≡_};
 ghost use Prim.Native.Nat.{_+_, _<_};
 ghost use lib.ListN.{getD};
-ghost use Rattle.rules.specs.Answers.{out};
+ghost use Rattle.rules.specs.Answers.{out, numberOf, fieldsOf};
 ghost use Rattle.rules.specs.Fit.{FitPool};
-ghost use Rattle.rules.specs.Layout.{Lent};
+ghost use Rattle.rules.specs.Layout.{Lent, settingsOf};
 ghost use Rattle.rules.specs.Step.{slotStep, fitStep, stepOf};
 
 // A step of the worker whose words start at `at`.
@@ -35,7 +36,7 @@ fn slot_step(words: &mut [u32], g: Settings, at: usize) -> Answer
 }
 
 // A step of worker `i` of a fit pool.
-pub fn fit_step(words: &mut [u32], g: Settings, i: u32) -> Answer
+fn fit_step(words: &mut [u32], g: Settings, i: u32) -> Answer
     requires { ⌜ FitPool g (now words) ⌝ }
     ensures { λ r. ⌜ out r (now (words .exit)) ≡ fitStep (now (words .entry)) g i ⌝ }
 {
@@ -44,6 +45,19 @@ pub fn fit_step(words: &mut [u32], g: Settings, i: u32) -> Answer
     }
     let at = 12 + 2 * (g.width as usize) + 8 * (i as usize);
     slot_step(words, g, at)
+}
+
+// A step of worker `i` of a fit pool: its answer's number, with the five fields written. C's step and the dispatcher share it, with all of a step
+// behind it and a number in place of an answer that would go through memory.
+pub fn fit_answer(words: &mut [u32], i: u32, five: &mut [u32; 5]) -> u32
+    requires { ⌜ FitPool (settingsOf (now words)) (now words) ⌝ }
+    ensures { λ r. ⌜ r ≡ numberOf ((fitStep (now (words .entry)) (settingsOf (now (words .entry))) i) .answer) ⌝ }
+    ensures { λ _. ⌜ now (words .exit) ≡ (fitStep (now (words .entry)) (settingsOf (now (words .entry))) i) .words ⌝ }
+    ensures { λ _. ⌜ now (five .exit) ≡ fieldsOf ((fitStep (now (words .entry)) (settingsOf (now (words .entry))) i) .answer) ⌝ }
+{
+    let g = settings(words);
+    let a = fit_step(words, g, i);
+    answered(a, five)
 }
 
 // One step of a worker.

@@ -1,12 +1,13 @@
 -- K7, the dispatcher: it "steps busy workers round and round by number, from a worker the caller names, up to a given count of steps, and
 -- stops at the first final answer, naming the worker. With no busy worker, or when the count runs out, it says which; if both hold, that no
 -- worker is busy." The field calls this round robin. It is `stepOf` again and again, and nothing else.
-use Prim.Native.Nat.{ℕ, zero, suc, _+_, _%_}
+use Prim.Native.Nat.{ℕ, zero, suc, _+_, _%_, _<_}
+use mathlib.Core.Logic.{_≢_}
 use mathlib.Core.List.{List, [], _∷_, _++_}
 use lib.ListN.{getD}
 use lib.Dec.{leb, eqb}
 use Rattle.laws.specs.Choice.{cond}
-use Rattle.rules.specs.Answers.{Out, numberOf, fieldsOf, noFields}
+use Rattle.rules.specs.Answers.{Out, numberOf, fieldsOf, noFields, finalOf}
 use Rattle.rules.specs.Layout.{workerAt}
 use Rattle.rules.specs.Fit.{checkedOf}
 use Rattle.rules.specs.Step.{stepOf}
@@ -27,7 +28,24 @@ pub record DispatchOut : Type 0 where
 abbrev pub dispatched : Dispatched → List ℕ → DispatchOut
 dispatched r ws = record { result = r; words = ws }
 
+-- for C, the number of a result and six fields, the sixth a worker
+abbrev pub resultNumber : Dispatched → ℕ
+resultNumber (Finished worker answer) = numberOf answer
+resultNumber NoneBusy = 5
+resultNumber (RanOut next) = 6
+resultNumber (Refused n) = n
+
+abbrev pub resultFields : Dispatched → List ℕ
+resultFields (Finished worker answer) = fieldsOf answer ++ (worker ∷ [])
+resultFields NoneBusy = noFields ++ (0 ∷ [])
+resultFields (RanOut next) = noFields ++ (next ∷ [])
+resultFields (Refused n) = noFields ++ (0 ∷ [])
+
 -- ---- whose turn it is
+-- some worker is busy: its phase is not 0
+abbrev pub Busy : Settings → List ℕ → Type 0
+Busy g ws = (i : ℕ) × (i < g .workers) × (getD ws (workerAt g i) 0 ≢ 0)
+
 -- the worker after i, "round and round by number"
 abbrev pub workerAfter : Settings → ℕ → ℕ
 workerAfter g i = (i + 1) % g .workers
@@ -50,6 +68,10 @@ ifBusy ws (Worker j) go = go j
 unfoldable pub endedBy : ℕ → Answer → Dispatched
 endedBy j a = cond (leb (numberOf a) 4) (Finished j a) (Refused (numberOf a))
 
+-- the same of an answer's number and five fields, as the code has them
+unfoldable pub endedOf : ℕ → ℕ → List ℕ → Dispatched
+endedOf j n fields = cond (leb n 4) (Finished j (finalOf n fields)) (Refused n)
+
 -- worker j's step: after a 0 the turns go on
 unfoldable pub afterStep : ℕ → Out → DispatchOut → DispatchOut
 afterStep j o rest = cond (eqb (numberOf (o .answer)) 0) rest (dispatched (endedBy j (o .answer)) (o .words))
@@ -70,16 +92,3 @@ checkedDispatch ws (Fit g) i steps = fitDispatch ws g i steps
 
 unfoldable pub dispatchOf : List ℕ → ℕ → ℕ → DispatchOut
 dispatchOf ws i steps = checkedDispatch ws (checkedOf ws) i steps
-
--- ---- for C: the number of a result, and six fields, the sixth a worker
-abbrev pub resultNumber : Dispatched → ℕ
-resultNumber (Finished worker answer) = numberOf answer
-resultNumber NoneBusy = 5
-resultNumber (RanOut next) = 6
-resultNumber (Refused n) = n
-
-abbrev pub resultFields : Dispatched → List ℕ
-resultFields (Finished worker answer) = fieldsOf answer ++ (worker ∷ [])
-resultFields NoneBusy = noFields ++ (0 ∷ [])
-resultFields (RanOut next) = noFields ++ (next ∷ [])
-resultFields (Refused n) = noFields ++ (0 ∷ [])

@@ -3,17 +3,16 @@
 -- How many steps in a row may go without a final answer is a parameter: K7 has its own number, and the closest one is exact.
 use Prim.Native.Nat.{ℕ, _+_, _-_, _*_, _<_, max}
 use mathlib.Core.Path.{_≡_}
-use mathlib.Core.Logic.{_≢_}
 use mathlib.Core.List.{List, [], _∷_}
 use lib.ListN.{getD, take, drop}
 use lib.Dec.{leb, eqb}
 use Rattle.laws.specs.Choice.{cond}
 use Rattle.rules.specs.Answers.{numberOf}
-use Rattle.rules.specs.Layout.{stepsAt, workerAt}
+use Rattle.rules.specs.Layout.{stepsAt}
 use Rattle.rules.specs.Limits.{stepLimit}
 use Rattle.rules.specs.Run.{Call, beginPut, beginTake, step, Event, run, at, Final, StepOf}
 use Rattle.rules.specs.Consequences.{wordsAfter, OfEveryRun}
-use Rattle.rules.specs.Dispatch.{DispatchOut, dispatchOf}
+use Rattle.rules.specs.Dispatch.{DispatchOut, Busy, dispatchOf}
 use Rattle.rules.specs.declared.Settings.{Settings}
 use Rattle.rules.specs.declared.Answer.{Answer}
 use Rattle.rules.specs.declared.Dispatched.the-variants.{Finished}
@@ -64,9 +63,6 @@ StretchExact = StretchWithin exactStretch
 
 -- ---- what a caller wants of it: a dispatcher finishes an operation, where a worker is busy, its count is more than such a stretch, and so are
 -- the steps left
-abbrev pub Busy : Settings → List ℕ → Type 0
-Busy g ws = (i : ℕ) × (i < g .workers) × (getD ws (workerAt g i) 0 ≢ 0)
-
 pub record FinishesIn (g : Settings) (o : DispatchOut) : Type 0 where
   pub worker : ℕ
   pub among : worker < g .workers

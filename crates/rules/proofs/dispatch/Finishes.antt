@@ -9,7 +9,7 @@ use Prim.Native.Nat.{ℕ, zero, suc, _+_, _-_, _*_, _≤_, _<_}
 use native.Mathlib.Nat.{mod-lt}
 use native.Mathlib.Omega.{arith}
 use lib.ListN.{getD}
-use borrow.Author.Tests.{le-leb, lt-leb}
+use borrow.Author.Tests.{le-leb}
 use Rattle.laws.specs.Choice.{cond}
 use Rattle.rules.specs.Answers.{numberOf}
 use Rattle.rules.specs.Layout.{stepsAt, workerAt}
@@ -17,8 +17,8 @@ use Rattle.rules.specs.Limits.{settingsFit, stepLimit}
 use Rattle.rules.specs.Fit.{checkedOf}
 use Rattle.rules.specs.Step.{stepOf}
 use Rattle.rules.specs.Run.{Call, step, callOf, run, at, Final}
-use Rattle.rules.specs.Dispatch.{DispatchOut, workerAfter, turnFrom, endedBy, turnsOf, fitDispatch, checkedDispatch, dispatchOf}
-use Rattle.rules.specs.Stretch.{exactStretch, countedSteps, Busy, FinishesIn, DispatchFinishes, DispatchK7}
+use Rattle.rules.specs.Dispatch.{DispatchOut, Busy, workerAfter, turnFrom, endedBy, turnsOf, dispatchOf}
+use Rattle.rules.specs.Stretch.{exactStretch, countedSteps, FinishesIn, DispatchFinishes, DispatchK7}
 use Rattle.rules.proofs.Types.{Settings, Idle}
 use Rattle.rules.specs.declared.Checked.the-variants.{Fit}
 use Rattle.rules.specs.declared.Turn.the-variants.{Worker}
@@ -36,7 +36,7 @@ use Rattle.rules.proofs.stretch.Acts.{busy-step}
 use Rattle.rules.proofs.stretch.Owed.{mostOwed}
 use Rattle.rules.proofs.stretch.Past.{Reached, reached}
 use Rattle.rules.proofs.stretch.Theorem.{finishes-within, exact-k7}
-use Rattle.rules.proofs.dispatch.Turns.{Turned, turned, busy-found, turns-on, turns-end}
+use Rattle.rules.proofs.dispatch.Turns.{Turned, turned, busy-found, turns-on, turns-end, fit-turns}
 
 -- ---- steps none of which is final
 pub record Unfinished (ws : List ℕ) (m : ℕ) : Type 0 where
@@ -128,13 +128,11 @@ module _ (g : Settings) (good : Good g) (kind : g .kind ≡ 0) (limits : setting
 
   -- ---- from any words that a new queue comes to
   module _ {ws : List ℕ} (r : Reached g good kind limits ws) (i steps : ℕ) (li : i < g .workers) where
-    fit-turns : dispatchOf ws i steps ≡ turnsOf ws g i steps
-    unfolding dispatchOf checkedDispatch fitDispatch cond
-    fit-turns =
+    fit : checkedOf ws ≡ Fit g
+    fit =
         let k = r .related in
         let counts = queueKind g good kind .counts (r .state) (k .list) (k .whole .inv) in
-        let fit : checkedOf ws ≡ Fit g = checked-fit g limits (good .bounds .kind1) ws (r .state) (k .says) (k .whole .common) (counts .sub) in
-        rw (fit, lt-leb (g .workers) i li) refl
+        checked-fit g limits (good .bounds .kind1) ws (r .state) (k .says) (k .whole .common) (counts .sub)
 
     -- a stretch that is too long
     too-long : Unfinished ws (suc (exactStretch g)) → ⊥
@@ -142,7 +140,7 @@ module _ (g : Settings) (good : Good g) (kind : g .kind ≡ 0) (limits : setting
 
     reached-finishes : Busy g ws → exactStretch g < steps → getD ws stepsAt 0 + exactStretch g < stepLimit → FinishesIn g (dispatchOf ws i steps)
     reached-finishes busy many time =
-        rw fit-turns (by (turns-come (suc (exactStretch g)) steps many (r .related) i li busy (omega (arith, r .related .says .steps))))
+        rw (fit-turns ws g fit i steps li) (by (turns-come (suc (exactStretch g)) steps many (r .related) i li busy (omega (arith, r .related .says .steps))))
       where
         by : Comes ws i steps (suc (exactStretch g)) → FinishesIn g (turnsOf ws g i steps)
         by (inl f) = f

@@ -1,25 +1,23 @@
 -- The dispatcher's turns, as its code's proofs take them: the first busy worker found by looking at one after the other, and a turn by what its
 -- step answers.
-use mathlib.Core.Path.{_≡_, refl, _∙_, subst}
+use mathlib.Core.Path.{_≡_, refl, subst}
 use mathlib.Core.Logic.{_≢_, _⊎_, inl, inr}
-use mathlib.Core.List.{List, [], _∷_, _++_}
+use mathlib.Core.List.{List}
 use Prim.Native.Nat.{ℕ, zero, suc, _+_, _-_, _<_}
 use native.Mathlib.Nat.{mod-lt, mod-eq-of-lt, mod-self}
 use native.Mathlib.Decide.{decLe, decLt}
 use native.Mathlib.Omega.{arith}
 use lib.ListN.{getD}
 use lib.Dec.{eqb}
-use borrow.Author.Tests.{eq-eqb, ne-eqb, eqb-true, eqb-false}
+use borrow.Author.Tests.{lt-leb, eq-eqb, ne-eqb, eqb-true, eqb-false}
 use Rattle.laws.specs.Choice.{cond, cases}
-use Rattle.rules.specs.Answers.{Out, numberOf, fieldsOf}
+use Rattle.rules.specs.Answers.{Out, numberOf}
 use Rattle.rules.specs.Layout.{workerAt}
 use Rattle.rules.specs.Fit.{checkedOf}
 use Rattle.rules.specs.Step.{fitStep, checkedStep, stepOf}
-use Rattle.rules.specs.Dispatch.{dispatched, workerAfter, busyFrom, turnFrom, endedBy, afterStep, turnsOf}
+use Rattle.rules.specs.Dispatch.{dispatched, workerAfter, busyFrom, turnFrom, endedBy, afterStep, turnsOf, fitDispatch, checkedDispatch, dispatchOf}
 use Rattle.rules.specs.declared.Settings.{Settings}
 use Rattle.rules.specs.declared.Checked.the-variants.{Fit}
-use Rattle.rules.specs.declared.Answer.{Answer}
-use Rattle.rules.specs.declared.Answer.the-variants.{Moving, Put, Taken, Empty, Full, Refused}
 use Rattle.rules.specs.declared.Turn.{Turn}
 use Rattle.rules.specs.declared.Turn.the-variants.{NoneBusy as Nobody, Worker}
 use Rattle.rules.specs.declared.Dispatched.the-variants.{NoneBusy, RanOut}
@@ -33,6 +31,10 @@ module _ (ws : List ℕ) (g : Settings) where
   unfolding busyFrom cond
   busy-here i zero l n = absurd (omega arith)
   busy-here i (suc m) l n = rw (ne-eqb (phase i) 0 n) refl
+
+  -- the named worker's, where it is busy
+  pub named-first : (i : ℕ) → i < g .workers → phase i ≢ 0 → turnFrom ws g i ≡ Worker i
+  named-first i l n = busy-here i (g .workers) (omega arith) n
 
   pub busy-next : (i m : ℕ) → 0 < m → phase i ≡ 0 → busyFrom ws g i m ≡ busyFrom ws g (workerAfter g i) (m - 1)
   unfolding busyFrom cond
@@ -119,33 +121,27 @@ module _ (ws : List ℕ) (g : Settings) where
   turns-out i j zero z e = rw e refl
   turns-out i j (suc k) z e = absurd (omega arith)
 
-  pub turns-step : (i j k : ℕ) → 0 < k → turnFrom ws g i ≡ Worker j
-      → turnsOf ws g i k ≡ afterStep j (stepOf ws j) (turnsOf (stepOf ws j .words) g (workerAfter g j) (k - 1))
-  unfolding turnsOf
-  turns-step i j zero l e = absurd (omega arith)
-  turns-step i j (suc k) l e = let less : suc k - 1 ≡ k = omega arith in rw (less, e) refl
+  -- a step that answers 0: the turns go on from the words that it leaves
+  pub turns-on : (i j k : ℕ) → 0 < k → turnFrom ws g i ≡ Worker j → (o : Out) → stepOf ws j ≡ o → numberOf (o .answer) ≡ 0
+      → turnsOf ws g i k ≡ turnsOf (o .words) g (workerAfter g j) (k - 1)
+  unfolding turnsOf afterStep cond
+  turns-on i j zero l e o step z = absurd (omega arith)
+  turns-on i j (suc k) l e o step z =
+      let less : suc k - 1 ≡ k = omega arith in
+      rw (less, e, step, eq-eqb (numberOf (o .answer)) 0 z) refl
 
-  -- a step that moves, and one that ends the turns
-  module _ (i j k : ℕ) (l : 0 < k) (e : turnFrom ws g i ≡ Worker j) (o : Out) (step : stepOf ws j ≡ o) where
-    pub turns-on : numberOf (o .answer) ≡ 0 → turnsOf ws g i k ≡ turnsOf (o .words) g (workerAfter g j) (k - 1)
-    unfolding afterStep cond
-    turns-on z = turns-step i j k l e ∙ rw (step, eq-eqb (numberOf (o .answer)) 0 z) refl
-
-    pub turns-end : numberOf (o .answer) ≢ 0 → turnsOf ws g i k ≡ dispatched (endedBy j (o .answer)) (o .words)
-    unfolding afterStep cond
-    turns-end n = turns-step i j k l e ∙ rw (step, ne-eqb (numberOf (o .answer)) 0 n) refl
+  -- any other ends them, and names its worker
+  pub turns-end : (i j k : ℕ) → 0 < k → turnFrom ws g i ≡ Worker j → (o : Out) → stepOf ws j ≡ o → numberOf (o .answer) ≢ 0
+      → turnsOf ws g i k ≡ dispatched (endedBy j (o .answer)) (o .words)
+  unfolding turnsOf afterStep cond
+  turns-end i j zero l e o step n = absurd (omega arith)
+  turns-end i j (suc k) l e o step n = rw (e, step, ne-eqb (numberOf (o .answer)) 0 n) refl
 
   -- on a fit pool
   pub fit-step : checkedOf ws ≡ Fit g → (j : ℕ) → stepOf ws j ≡ fitStep ws g j
   unfolding stepOf checkedStep
   fit-step e j = rw e refl
 
--- ---- the six fields of a final answer are its five, and the worker
-pub six-fields : (a : Answer) (worker : ℕ) (five : List ℕ) → five ≡ fieldsOf a
-    → _≡_ {A = List ℕ} (getD five 0 0 ∷ getD five 1 0 ∷ getD five 2 0 ∷ getD five 3 0 ∷ getD five 4 0 ∷ worker ∷ []) (fieldsOf a ++ (worker ∷ []))
-six-fields Moving worker five e = rw e refl
-six-fields (Put value sub row stamp) worker five e = rw e refl
-six-fields (Taken value sub row stamp distance) worker five e = rw e refl
-six-fields Empty worker five e = rw e refl
-six-fields Full worker five e = rw e refl
-six-fields (Refused n) worker five e = rw e refl
+  pub fit-turns : checkedOf ws ≡ Fit g → (i steps : ℕ) → i < g .workers → dispatchOf ws i steps ≡ turnsOf ws g i steps
+  unfolding dispatchOf checkedDispatch fitDispatch cond
+  fit-turns e i steps l = rw (e, lt-leb (g .workers) i l) refl

@@ -20,7 +20,7 @@ use Rattle.rules.specs.declared.Turn.the-variants.{NoneBusy as Nobody, W
 use Rattle.rules.specs.declared.Dispatched.the-variants.{RanOut}
 use Rattle.rules.proofs.Fitness.{fit-pool}
 use Rattle.rules.proofs.Untouched.{unchanged, step-keeps}
-use Rattle.rules.proofs.words.Stays.{stays-fit}
+use Rattle.rules.proofs.words.Stays.{step-stays}
 use Rattle.rules.proofs.dispatch.Turns.{fit-step}
 
 both-keep : {n : ℕ} {us vs ws : List ℕ} → Beyond n us vs → Beyond n vs ws → Beyond n us ws
@@ -35,7 +35,7 @@ module _ (g : Settings) where
     one-step j = subst (λ (h : Settings). Beyond (needed h) ws (stepOf ws j .words)) (fit-pool ws g fit .settings) (step-keeps ws j)
 
     still-fit : (j : ℕ) → numberOf (stepOf ws j .answer) ≡ 0 → checkedOf (stepOf ws j .words) ≡ Fit g
-    still-fit j = rw (fit-step ws g fit j) (stays-fit ws g fit j)
+    still-fit j = rw (fit-step ws g fit j) (λ z. step-stays ws g fit j z .fit)
 
     step-kept : (j : ℕ) (rest : DispatchOut) → (checkedOf (stepOf ws j .words) ≡ Fit g → Kept (stepOf ws j .words) rest) → Kept ws (afterStep j (stepOf ws j) rest)
     unfolding afterStep

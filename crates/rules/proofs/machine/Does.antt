@@ -35,7 +35,7 @@ use Rattle.rules.proofs.order.Law.{Next}
 use Rattle.rules.proofs.machine.Machine.{State, subIn, viewIn, applyIn, applyInBy, stepIn, beginIn, nextIn, madeIn}
 use Rattle.rules.proofs.machine.Phases.{scanIn}
 use Rattle.rules.proofs.machine.Turns.{SlotFits, Common, Counts}
-use Rattle.rules.proofs.machine.Slots.{OfKind, phase-from, of-both, encode-fits}
+use Rattle.rules.proofs.machine.Slots.{OfKind, phase-from, of-both, encode-fits, Working, encode-busy}
 
 -- no item came or went
 pub record SameItems (v : View) (e : Effect) : Type 0 where
@@ -87,9 +87,20 @@ SharedAfter g v e Removed = Counted g v → Removes g v e
 SharedAfter g v e Empty = SameItems v e × SameWindow v e
 SharedAfter g v e Full = SameItems v e × SameWindow v e
 
+-- a worker that goes on is busy
+abbrev pub BusyAfter : Slot → Outcome → Type 0
+BusyAfter x (Refused n) = Unit {0}
+BusyAfter x Moving = x .number ≢ 0
+BusyAfter x Shifted = x .number ≢ 0
+BusyAfter x Landed = Unit {0}
+BusyAfter x Removed = Unit {0}
+BusyAfter x Empty = Unit {0}
+BusyAfter x Full = Unit {0}
+
 pub record Does (g : Settings) (v : View) (e : Effect) : Type 0 where
   pub slot : SlotFits g (e .slot)
   pub shared : SharedAfter g v e (e .outcome)
+  pub busy : BusyAfter (e .slot) (e .outcome)
 
 module _ (g : Settings) (b : Bounds g) (v : View) (fits : SlotFits g (v .slot)) where
   abbrev D : Effect → Type 0
@@ -100,64 +111,68 @@ module _ (g : Settings) (b : Bounds g) (v : View) (fits : SlotFits g (v .slot)) 
   still o x = (record { puts = refl; first = refl; second = refl }, record { top = refl; mark = refl })
 
   -- ---- the ways in which a rule ends
-  moved : (x : ℕ) (p : Phase) (o : Slot) → x < g .width → scanIn p (o .scan) < g .width → OfKind (g .kind) p → D (movedOf v x p o)
-  moved x p o l m t = record { slot = encode-fits g (v .slot .value) x p o l m t; shared = still _ _ }
+  moved : (x : ℕ) (p : Phase) (o : Slot) → x < g .width → scanIn p (o .scan) < g .width → OfKind (g .kind) p → Working p → D (movedOf v x p o)
+  moved x p o l m t w =
+      record { slot = encode-fits g (v .slot .value) x p o l m t; shared = still _ _; busy = encode-busy (v .slot .value) x p o w }
 
-  here : (p : Phase) (o : Slot) → scanIn p (o .scan) < g .width → OfKind (g .kind) p → D (movedOf v (v .slot .index) p o)
-  here p o m t = moved (v .slot .index) p o (fits .index) m t
+  here : (p : Phase) (o : Slot) → scanIn p (o .scan) < g .width → OfKind (g .kind) p → Working p → D (movedOf v (v .slot .index) p o)
+  here p o m t w = moved (v .slot .index) p o (fits .index) m t w
 
   on : nextOf g (v .slot .index) < g .width
   on = next-lt g (v .slot .index) (b .width1)
 
   again : (x : ℕ) → x < g .width → (side : Side) (o : Slot) → o .scan < g .width → D (movedOf v x (Window side) o)
-  again x l side o m = moved x (Window side) o l m ((λ k. tt), (λ n. tt))
+  again x l side o m = moved x (Window side) o l m ((λ k. tt), (λ n. tt)) tt
 
   rested : (x : ℕ) → x < g .width → SlotFits g (fresh 0 x Idle)
   rested x l = encode-fits g 0 x Idle _ l (b .width1) ((λ k. tt), (λ n. tt))
 
   finished : (side : Side) (x : ℕ) → x < g .width → D (finishedOf v (nothingFor side) x)
-  finished Putting x l = record { slot = rested x l; shared = still _ _ }
-  finished Taking x l = record { slot = rested x l; shared = still _ _ }
+  finished Putting x l = record { slot = rested x l; shared = still _ _; busy = tt }
+  finished Taking x l = record { slot = rested x l; shared = still _ _; busy = tt }
 
-  miss : (scan : ℕ) (next after : Phase) (kept : Slot) → OfKind (g .kind) next → OfKind (g .kind) after
+  miss : (scan : ℕ) (next after : Phase) (kept : Slot) → OfKind (g .kind) next → OfKind (g .kind) after → Working next → Working after
       → (add32 scan 1 < g .width → scanIn next (kept .scan) < g .width) → scanIn after (kept .scan) < g .width → D (missOf g v scan next after kept)
   unfolding missOf
-  miss scan next after kept s t l m =
-      cases D (ltb (add32 scan 1) (g .width)) _ _ (λ e. moved _ next kept on (l (ltb-true _ _ e)) s) (λ e. moved _ after kept on m t)
+  miss scan next after kept s t w u l m =
+      cases D (ltb (add32 scan 1) (g .width)) _ _ (λ e. moved _ next kept on (l (ltb-true _ _ e)) s w) (λ e. moved _ after kept on m t u)
 
   take-miss : (window bare scan sum : ℕ) → (g .kind ≢ 0 → ⊥) → D (queueTakeMiss g v window bare scan sum)
   take-miss window bare scan sum q =
-      miss scan _ _ _ ((λ k. tt), (λ n. absurd (q n))) (cases (OfKind (g .kind)) (eqb bare 0) _ _ (λ e. ((λ k. tt), (λ n. absurd (q n)))) (λ e. ((λ k. tt), (λ n. absurd (q n))))) (λ l. l)
+      miss scan _ _ _ ((λ k. tt), (λ n. absurd (q n))) (cases (OfKind (g .kind)) (eqb bare 0) _ _ (λ e. ((λ k. tt), (λ n. absurd (q n)))) (λ e. ((λ k. tt), (λ n. absurd (q n)))))
+      tt (cases Working (eqb bare 0) _ _ (λ e. tt) (λ e. tt)) (λ l. l)
       (cases (λ (p : Phase). scanIn p 0 < g .width) (eqb bare 0) _ _ (λ e. b .width1) (λ e. b .width1))
 
   looks : (side : Side) → D (windowRule g v side)
   unfolding windowRule
   looks side =
       cases (λ (p : Phase). D (movedOf v (v .slot .index) p zeroSlot)) (eqb (g .kind) 0) _ _
-      (λ e. queue side (λ n. n (eqb-true _ _ e))) (λ e. here _ _ (b .width1) ((λ k. absurd (eqb-false _ _ e k)), (λ n. tt)))
+      (λ e. queue side (λ n. n (eqb-true _ _ e))) (λ e. here _ _ (b .width1) ((λ k. absurd (eqb-false _ _ e k)), (λ n. tt)) tt)
     where
       queue : (side : Side) → (g .kind ≢ 0 → ⊥) → D (movedOf v (v .slot .index) (queueSeen v side) zeroSlot)
-      queue Putting q = here _ _ (b .width1) ((λ k. tt), (λ n. absurd (q n)))
-      queue Taking q = here _ _ (b .width1) ((λ k. tt), (λ n. absurd (q n)))
+      queue Putting q = here _ _ (b .width1) ((λ k. tt), (λ n. absurd (q n))) tt
+      queue Taking q = here _ _ (b .width1) ((λ k. tt), (λ n. absurd (q n))) tt
 
   shift-by : (side : Side) (same able : Bool) (top mark : ℕ) (stuck : Effect) → D stuck → D (shiftBy v side same able (shiftedOf v side top mark) stuck)
   unfolding shiftBy
   shift-by side same able top mark stuck d =
       cases D same _ _
-      (λ e. cases D able _ _ (λ e. record { slot = again _ (fits .index) side _ (fits .scan) .slot; shared = record { puts = refl; first = refl; second = refl } }) (λ e. d))
+      (λ e. cases D able _ _ (λ e.
+      let x = again _ (fits .index) side _ (fits .scan) in
+      record { slot = x .slot; shared = record { puts = refl; first = refl; second = refl }; busy = x .busy }) (λ e. d))
       (λ e. again _ (fits .index) side _ (fits .scan))
 
   -- ---- commits
-  commit-by : (side : Side) (matches able : Bool) (done : Effect) → SlotFits g (done .slot) → (able ≡ true → SharedAfter g v done (done .outcome))
+  commit-by : (side : Side) (matches able : Bool) (done : Effect) → SlotFits g (done .slot) → BusyAfter (done .slot) (done .outcome) → (able ≡ true → SharedAfter g v done (done .outcome))
       → D (commitBy g v side matches able done)
   unfolding commitBy
-  commit-by side matches able done l d =
-      cases D matches _ _ (λ e. cases D able _ _ (λ e. record { slot = l; shared = d e }) (λ e. record { slot = fits; shared = inl refl }))
+  commit-by side matches able done l w d =
+      cases D matches _ _ (λ e. cases D able _ _ (λ e. record { slot = l; shared = d e; busy = w }) (λ e. record { slot = fits; shared = inl refl; busy = tt }))
       (λ e. again _ on side _ (fits .scan))
 
   queue-does : g .kind ≡ 0 → (side : Side) (seen : ℕ) → D (queueCommit g v side seen)
   unfolding queueCommit
-  queue-does k Putting seen = commit-by Putting _ _ _ (rested _ (fits .index)) (λ e c.
+  queue-does k Putting seen = commit-by Putting _ _ _ (rested _ (fits .index)) tt (λ e c.
       let free : sub32 (v .first) (v .second) < g .rows = ltb-true _ _ e in
       record {
         window = record { top = refl; mark = refl };
@@ -166,7 +181,7 @@ module _ (g : Settings) (b : Bounds g) (v : View) (fits : SlotFits g (v .slot)) 
         row = add32-suc (v .first) (omega (arith, c .first-few));
         free = rw (queue-below g k (v .second)) (omega (arith, c .sub .queue-order k, sub32-is (v .first) (v .second) (c .sub .queue-order k) (omega (arith, c .first-few))));
       })
-  queue-does k Taking seen = commit-by Taking _ _ _ (rested _ (fits .index)) (λ e c.
+  queue-does k Taking seen = commit-by Taking _ _ _ (rested _ (fits .index)) tt (λ e c.
       let more : add32 (v .second) 1 ≡ suc (v .second) = add32-suc (v .second) (omega (arith, c .second-few)) in
       let some : v .second < v .first = ltb-true _ _ e in
       record {
@@ -179,7 +194,7 @@ module _ (g : Settings) (b : Bounds g) (v : View) (fits : SlotFits g (v .slot)) 
 
   stack-does : g .kind ≡ 1 → (side : Side) (seen : Version) → D (stackCommit g v side seen)
   unfolding stackCommit
-  stack-does k Putting seen = commit-by Putting _ _ _ (rested _ (fits .index)) (λ e c.
+  stack-does k Putting seen = commit-by Putting _ _ _ (rested _ (fits .index)) tt (λ e c.
       let free : v .first < g .rows = ltb-true _ _ e in
       record {
         window = record { top = refl; mark = refl };
@@ -188,7 +203,7 @@ module _ (g : Settings) (b : Bounds g) (v : View) (fits : SlotFits g (v .slot)) 
         row = add32-suc (v .first) (omega (arith, c .first-few));
         free = rw (stack-below g k (v .second)) (omega arith);
       })
-  stack-does k Taking seen = commit-by Taking _ _ _ (rested _ (fits .index)) (λ e c.
+  stack-does k Taking seen = commit-by Taking _ _ _ (rested _ (fits .index)) tt (λ e c.
       let some : 0 < v .first = ltb-true _ _ e in
       let less : sub32 (v .first) 1 ≡ v .first - 1 = sub32-is (v .first) 1 some (omega (arith, c .first-few)) in
       record {
@@ -213,26 +228,27 @@ module _ (g : Settings) (b : Bounds g) (v : View) (fits : SlotFits g (v .slot)) 
 
   rule-by-does : (p : Phase) → OfKind (g .kind) p → scanIn p (v .slot .scan) ≡ v .slot .scan → D (ruleBy g v p)
   unfolding ruleBy queuePutRead queueTakeRead stackRead checkRule queueShift stackShift confirmRule confirmedOf
-  rule-by-does Idle t s = record { slot = fits; shared = inr refl }
+  rule-by-does Idle t s = record { slot = fits; shared = inr refl; busy = tt }
   rule-by-does (Window side) t s = looks side
   rule-by-does (QueuePutRead window scan) t s =
-      cases D _ _ _ (λ e. here _ _ (fits .scan) ((λ k. tt), (λ n. absurd (t .1 n)))) (λ e. miss scan _ _ _ t ((λ k. tt), (λ n. absurd (t .1 n))) (λ l. l) (b .width1))
+      cases D _ _ _ (λ e. here _ _ (fits .scan) ((λ k. tt), (λ n. absurd (t .1 n))) tt)
+      (λ e. miss scan _ _ _ t ((λ k. tt), (λ n. absurd (t .1 n))) tt tt (λ l. l) (b .width1))
   rule-by-does (QueueTakeRead window bare scan sum) t s =
       cases D _ _ _ (λ e. take-miss window bare scan _ (t .1))
-      (λ e. cases D _ _ _ (λ e. take-miss window _ scan _ (t .1)) (λ e. here _ _ (rw s (fits .scan)) ((λ k. tt), (λ n. absurd (t .1 n)))))
+      (λ e. cases D _ _ _ (λ e. take-miss window _ scan _ (t .1)) (λ e. here _ _ (rw s (fits .scan)) ((λ k. tt), (λ n. absurd (t .1 n))) tt))
   rule-by-does (StackRead side window version scan sum) t s =
-      cases D _ _ _ (λ e. here _ _ (rw s (fits .scan)) ((λ k. absurd (t .0 k)), (λ n. tt)))
-      (λ e. miss scan _ _ _ ((λ k. absurd (t .0 k)), (λ n. tt)) ((λ k. absurd (t .0 k)), (λ n. tt)) (λ l. l) (b .width1))
+      cases D _ _ _ (λ e. here _ _ (rw s (fits .scan)) ((λ k. absurd (t .0 k)), (λ n. tt)) tt)
+      (λ e. miss scan _ _ _ ((λ k. absurd (t .0 k)), (λ n. tt)) ((λ k. absurd (t .0 k)), (λ n. tt)) tt tt (λ l. l) (b .width1))
   rule-by-does (Check side version seen) t s =
-      cases D _ _ _ (λ e. here _ _ (fits .scan) ((λ k. absurd (t .0 k)), (λ n. tt))) (λ e. again _ (fits .index) side _ (fits .scan))
+      cases D _ _ _ (λ e. here _ _ (fits .scan) ((λ k. absurd (t .0 k)), (λ n. tt)) tt) (λ e. again _ (fits .index) side _ (fits .scan))
   rule-by-does (QueueCommit side seen) t s = queue-does (queue-kind (t .1)) side seen
   rule-by-does (StackCommit side seen) t s = stack-does (stack-kind (t .0)) side seen
   rule-by-does (QueueShift Putting window) t s = shift-by Putting _ _ _ _ _ (finished Putting _ (fits .index))
   rule-by-does (QueueShift Taking window) t s = shift-by Taking _ _ _ _ _ (finished Taking _ (fits .index))
-  rule-by-does (StackShift Putting version scan sum) t s = shift-by Putting _ _ _ _ _ (here _ _ (rw s (fits .scan)) ((λ k. absurd (t .0 k)), (λ n. tt)))
-  rule-by-does (StackShift Taking version scan sum) t s = shift-by Taking _ _ _ _ _ (here _ _ (rw s (fits .scan)) ((λ k. absurd (t .0 k)), (λ n. tt)))
+  rule-by-does (StackShift Putting version scan sum) t s = shift-by Putting _ _ _ _ _ (here _ _ (rw s (fits .scan)) ((λ k. absurd (t .0 k)), (λ n. tt)) tt)
+  rule-by-does (StackShift Taking version scan sum) t s = shift-by Taking _ _ _ _ _ (here _ _ (rw s (fits .scan)) ((λ k. absurd (t .0 k)), (λ n. tt)) tt)
   rule-by-does (Confirm side scan sum) t s =
-      cases D _ _ _ (λ e. moved _ (Confirm side (add32 scan 1) _) _ on (ltb-true _ _ e) (confirms side scan sum t))
+      cases D _ _ _ (λ e. moved _ (Confirm side (add32 scan 1) _) _ on (ltb-true _ _ e) (confirms side scan sum t) tt)
       (λ e. cases D _ _ _ (λ e. finished side _ on) (λ e. again _ on side _ (b .width1)))
 
   rule-does : D (ruleOf g v)

@@ -127,3 +127,31 @@ module _ (g : Settings) where
     scan = subst (λ (i : ℕ). i < g .width) (sym (encode-scan (worker v x p) o)) ls;
     number = number-fits p v x o t;
   }
+
+-- ---- a slot that is written with a phase other than idle is busy
+abbrev pub Working : Phase → Type 0
+Working Idle = ⊥
+Working (Window side) = Unit {0}
+Working (QueuePutRead window scan) = Unit {0}
+Working (QueueTakeRead window bare scan sum) = Unit {0}
+Working (StackRead side window version scan sum) = Unit {0}
+Working (Check side version seen) = Unit {0}
+Working (QueueCommit side seen) = Unit {0}
+Working (StackCommit side seen) = Unit {0}
+Working (QueueShift side window) = Unit {0}
+Working (StackShift side version scan sum) = Unit {0}
+Working (Confirm side scan sum) = Unit {0}
+
+pub encode-busy : (v x : ℕ) (p : Phase) (o : Slot) → Working p → encode (worker v x p) o .number ≢ 0
+unfolding encode encodePhase
+encode-busy v x Idle o w e = w
+encode-busy v x (Window side) o w e = omega arith
+encode-busy v x (QueuePutRead window scan) o w e = omega arith
+encode-busy v x (QueueTakeRead window bare scan sum) o w e = omega arith
+encode-busy v x (StackRead side window version scan sum) o w e = omega arith
+encode-busy v x (Check side version seen) o w e = omega arith
+encode-busy v x (QueueCommit side seen) o w e = omega arith
+encode-busy v x (StackCommit side seen) o w e = omega arith
+encode-busy v x (QueueShift side window) o w e = omega arith
+encode-busy v x (StackShift side version scan sum) o w e = omega arith
+encode-busy v x (Confirm side scan sum) o w e = omega arith

@@ -1,7 +1,8 @@
 -- A step that answers 0 leaves a fit pool fit, whatever its words hold: it changes the step count, the window's words and its worker's, and it
 -- leaves the worker with an index and a scan below the width and in a phase of its kind. (A put that lands may leave a sub unfit, where its
--- count wraps; but that is a final answer.) So a dispatcher checks its pool once.
-use mathlib.Core.Path.{_≡_, refl, sym}
+-- count wraps; but that is a final answer.) So a dispatcher checks its pool once. And the worker is still busy.
+use mathlib.Core.Path.{_≡_, refl, sym, ap, _∙_}
+use mathlib.Core.Logic.{_≢_, inl, inr}
 use mathlib.Core.Bool.{true}
 use mathlib.Core.List.{List}
 use Prim.Native.Nat.{ℕ, _+_, _<_}
@@ -20,18 +21,33 @@ use Rattle.rules.specs.Fit.{phaseFit, checkedOf, SubFits, FitPool}
 use Rattle.rules.specs.Begin.{stepsSpent}
 use Rattle.rules.specs.Apply.{takenOf, applyBy, applyOf}
 use Rattle.rules.specs.Step.{ruleOf, slotStep, fitStep}
-use Rattle.rules.proofs.Types.{Settings, Slot, Effect, Outcome}
-use Rattle.rules.specs.declared.Outcome.the-variants.{Refused, Moving, Shifted, Landed, Removed, Empty, Full}
+use Rattle.rules.proofs.Types.{Settings, Slot, Effect, Outcome, Answer}
+use Rattle.rules.specs.declared.Outcome.the-variants.{Refused as Stopped, Moving as Moves, Shifted, Landed, Removed, Empty as NoItem, Full as NoRoom}
+use Rattle.rules.specs.declared.Answer.the-variants.{Moving, Put, Taken, Empty, Full, Refused}
 use Rattle.rules.specs.declared.Checked.the-variants.{Fit}
 use Rattle.rules.proofs.Fitness.{fit-pool, fit-head, fit-number}
-use Rattle.rules.proofs.counts.Sums.{upd-all, upd-self}
+use Rattle.rules.proofs.counts.Sums.{upd-same, upd-all, upd-self}
 use Rattle.rules.proofs.machine.Machine.{State, subIn, viewIn, afterIn}
 use Rattle.rules.proofs.machine.Turns.{SlotFits, Common}
-use Rattle.rules.proofs.machine.Does.{SameItems, Does, SharedAfter, rule-in}
+use Rattle.rules.proofs.machine.Does.{SameItems, Does, SharedAfter, BusyAfter, rule-in}
 use Rattle.rules.proofs.machine.Slots.{of-both}
 use Rattle.rules.proofs.words.Says.{Says}
 use Rattle.rules.proofs.words.Fit.{checked-fit}
-use Rattle.rules.proofs.words.Stores.{index-same, view-same, stores-worker, stores-shifted}
+use Rattle.rules.proofs.words.Stores.{index-same, number-same, view-same, stores-worker, stores-shifted}
+
+-- a refusal's number is none of an answer's
+abbrev pub Numbered : Answer → Type 0
+Numbered Moving = Unit {0}
+Numbered (Put value sub row stamp) = Unit {0}
+Numbered (Taken value sub row stamp distance) = Unit {0}
+Numbered Empty = Unit {0}
+Numbered Full = Unit {0}
+Numbered (Refused n) = 4 < n
+
+-- what a step of worker i that answers 0 leaves
+pub record Stays (g : Settings) (vs : List ℕ) (i : ℕ) : Type 0 where
+  pub fit : checkedOf vs ≡ Fit g
+  pub busy : getD vs (workerAt g i) 0 ≢ 0
 
 module _ (ws : List ℕ) (g : Settings) (fit : checkedOf ws ≡ Fit g) where
   pool : FitPool g ws
@@ -109,33 +125,64 @@ module _ (ws : List ℕ) (g : Settings) (fit : checkedOf ws ≡ Fit g) where
     after-subs same j l =
         rw (same .first, same .second, upd-self (firstOf ws) (subIn state i), upd-self (secondOf ws) (subIn state i)) (pool .sub j l)
 
-    fits : (vs : List ℕ) → SameItems (viewIn state i) e → Says g vs (afterIn state i e) → checkedOf vs ≡ Fit g
-    fits vs same said = checked-fit g (fit-head ws g fit .0) (bounds .kind1) vs (afterIn state i e) said after-common (after-subs same)
+    stays : (vs : List ℕ) → SameItems (viewIn state i) e → e .slot .number ≢ 0 → Says g vs (afterIn state i e) → Stays g vs i
+    stays vs same busy said =
+        record {
+          fit = checked-fit g (fit-head ws g fit .0) (bounds .kind1) vs (afterIn state i e) said after-common (after-subs same);
+          busy = λ z. busy (ap (λ (x : Slot). x .number) (sym (upd-same slots i (e .slot))) ∙ sym (number-same g vs (afterIn state i e) said i li) ∙ z);
+        }
 
-    by-outcome : (o : Outcome) → SharedAfter g (viewIn state i) e o → numberOf (applyBy ws g (workerAt g i) (subIn state i) e o .answer) ≡ 0
-        → checkedOf (applyBy ws g (workerAt g i) (subIn state i) e o .words) ≡ Fit g
+    by-outcome : (o : Outcome) → SharedAfter g (viewIn state i) e o → BusyAfter (e .slot) o
+        → numberOf (applyBy ws g (workerAt g i) (subIn state i) e o .answer) ≡ 0 → Stays g (applyBy ws g (workerAt g i) (subIn state i) e o .words) i
     unfolding applyBy takenOf
-    by-outcome (Refused n) shared z = fit
-    by-outcome Moving shared z = fits _ (shared .0) (stores-worker g ws state says i li lj few e shared)
-    by-outcome Shifted shared z = fits _ shared (stores-shifted g ws state says i li lj few e shared)
-    by-outcome Landed shared z = absurd (omega arith)
-    by-outcome Removed shared z = absurd (omega arith)
-    by-outcome Empty shared z = absurd (omega arith)
-    by-outcome Full shared z = absurd (omega arith)
+    by-outcome (Stopped n) (inl u) busy z = absurd (omega arith)
+    by-outcome (Stopped n) (inr u) busy z = absurd (omega arith)
+    by-outcome Moves shared busy z = stays _ (shared .0) busy (stores-worker g ws state says i li lj few e shared)
+    by-outcome Shifted shared busy z = stays _ shared busy (stores-shifted g ws state says i li lj few e shared)
+    by-outcome Landed shared busy z = absurd (omega arith)
+    by-outcome Removed shared busy z = absurd (omega arith)
+    by-outcome NoItem shared busy z = absurd (omega arith)
+    by-outcome NoRoom shared busy z = absurd (omega arith)
+
+    numbered-by : (o : Outcome) → SharedAfter g (viewIn state i) e o → Numbered (applyBy ws g (workerAt g i) (subIn state i) e o .answer)
+    unfolding applyBy takenOf
+    numbered-by (Stopped n) (inl u) = omega arith
+    numbered-by (Stopped n) (inr u) = omega arith
+    numbered-by Moves shared = tt
+    numbered-by Shifted shared = tt
+    numbered-by Landed shared = tt
+    numbered-by Removed shared = tt
+    numbered-by NoItem shared = tt
+    numbered-by NoRoom shared = tt
+
+    rule-numbered : Numbered (applyOf ws g (workerAt g i) (getD ws (workerAt g i + 2) 0) (ruleOf g (viewOf ws (workerAt g i))) .answer)
+    unfolding applyOf
+    rule-numbered =
+        rw (view-same g ws state says i li lj, index-same g ws state says i li) (numbered-by (e .outcome) (does .shared))
 
     rule-stays : numberOf (applyOf ws g (workerAt g i) (getD ws (workerAt g i + 2) 0) (ruleOf g (viewOf ws (workerAt g i))) .answer) ≡ 0
-        → checkedOf (applyOf ws g (workerAt g i) (getD ws (workerAt g i + 2) 0) (ruleOf g (viewOf ws (workerAt g i))) .words) ≡ Fit g
+        → Stays g (applyOf ws g (workerAt g i) (getD ws (workerAt g i + 2) 0) (ruleOf g (viewOf ws (workerAt g i))) .words) i
     unfolding applyOf
     rule-stays =
         rw (view-same g ws state says i li lj, index-same g ws state says i li)
-        (by-outcome (e .outcome) (does .shared))
+        (by-outcome (e .outcome) (does .shared) (does .busy))
 
-  pub stays-fit : (i : ℕ) → numberOf (fitStep ws g i .answer) ≡ 0 → checkedOf (fitStep ws g i .words) ≡ Fit g
+  pub step-stays : (i : ℕ) → numberOf (fitStep ws g i .answer) ≡ 0 → Stays g (fitStep ws g i .words) i
   unfolding fitStep slotStep
-  stays-fit i =
-      cases Stays (leb (g .workers) i) _ _ (λ a z. fit)
-      (λ a. cases Stays (eqb (getD ws (workerAt g i) 0) 0) _ _ (λ b z. fit)
-      (λ b. cases Stays (stepsSpent ws) _ _ (λ c z. fit) (λ c. rule-stays i (leb-false _ _ a) (leb-false _ _ c))))
+  step-stays i =
+      cases After (leb (g .workers) i) _ _ (λ a z. absurd (omega arith))
+      (λ a. cases After (eqb (getD ws (workerAt g i) 0) 0) _ _ (λ b z. absurd (omega arith))
+      (λ b. cases After (stepsSpent ws) _ _ (λ c z. absurd (omega arith)) (λ c. rule-stays i (leb-false _ _ a) (leb-false _ _ c))))
     where
-      Stays : Out → Type 0
-      Stays o = numberOf (o .answer) ≡ 0 → checkedOf (o .words) ≡ Fit g
+      After : Out → Type 0
+      After o = numberOf (o .answer) ≡ 0 → Stays g (o .words) i
+
+  pub step-numbered : (i : ℕ) → Numbered (fitStep ws g i .answer)
+  unfolding fitStep slotStep
+  step-numbered i =
+      cases Of (leb (g .workers) i) _ _ (λ a. omega arith)
+      (λ a. cases Of (eqb (getD ws (workerAt g i) 0) 0) _ _ (λ b. omega arith)
+      (λ b. cases Of (stepsSpent ws) _ _ (λ c. omega arith) (λ c. rule-numbered i (leb-false _ _ a) (leb-false _ _ c))))
+    where
+      Of : Out → Type 0
+      Of o = Numbered (o .answer)

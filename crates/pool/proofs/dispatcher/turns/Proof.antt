@@ -6,22 +6,21 @@ use native.Mathlib.Nat.{mod-lt}
 use native.Mathlib.Omega.{arith}
 use borrow.Author.Needs.{needs}
 use lib.ListN.{length}
-use Rattle.rules.specs.Answers.{Out, numberOf, out}
 use Rattle.rules.specs.Fit.{checkedOf}
 use Rattle.rules.specs.Dispatch.{dispatched, turnsOf}
 use Rattle.rules.specs.declared.Checked.the-variants.{Fit}
 use Rattle.rules.proofs.Fitness.{fit-pool}
-use Rattle.rules.proofs.dispatch.Turns.{turned, turns-none, turns-out, turns-on, turns-end, fit-step}
-use Rattle.rules.proofs.words.Stays.{stays-fit}
+use Rattle.rules.proofs.dispatch.Turns.{turned, turns-none, turns-out}
+use Rattle.rules.proofs.dispatch.Loop.{stays-fit, turns-left, turns-over}
 use Rattle.pool.proofs.dispatcher.turns.Statement.{statement}
 use Rattle.pool.proofs.dispatcher.turns.Tie as tie
 
 abbrev Inv-loop : tie.InvT-loop
-Inv-loop words₀ g first steps i₀ left₀ words i left =
+Inv-loop words₀ g first steps i₀ left₀ five₀ words i left five =
     (length words ≡ length words₀) × (i < g .workers) × (checkedOf words ≡ Fit g) × (turnsOf words g i left ≡ turnsOf words₀ g first steps)
 
 abbrev μ-loop : tie.MeasureT-loop
-μ-loop words₀ g first steps i₀ left₀ words i left = left
+μ-loop words₀ g first steps i₀ left₀ five₀ words i left five = left
 
 loop-holds : tie.Need-loop-holds Inv-loop μ-loop
 loop-holds c = (refl, c .before .pre .1, c .before .pre .0, refl)
@@ -44,11 +43,11 @@ returns c =
     let none = sym (c .before .before .turn-from .ensures) ∙ c .enum-told .given .1 in
     sym (turns-none (l .words) _ (l .i) (l .left) none) ∙ l .inv .3
 
-fit-step-requires : tie.Need-fit-step-requires Inv-loop μ-loop
-fit-step-requires c κs = fit-pool _ _ (c .before .before .before .before .before .before .before .loop .inv .2)
-
-number-requires : tie.Need-number-requires Inv-loop μ-loop
-number-requires c κs = search needs
+fit-answer-requires : tie.Need-fit-answer-requires Inv-loop μ-loop
+fit-answer-requires c κs =
+    let l = c .before .before .before .before .before .before .before .before .loop in
+    let pool = fit-pool (l .words) (c .before .before .before .before .before .before .before .before .before .before .args .g) (l .inv .2) in
+    rw (pool .settings) pool
 
 ended-requires : tie.Need-ended-requires Inv-loop μ-loop
 ended-requires c κs = search needs
@@ -61,12 +60,10 @@ returns-2 c =
     let l = c .before .before .before .before .before .before .before .before .before .before .before .before .before .loop in
     let g = c .before .before .before .before .before .before .before .before .before .before .before .before .before .before .before .args .g in
     let j = c .before .before .before .before .before .before .before .before .t .given .0 .0 in
-    let step = c .before .before .before .before .before .fit-step in
+    let step = c .before .before .before .before .fit-answer in
     let turn = sym (c .before .before .before .before .before .before .before .before .before .before .turn-from .ensures) ∙ c .before .before .before .before .before .before .before .before .t .given .1 in
-    let e = fit-step (l .words) g (l .inv .2) j ∙ sym (step .ensures) in
     ap (λ r. dispatched r (step .last .0)) (c .ended .ensures)
-    ∙ sym (turns-end (l .words) g (l .i) j (l .left) (c .before .before .before .before .before .before .before .before .before .before .before .before .loop-test .taken) turn (out (step .result) (step .last .0)) e
-    (λ z. c .before .if1 .taken (c .before .before .number .ensures ∙ z)))
+    ∙ turns-over (l .words) g (l .inv .2) (l .i) j (l .left) (c .before .before .before .before .before .before .before .before .before .before .before .before .loop-test .taken) turn (step .ensures .0) (step .ensures .1 .0) (c .before .if1 .taken) (step .ensures .1 .1)
     ∙ l .inv .3
 
 add-i : tie.Need-add-i Inv-loop μ-loop
@@ -90,14 +87,13 @@ loop-again c =
     let l = c .before .before .before .before .before .before .before .before .before .before .before .before .before .loop in
     let g = c .before .before .before .before .before .before .before .before .before .before .before .before .before .before .before .args .g in
     let j = c .before .before .before .before .before .before .before .before .t .given .0 .0 in
-    let step = c .before .before .before .before .before .fit-step in
+    let step = c .before .before .before .before .fit-answer in
     let turn = sym (c .before .before .before .before .before .before .before .before .before .before .turn-from .ensures) ∙ c .before .before .before .before .before .before .before .before .t .given .1 in
-    let e = fit-step (l .words) g (l .inv .2) j ∙ sym (step .ensures) in
-    let zero = sym (c .before .before .number .ensures) ∙ c .before .if1 .left in (
+    let zero = c .before .if1 .left in (
       step .kept .0 ∙ l .inv .0,
       mod-lt _ (omega (arith, l .inv .1)),
-      ap (λ (o : Out). checkedOf (o .words)) (step .ensures) ∙ stays-fit (l .words) g (l .inv .2) j (sym (ap (λ (o : Out). numberOf (o .answer)) (step .ensures)) ∙ zero),
-      sym (turns-on (l .words) g (l .i) j (l .left) (c .before .before .before .before .before .before .before .before .before .before .before .before .loop-test .taken) turn (out (step .result) (step .last .0)) e zero) ∙ l .inv .3,
+      stays-fit (l .words) g (l .inv .2) (l .i) j (l .left) (c .before .before .before .before .before .before .before .before .before .before .before .before .loop-test .taken) turn (step .ensures .0) (step .ensures .1 .0) zero,
+      turns-left (l .words) g (l .inv .2) (l .i) j (l .left) (c .before .before .before .before .before .before .before .before .before .before .before .before .loop-test .taken) turn (step .ensures .0) (step .ensures .1 .0) zero ∙ l .inv .3,
     )
 
 turn-from-requires-2 : tie.Need-turn-from-requires-2 Inv-loop μ-loop
@@ -139,8 +135,7 @@ turns-spec =
     enum-told
     same-length
     returns
-    fit-step-requires
-    number-requires
+    fit-answer-requires
     ended-requires
     same-length-2
     returns-2

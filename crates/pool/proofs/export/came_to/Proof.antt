@@ -2,30 +2,33 @@
 use mathlib.Core.Path.{ap, sym, _∙_}
 use borrow.Author.Needs.{needs}
 use Rattle.rules.specs.Dispatch.{resultFields, resultNumber}
-use Rattle.rules.proofs.dispatch.Turns.{six-fields}
+use Rattle.rules.proofs.dispatch.Loop.{six-fields}
 use Rattle.pool.proofs.export.came_to.Statement.{statement}
 use Rattle.pool.proofs.export.came_to.Tie as tie
 
 enum-known-r : tie.Need-enum-known-r
 enum-known-r c = search needs
 
-answered-requires : tie.Need-answered-requires
-answered-requires c κs = search needs
+fields-requires : tie.Need-fields-requires
+fields-requires c κs = search needs
 
-array-read-t13 : tie.Need-array-read-t13
-array-read-t13 c = search needs
+array-read-t12 : tie.Need-array-read-t12
+array-read-t12 c = search needs
 
-array-read-t16 : tie.Need-array-read-t16
-array-read-t16 c = search needs
+array-read-t15 : tie.Need-array-read-t15
+array-read-t15 c = search needs
 
-array-read-t19 : tie.Need-array-read-t19
-array-read-t19 c = search needs
+array-read-t18 : tie.Need-array-read-t18
+array-read-t18 c = search needs
 
-array-read-t22 : tie.Need-array-read-t22
-array-read-t22 c = search needs
+array-read-t21 : tie.Need-array-read-t21
+array-read-t21 c = search needs
 
-array-read-t25 : tie.Need-array-read-t25
-array-read-t25 c = search needs
+array-read-t24 : tie.Need-array-read-t24
+array-read-t24 c = search needs
+
+number-requires : tie.Need-number-requires
+number-requires c κs = search needs
 
 enum-told : tie.Need-enum-told
 enum-told c = search needs
@@ -38,10 +41,10 @@ enum-known-r-3 c = search needs
 
 returns : tie.Need-returns
 returns c =
-    let five = c .before .answered in
-    let named = c .before .before .before .before .r .given .0 in
-    let is = sym (c .before .before .before .before .r .given .1) in
-    (five .ensures .0 ∙ ap resultNumber is, six-fields (named .1 .0) (named .0) (five .last .1 .0) (five .ensures .1) ∙ ap resultFields is)
+    let five = c .before .before .fields in
+    let named = c .before .before .before .before .r .given in
+    let is = sym (named .1) in
+    (c .number .ensures ∙ ap resultNumber is, six-fields (named .0 .1 .0) (named .0 .0) (five .result) (five .ensures) ∙ ap resultFields is)
 
 returns-2 : tie.Need-returns-2
 returns-2 c = search needs
@@ -57,12 +60,13 @@ came-to-spec =
     tie.close
     (tie.spec
     enum-known-r
-    answered-requires
-    array-read-t13
-    array-read-t16
-    array-read-t19
-    array-read-t22
-    array-read-t25
+    fields-requires
+    array-read-t12
+    array-read-t15
+    array-read-t18
+    array-read-t21
+    array-read-t24
+    number-requires
     enum-told
     enum-known-r-2
     enum-known-r-3

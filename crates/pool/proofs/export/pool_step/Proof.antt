@@ -1,12 +1,18 @@
--- `pool::export::pool_step` meets its contract: the calls' promises put together are the definition.
-use mathlib.Core.Path.{ap, _∙_}
+-- `pool::export::pool_step` meets its contract: at each return the test that led there picks the same branch of `stepOf`, and each call stands for what
+-- it ensures.
+use mathlib.Core.Path.{ap, sym, _∙_}
+use Prim.Native.Nat.{ℕ}
 use borrow.Author.Needs.{needs}
-use Rattle.rules.specs.Answers.{Out, fieldsOf, numberOf}
+use Rattle.rules.specs.Answers.{Out, fieldsOf, numberOf, refuse}
+use Rattle.rules.specs.Layout.{settingsOf}
+use Rattle.rules.specs.Step.{checkedStep, stepOf}
+use Rattle.rules.specs.declared.Checked.{Checked}
+use Rattle.rules.proofs.Fitness.{fit-pool, refusal-none, refusal-some}
 use Rattle.pool.proofs.export.pool_step.Statement.{statement}
 use Rattle.pool.proofs.export.pool_step.Tie as tie
 
-step-requires : tie.Need-step-requires
-step-requires c κs = search needs
+refusal-requires : tie.Need-refusal-requires
+refusal-requires c κs = search needs
 
 answered-requires : tie.Need-answered-requires
 answered-requires c κs = search needs
@@ -15,10 +21,41 @@ same-length : tie.Need-same-length
 same-length c = search needs
 
 returns : tie.Need-returns
+unfolding stepOf checkedStep
 returns c =
-    let e = c .before .before .before .before .step .ensures in
-    let a = ap (λ (o : Out). o .answer) e in
-    (c .answered .ensures .0 ∙ ap numberOf a, (ap (λ (o : Out). o .words) e, c .answered .ensures .1 ∙ ap fieldsOf a))
+    let args = c .before .before .before .before .before .before .args in
+    let e = c .before .before .before .refusal .ensures in
+    let is =
+    ap (λ (m : ℕ). refuse m (args .words .now)) e
+    ∙ ap (λ (k : Checked). checkedStep (args .words .now) k (args .worker)) (sym (refusal-some (args .words .now) (λ z. c .before .before .if1 .taken (e ∙ z)))) in
+    let a = ap (λ (o : Out). o .answer) is in
+    (c .answered .ensures .0 ∙ ap numberOf a, (ap (λ (o : Out). o .words) is, c .answered .ensures .1 ∙ ap fieldsOf a))
+
+fit-answer-requires : tie.Need-fit-answer-requires
+fit-answer-requires c κs =
+    let ws = c .before .before .before .before .before .before .args .words .now in
+    fit-pool ws (settingsOf ws) (refusal-none ws (sym (c .before .before .before .refusal .ensures) ∙ c .before .before .if1 .left))
+
+same-length-2 : tie.Need-same-length-2
+same-length-2 c = search needs
+
+returns-2 : tie.Need-returns-2
+unfolding stepOf checkedStep
+returns-2 c =
+    let args = c .before .before .before .before .before .before .before .before .before .args in
+    let is = ap (λ (k : Checked). checkedStep (args .words .now) k (args .worker)) (sym (refusal-none (args .words .now) (sym (c .before .before .before .before .before .before .refusal .ensures) ∙ c .before .before .before .before .before .if1 .left))) in
+    let a = ap (λ (o : Out). o .answer) is in
+    let step = c .before .before .fit-answer .ensures in
+    (step .0 ∙ ap numberOf a, (step .1 .0 ∙ ap (λ (o : Out). o .words) is, step .1 .1 ∙ ap fieldsOf a))
 
 pub pool-step-spec : {M : Type 1} → statement M
-pool-step-spec = tie.close (tie.spec step-requires answered-requires same-length returns)
+pool-step-spec =
+    tie.close
+    (tie.spec
+    refusal-requires
+    answered-requires
+    same-length
+    returns
+    fit-answer-requires
+    same-length-2
+    returns-2)

@@ -1,0 +1,78 @@
+-- The dispatcher's loop, as its code has it: the pool is checked once, and an answer is a number and five fields. A turn's step leaves the turns still
+-- to come as they were, or they end with it.
+use mathlib.Core.Path.{_≡_, refl, sym, ap, _∙_}
+use mathlib.Core.Logic.{_≢_}
+use mathlib.Core.List.{List, [], _∷_, _++_}
+use Prim.Native.Nat.{ℕ, _-_, _≤_, _<_}
+use native.Mathlib.Decide.{decLe}
+use native.Mathlib.Omega.{arith}
+use lib.ListN.{getD}
+use borrow.Author.Tests.{le-leb, lt-leb}
+use Rattle.laws.specs.Choice.{cond}
+use Rattle.rules.specs.Answers.{Out, numberOf, fieldsOf, finalOf}
+use Rattle.rules.specs.Layout.{settingsOf}
+use Rattle.rules.specs.Fit.{checkedOf}
+use Rattle.rules.specs.Step.{fitStep}
+use Rattle.rules.specs.Dispatch.{dispatched, workerAfter, turnFrom, endedBy, endedOf, turnsOf}
+use Rattle.rules.specs.declared.Settings.{Settings}
+use Rattle.rules.specs.declared.Checked.the-variants.{Fit}
+use Rattle.rules.specs.declared.Answer.{Answer}
+use Rattle.rules.specs.declared.Answer.the-variants.{Moving, Put, Taken, Empty, Full, Refused}
+use Rattle.rules.specs.declared.Turn.the-variants.{Worker}
+use Rattle.rules.specs.declared.Dispatched.the-variants.{Finished}
+use Rattle.rules.proofs.Fitness.{fit-pool}
+use Rattle.rules.proofs.words.Stays.{Numbered, step-stays, step-numbered}
+use Rattle.rules.proofs.dispatch.Turns.{turns-on, turns-end, fit-step}
+
+-- ---- the six fields of a final answer are its five, and the worker
+pub six-fields : (a : Answer) (worker : ℕ) (five : List ℕ) → five ≡ fieldsOf a
+    → _≡_ {A = List ℕ} (getD five 0 0 ∷ getD five 1 0 ∷ getD five 2 0 ∷ getD five 3 0 ∷ getD five 4 0 ∷ worker ∷ []) (fieldsOf a ++ (worker ∷ []))
+six-fields Moving worker five e = rw e refl
+six-fields (Put value sub row stamp) worker five e = rw e refl
+six-fields (Taken value sub row stamp distance) worker five e = rw e refl
+six-fields Empty worker five e = rw e refl
+six-fields Full worker five e = rw e refl
+six-fields (Refused n) worker five e = rw e refl
+
+-- ---- an answer that is known by its number and its five fields
+final-same : (a : Answer) → Numbered a → numberOf a ≢ 0 → numberOf a ≤ 4 → finalOf (numberOf a) (fieldsOf a) ≡ a
+unfolding finalOf cond
+final-same Moving k n l = absurd (n refl)
+final-same (Put value sub row stamp) k n l = refl
+final-same (Taken value sub row stamp distance) k n l = refl
+final-same Empty k n l = refl
+final-same Full k n l = refl
+final-same (Refused m) k n l = absurd (omega arith)
+
+ended-same : (j : ℕ) (a : Answer) → Numbered a → numberOf a ≢ 0 → endedOf j (numberOf a) (fieldsOf a) ≡ endedBy j a
+unfolding endedOf endedBy cond
+ended-same j a k n = elim (decLe (numberOf a) 4) [
+  | yes l ↦ rw (le-leb (numberOf a) 4 l) (ap (Finished j) (final-same a k n l))
+  | no l ↦ rw (lt-leb (numberOf a) 4 (omega arith)) refl
+]
+
+-- ---- one turn: worker j's step, with its answer's number n and the words vs that it leaves
+module _ (ws : List ℕ) (g : Settings) (fit : checkedOf ws ≡ Fit g) (i j k : ℕ) (some : 0 < k) (turn : turnFrom ws g i ≡ Worker j)
+    {n : ℕ} {vs : List ℕ} (number : n ≡ numberOf (fitStep ws (settingsOf ws) j .answer)) (words : vs ≡ fitStep ws (settingsOf ws) j .words) where
+  step-is : fitStep ws (settingsOf ws) j ≡ fitStep ws g j
+  step-is = ap (λ (h : Settings). fitStep ws h j) (fit-pool ws g fit .settings)
+
+  number-is : n ≡ numberOf (fitStep ws g j .answer)
+  number-is = number ∙ ap (λ (o : Out). numberOf (o .answer)) step-is
+
+  words-is : vs ≡ fitStep ws g j .words
+  words-is = words ∙ ap (λ (o : Out). o .words) step-is
+
+  pub stays-fit : n ≡ 0 → checkedOf vs ≡ Fit g
+  stays-fit z = rw words-is (step-stays ws g fit j (sym number-is ∙ z) .fit)
+
+  pub turns-left : n ≡ 0 → turnsOf vs g (workerAfter g j) (k - 1) ≡ turnsOf ws g i k
+  turns-left z = rw words-is (sym (turns-on ws g i j k some turn (fitStep ws g j) (fit-step ws g fit j) (sym number-is ∙ z)))
+
+  pub turns-over : n ≢ 0 → {five : List ℕ} → five ≡ fieldsOf (fitStep ws (settingsOf ws) j .answer) → dispatched (endedOf j n five) vs ≡ turnsOf ws g i k
+  turns-over m {five} fields =
+      let five-is : five ≡ fieldsOf (fitStep ws g j .answer) = fields ∙ ap (λ (o : Out). fieldsOf (o .answer)) step-is in
+      let not-zero : numberOf (fitStep ws g j .answer) ≢ 0 = λ z. m (number-is ∙ z) in
+      rw (number-is, five-is, words-is)
+      (ap (λ r. dispatched r (fitStep ws g j .words)) (ended-same j (fitStep ws g j .answer) (step-numbered ws g fit j) not-zero)
+      ∙ sym (turns-end ws g i j k some turn (fitStep ws g j) (fit-step ws g fit j) not-zero))
