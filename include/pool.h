@@ -2,8 +2,8 @@
  * The windowed pool: a queue (paper 01's line) or a stack (its pile) spread over several subs, in words that the caller lends.
  *
  * Each call works on the `len` 32-bit words at `words`, whatever they hold, and keeps nothing of its own. It returns the
- * answer's number and writes the answer's five fields. A refusal (21 or more) leaves all lent words unchanged; where pool_dispatch
- * meets one after some steps, as before the step that was refused.
+ * answer's number and writes the answer's five fields (pool_dispatch: six). A refusal (21 or more) leaves all lent words unchanged; where
+ * pool_dispatch meets one after some steps, as before the step that was refused.
  *
  *   0   moving, made or begun
  *   1   put: the value, the sub and row that it lies in, its stamp
@@ -79,8 +79,8 @@ extern "C" {
 /*
  * Of so many steps in a row that are not refused, on a queue from pool_make, by any workers in any order and with begins between them, at least
  * one answers 1 to 4. So a pool_dispatch with this count finishes an operation of such a queue, where a worker is busy and the step count has as
- * many left. The second is the closest. A stack has no such number: two workers can move its window up and down for ever (examples/runs,
- * stack-endless). Proved: crates/rules/specs/Stretch.antt.
+ * many left. The second is the closest. A stack has no such number: where its shift is its depth, two workers can move its window up and down
+ * as long as the step count lets them (examples/runs, stack-endless). Proved: crates/rules/specs/Stretch.antt.
  */
 #define POOL_STEPS_TO_ANSWER(width, workers) (6u * (workers) * ((width) + 1u) + 1u)
 #define POOL_STEPS_TO_ANSWER_CLOSEST(width, workers)                                                                                        \
@@ -106,10 +106,11 @@ uint32_t pool_step(uint32_t *words, size_t len, uint32_t worker, uint32_t fields
 
 /*
  * Steps the busy workers round and round by number, from `worker` on, up to `steps` steps, and stops at the first answer 1 to 4: it returns that
- * answer with its five fields and, as the sixth, the worker. 5 where no worker is busy, whatever the count. 6 where the count ran out: the sixth
- * field is then the worker whose turn is next, the one after the last worker stepped (with a count of 0 the named one), so that a call from there
- * goes on. A refusal is returned as pool_step returns it, all six fields zero; the steps made before it stand.
- * The words are checked once, and not at every step.
+ * answer with its five fields and, as the sixth, the worker. 21, 23 for words that are not a fit pool and 24 come first, whatever the count and whoever
+ * is busy; then 5 where no worker is busy, also with a count of 0. 6 where the count ran out: the sixth field is then the worker whose turn is next,
+ * the one after the last worker stepped (with a count of 0 the named one), and a call from there goes on as one with a greater count would have. The
+ * refusal of a step (23 of a commit, 27) comes only where a step would be made; the steps made before it stand. All six fields are zero with a 5 and
+ * with a refusal. The words are checked once, and not at every step.
  */
 uint32_t pool_dispatch(uint32_t *words, size_t len, uint32_t worker, uint32_t steps, uint32_t fields[POOL_DISPATCH_FIELDS]);
 

@@ -28,9 +28,9 @@ pub fn table() {
         "begins the next, a take after a put and a put after a take. Begins are not timed: the"
     );
     println!(
-        "words that they change are written without a call. The dispatcher of `fast` checks the"
+        "words that they change are written without a call. The dispatcher of `fast` checks at"
     );
-    println!("pool at each step, too.\n");
+    println!("each step, as `pool_step` does.\n");
     println!("| kind | w | n | steps per answer | steps / dispatch = ratio | dispatch of fast |");
     println!("|---|---:|---:|---:|---:|---:|");
     let mut ratios = Vec::new();

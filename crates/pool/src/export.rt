@@ -61,6 +61,7 @@ pub extern "C" fn pool_begin_take(words: &mut [u32], worker: u32, fields: &mut [
     answered(a, fields)
 }
 
+// As `step` and `answered` would give it; see `fit_answer`.
 #[no_mangle]
 pub extern "C" fn pool_step(words: &mut [u32], worker: u32, fields: &mut [u32; 5]) -> u32
     ensures { λ r. ⌜ r ≡ numberOf ((stepOf (now (words .entry)) worker) .answer) ⌝ }

@@ -47,8 +47,8 @@ fn fit_step(words: &mut [u32], g: Settings, i: u32) -> Answer
     slot_step(words, g, at)
 }
 
-// A step of worker `i` of a fit pool: its answer's number, with the five fields written. C's step and the dispatcher share it, with all of a step
-// behind it and a number in place of an answer that would go through memory.
+// A step of worker `i` of a fit pool: its answer's number, with the five fields written. C's step and the dispatcher share it, and all of a step is behind
+// it. It returns a number, in a register; an answer, and settings handed to it, would go through memory at every step.
 pub fn fit_answer(words: &mut [u32], i: u32, five: &mut [u32; 5]) -> u32
     requires { ⌜ FitPool (settingsOf (now words)) (now words) ⌝ }
     ensures { λ r. ⌜ r ≡ numberOf ((fitStep (now (words .entry)) (settingsOf (now (words .entry))) i) .answer) ⌝ }

@@ -4,4 +4,5 @@ pub mod Loop
 pub mod Steps
 pub mod Untouched
 pub mod Nobody
+pub mod GoesOn
 pub mod Finishes

@@ -68,10 +68,6 @@ ifBusy ws (Worker j) go = go j
 unfoldable pub endedBy : ℕ → Answer → Dispatched
 endedBy j a = cond (leb (numberOf a) 4) (Finished j a) (Refused (numberOf a))
 
--- the same of an answer's number and five fields, as the code has them
-unfoldable pub endedOf : ℕ → ℕ → List ℕ → Dispatched
-endedOf j n fields = cond (leb n 4) (Finished j (finalOf n fields)) (Refused n)
-
 -- worker j's step: after a 0 the turns go on
 unfoldable pub afterStep : ℕ → Out → DispatchOut → DispatchOut
 afterStep j o rest = cond (eqb (numberOf (o .answer)) 0) rest (dispatched (endedBy j (o .answer)) (o .words))
@@ -92,3 +88,7 @@ checkedDispatch ws (Fit g) i steps = fitDispatch ws g i steps
 
 unfoldable pub dispatchOf : List ℕ → ℕ → ℕ → DispatchOut
 dispatchOf ws i steps = checkedDispatch ws (checkedOf ws) i steps
+
+-- ---- as the code has it: `endedBy` of an answer's number and five fields
+unfoldable pub endedOf : ℕ → ℕ → List ℕ → Dispatched
+endedOf j n fields = cond (leb n 4) (Finished j (finalOf n fields)) (Refused n)

@@ -1,17 +1,20 @@
--- K7: a dispatcher makes steps and nothing else. So whatever is claimed of every list of calls from a new pool (demand 3, K3, K7) holds with
--- dispatches among the calls: each one's steps stand in its place.
-use Prim.Native.Nat.{ℕ, _≤_, _<_}
+-- K7: what a dispatcher does, of all words, as statements. It makes steps and nothing else, so that whatever is claimed of every list of calls from a new
+-- pool (demand 3, K3, K7) holds with dispatches among the calls: each one's steps stand in its place.
+use Prim.Native.Nat.{ℕ, _+_, _≤_, _<_}
 use mathlib.Core.Path.{_≡_}
-use mathlib.Core.List.{List, [], _∷_}
-use lib.ListN.{length}
+use mathlib.Core.Logic.{_≢_}
+use mathlib.Core.List.{List, [], _∷_, _++_}
+use lib.ListN.{length, getD}
 use Rattle.rules.specs.Answers.{numberOf}
+use Rattle.rules.specs.Layout.{workerAt}
 use Rattle.rules.specs.Fit.{checkedOf}
 use Rattle.rules.specs.Step.{stepOf}
-use Rattle.rules.specs.Dispatch.{DispatchOut, dispatched, Busy, dispatchOf}
+use Rattle.rules.specs.Dispatch.{DispatchOut, dispatched, Busy, turnFrom, dispatchOf}
 use Rattle.rules.specs.Run.{Call, step, callOf, Final}
 use Rattle.rules.specs.Consequences.{wordsAfter}
 use Rattle.rules.specs.declared.Settings.{Settings}
 use Rattle.rules.specs.declared.Checked.the-variants.{Fit}
+use Rattle.rules.specs.declared.Turn.the-variants.{Worker}
 use Rattle.rules.specs.declared.Dispatched.the-variants.{Finished, NoneBusy, RanOut, Refused}
 
 -- the calls that lead from words to a result: steps that answer 0, and at the end a final one or none. A step that was refused is not made
@@ -41,6 +44,16 @@ pub record SaysNobody (g : Settings) (ws : List ℕ) (i steps : ℕ) : Type 0 wh
 abbrev pub DispatchNobody : Type 0
 DispatchNobody = (ws : List ℕ) (g : Settings) (i steps : ℕ) → checkedOf ws ≡ Fit g → i < g .workers → SaysNobody g ws i steps
 
+-- ---- "from a worker the caller names": its turn is the first, where it is busy
+abbrev pub NamedFirst : Type 0
+NamedFirst = (ws : List ℕ) (g : Settings) (i : ℕ) → i < g .workers → getD ws (workerAt g i) 0 ≢ 0 → turnFrom ws g i ≡ Worker i
+
+-- ---- where the count runs out, a dispatch from the worker named then goes on as one with a greater count would have
+abbrev pub DispatchGoesOn : Type 0
+DispatchGoesOn =
+    (ws : List ℕ) (i steps more next : ℕ) → dispatchOf ws i steps .result ≡ RanOut next
+    → dispatchOf ws i (steps + more) ≡ dispatchOf (dispatchOf ws i steps .words) next more
+
 -- ---- a list of calls with dispatches among them comes to the words of a list of calls
 pub data Ask : Type 0 where
   call : Call → Ask
@@ -51,8 +64,16 @@ wordsAsked ws [] = ws
 wordsAsked ws (call c ∷ asks) = wordsAsked (callOf ws c .words) asks
 wordsAsked ws (dispatch i steps ∷ asks) = wordsAsked (dispatchOf ws i steps .words) asks
 
+-- the calls asked for, in their order, and in place of each dispatch the steps that it makes
+pub data Spliced : List ℕ → List Ask → List Call → Type 0 where
+  end : {ws : List ℕ} → Spliced ws [] []
+  called : {ws : List ℕ} {c : Call} {asks : List Ask} {cs : List Call} → Spliced (callOf ws c .words) asks cs → Spliced ws (call c ∷ asks) (c ∷ cs)
+  dispatched-to : {ws : List ℕ} {i steps : ℕ} {ds : List Call} {asks : List Ask} {cs : List Call} → Made ws ds (dispatchOf ws i steps)
+      → Spliced (dispatchOf ws i steps .words) asks cs → Spliced ws (dispatch i steps ∷ asks) (ds ++ cs)
+
 pub record ByCalls (ws : List ℕ) (asks : List Ask) : Type 0 where
   pub calls : List Call
+  pub spliced : Spliced ws asks calls
   pub words : wordsAsked ws asks ≡ wordsAfter ws calls
 
 abbrev pub AskedByCalls : Type 0

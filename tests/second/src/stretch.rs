@@ -11,7 +11,7 @@ pub fn stretch_bound(settings: &Settings) -> u32 {
     6 * settings.workers * (settings.width + 1)
 }
 
-/// The most steps of a stretch; every queue has a run that comes to them. No
+/// The most steps of a stretch; the cross-check's script comes to them. No
 /// item comes or goes in it, so that a commit fails, and a sum is not 0, only
 /// by what the worker has seen before the stretch. A pass is w reads.
 pub fn longest_stretch(settings: &Settings) -> u32 {

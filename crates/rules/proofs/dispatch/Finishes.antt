@@ -1,7 +1,7 @@
 -- What a caller wants of K7: on a queue from make a dispatcher finishes an operation, where a worker is busy and its count is more than the longest
 -- stretch, with as many steps left. A busy worker's step is not refused while steps are left; it is final, or it answers 0 and leaves its worker busy,
 -- and the next turn is taken. So if none of the steps were final, they would be a stretch that is too long.
-use mathlib.Core.Path.{_≡_, refl, sym, ap, _∙_, subst}
+use mathlib.Core.Path.{_≡_, refl, ap, _∙_}
 use mathlib.Core.Logic.{_≢_, _⊎_, inl, inr}
 use mathlib.Core.Bool.{true}
 use mathlib.Core.List.{List, [], _∷_}
@@ -12,18 +12,17 @@ use lib.ListN.{getD}
 use borrow.Author.Tests.{le-leb}
 use Rattle.laws.specs.Choice.{cond}
 use Rattle.rules.specs.Answers.{numberOf}
-use Rattle.rules.specs.Layout.{stepsAt, workerAt}
+use Rattle.rules.specs.Layout.{stepsAt}
 use Rattle.rules.specs.Limits.{settingsFit, stepLimit}
 use Rattle.rules.specs.Fit.{checkedOf}
 use Rattle.rules.specs.Step.{stepOf}
 use Rattle.rules.specs.Run.{Call, step, callOf, run, at, Final}
 use Rattle.rules.specs.Dispatch.{DispatchOut, Busy, workerAfter, turnFrom, endedBy, turnsOf, dispatchOf}
 use Rattle.rules.specs.Stretch.{exactStretch, countedSteps, FinishesIn, DispatchFinishes, DispatchK7}
-use Rattle.rules.proofs.Types.{Settings, Idle}
+use Rattle.rules.proofs.Types.{Settings}
 use Rattle.rules.specs.declared.Checked.the-variants.{Fit}
 use Rattle.rules.specs.declared.Turn.the-variants.{Worker}
-use Rattle.rules.proofs.machine.Machine.{State, subIn, phaseIn, nextIn}
-use Rattle.rules.proofs.machine.Phases.{idle-phase}
+use Rattle.rules.proofs.machine.Machine.{State, nextIn}
 use Rattle.rules.proofs.machine.Good.{Good, good}
 use Rattle.rules.proofs.queue.Turn.{queueKind, queue-inv}
 use Rattle.rules.proofs.words.Made.{accepted}
@@ -36,7 +35,7 @@ use Rattle.rules.proofs.stretch.Acts.{busy-step}
 use Rattle.rules.proofs.stretch.Owed.{mostOwed}
 use Rattle.rules.proofs.stretch.Past.{Reached, reached}
 use Rattle.rules.proofs.stretch.Theorem.{finishes-within, exact-k7}
-use Rattle.rules.proofs.dispatch.Turns.{Turned, turned, busy-found, turns-on, turns-end, fit-turns}
+use Rattle.rules.proofs.dispatch.Turns.{HasTurn, has-turn, busy-found, turns-on, turns-end, turn-stays, fit-turns}
 
 -- ---- steps none of which is final
 pub record Unfinished (ws : List ℕ) (m : ℕ) : Type 0 where
@@ -62,12 +61,17 @@ module _ (g : Settings) (good : Good g) (kind : g .kind ≡ 0) (limits : setting
   abbrev Rel : List ℕ → State → Type 0
   Rel ws s = Related g limits (queueKind g good kind) ws s
 
+  fit : {ws : List ℕ} {s : State} → Rel ws s → checkedOf ws ≡ Fit g
+  fit {ws} {s} r =
+      let counts = queueKind g good kind .counts s (r .list) (r .whole .inv) in
+      checked-fit g limits (good .bounds .kind1) ws s (r .says) (r .whole .common) (counts .sub)
+
   -- the turns come to a final answer, or there are m steps without one
   abbrev Comes : List ℕ → ℕ → ℕ → ℕ → Type 0
   Comes ws i k m = FinishesIn g (turnsOf ws g i k) ⊎ Unfinished ws m
 
   -- ---- one turn, from how the next ones go on
-  module _ {ws : List ℕ} {s : State} (r : Rel ws s) (i j k m : ℕ) (turn : turnFrom ws g i ≡ Worker j) (busy : Turned ws g j) (time : s .steps < stepLimit)
+  module _ {ws : List ℕ} {s : State} (r : Rel ws s) (i j k m : ℕ) (turn : turnFrom ws g i ≡ Worker j) (busy : HasTurn ws g j) (time : s .steps < stepLimit)
       (rest : nextIn g s (step j) .state .steps ≡ suc (s .steps) → Busy g (stepOf ws j .words) → Comes (stepOf ws j .words) (workerAfter g j) k m) where
     abbrev x : Next-related g limits (queueKind g good kind) ws s (r .list) (step j)
     x = next-related g limits (queueKind g good kind) r (step j)
@@ -95,16 +99,10 @@ module _ (g : Settings) (good : Good g) (kind : g .kind ≡ 0) (limits : setting
     by : Result g (queueLeft g (2 * g .width)) s j (mostOwed g (2 * g .width)) (nextIn g s (step j)) → Comes ws i (suc k) (suc m)
     unfolding callOf
     by (finishes f) = inl (ends (rw answer f))
-    by (goes y) = on (rest (y .steps) (j, busy .among, still))
+    by (goes y) = on (rest (y .steps) (j, busy .among, turn-stays ws g (fit r) j moving .busy))
       where
         moving : numberOf (stepOf ws j .answer) ≡ 0
         moving = rw answer (y .answer)
-
-        still : getD (stepOf ws j .words) (workerAt g j) 0 ≢ 0
-        still z =
-            let t : State = nextIn g s (step j) .state in
-            let idle : phaseIn g t j ≡ Idle = idle-phase (g .kind) (t .slot j) (sym (number-same g (stepOf ws j .words) t (x .related .says) j (busy .among)) ∙ z) in
-            subst (queueLeft g (2 * g .width) t _ (subIn t j)) idle (y .left)
 
         on : Comes (stepOf ws j .words) (workerAfter g j) k m → Comes ws i (suc k) (suc m)
         on (inl f) =
@@ -123,24 +121,18 @@ module _ (g : Settings) (good : Good g) (kind : g .kind ≡ 0) (limits : setting
   turns-come (suc m) zero l r i li busy time = absurd (omega arith)
   turns-come (suc m) (suc k) l {ws} {s} r i li busy time =
       let f = busy-found ws g i (busy .0) li (busy .1) (busy .2) in
-      one-turn r i (f .0) k m (f .1) (turned ws g i (f .0) li (f .1)) (omega arith)
+      one-turn r i (f .0) k m (f .1) (has-turn ws g i (f .0) li (f .1)) (omega arith)
       (λ more next. turns-come m k (omega arith) (next-related g limits (queueKind g good kind) r (step (f .0)) .related) (workerAfter g (f .0)) (mod-lt _ (omega arith)) next (omega arith))
 
   -- ---- from any words that a new queue comes to
   module _ {ws : List ℕ} (r : Reached g good kind limits ws) (i steps : ℕ) (li : i < g .workers) where
-    fit : checkedOf ws ≡ Fit g
-    fit =
-        let k = r .related in
-        let counts = queueKind g good kind .counts (r .state) (k .list) (k .whole .inv) in
-        checked-fit g limits (good .bounds .kind1) ws (r .state) (k .says) (k .whole .common) (counts .sub)
-
     -- a stretch that is too long
     too-long : Unfinished ws (suc (exactStretch g)) → ⊥
     too-long u = let f = finishes-within g good kind limits r (u .calls) (omega (arith, u .counted)) in u .none (f .position) (f .final)
 
     reached-finishes : Busy g ws → exactStretch g < steps → getD ws stepsAt 0 + exactStretch g < stepLimit → FinishesIn g (dispatchOf ws i steps)
     reached-finishes busy many time =
-        rw (fit-turns ws g fit i steps li) (by (turns-come (suc (exactStretch g)) steps many (r .related) i li busy (omega (arith, r .related .says .steps))))
+        rw (fit-turns ws g (fit (r .related)) i steps li) (by (turns-come (suc (exactStretch g)) steps many (r .related) i li busy (omega (arith, r .related .says .steps))))
       where
         by : Comes ws i steps (suc (exactStretch g)) → FinishesIn g (turnsOf ws g i steps)
         by (inl f) = f

@@ -20,8 +20,7 @@ use Rattle.rules.specs.declared.Turn.{Turn}
 use Rattle.rules.specs.declared.Turn.the-variants.{NoneBusy as Nobody, Worker}
 use Rattle.rules.specs.declared.Dispatched.{Dispatched}
 use Rattle.rules.specs.declared.Dispatched.the-variants.{NoneBusy}
-use Rattle.rules.proofs.words.Stays.{Stays, step-stays}
-use Rattle.rules.proofs.dispatch.Turns.{turned, busy-found, turns-none, turns-out, turns-on, turns-end, fit-step, fit-turns}
+use Rattle.rules.proofs.dispatch.Turns.{has-turn, busy-found, turns-none, turns-out, turns-on, turns-end, turn-stays, fit-turns}
 
 ended-some : (j : ℕ) (a : Answer) → endedBy j a ≢ NoneBusy
 unfolding endedBy
@@ -37,7 +36,7 @@ module _ (g : Settings) where
     where
       by : (t : Turn) → turnFrom ws g i ≡ t → t ≡ Nobody
       by Nobody e = refl
-      by (Worker j) e = let x = turned ws g i j l e in absurd (none (j, x .among, x .busy))
+      by (Worker j) e = let x = has-turn ws g i j l e in absurd (none (j, x .among, x .busy))
 
   -- some worker is busy at every turn
   turns-some : (k : ℕ) (ws : List ℕ) (i : ℕ) → checkedOf ws ≡ Fit g → i < g .workers → Busy g ws → turnsOf ws g i k .result ≢ NoneBusy
@@ -54,9 +53,9 @@ module _ (g : Settings) where
         | yes z ↦
             let on : turnsOf ws g i (suc k) ≡ turnsOf (stepOf ws j .words) g (workerAfter g j) k =
             rw less at (turns-on ws g i j (suc k) (omega arith) (f .1) (stepOf ws j) refl z) in
-            let stays : Stays g (stepOf ws j .words) j = rw (fit-step ws g fit j) (step-stays ws g fit j (rw (fit-step ws g fit j) at z)) in
+            let stays = turn-stays ws g fit j z in
             turns-some k (stepOf ws j .words) (workerAfter g j) (stays .fit) (mod-lt _ (omega arith))
-            (j, turned ws g i j l (f .1) .among, stays .busy) (rw on at e)
+            (j, has-turn ws g i j l (f .1) .among, stays .busy) (rw on at e)
         | no n ↦
             let end = ap (λ (o : DispatchOut). o .result) (turns-end ws g i j (suc k) (omega arith) (f .1) (stepOf ws j) refl n) in
             ended-some j (stepOf ws j .answer) (sym end ∙ e)

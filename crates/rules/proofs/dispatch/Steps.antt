@@ -18,9 +18,9 @@ use Rattle.rules.specs.Step.{slotStep, fitStep, checkedStep, stepOf}
 use Rattle.rules.specs.Run.{Call, step, callOf}
 use Rattle.rules.specs.Consequences.{wordsAfter}
 use Rattle.rules.specs.Dispatch.{DispatchOut, dispatched, workerAfter, turnFrom, endedBy, afterStep, turnsOf, fitDispatch, checkedDispatch, dispatchOf, ifBusy}
-use Rattle.rules.specs.DispatchSteps.{Made, nobody, ran-out, refused, finished, moved, DispatchBySteps, call, dispatch, wordsAsked, AskedByCalls}
+use Rattle.rules.specs.DispatchSteps.{Made, nobody, ran-out, refused, finished, moved, DispatchBySteps, call, dispatch, wordsAsked, end, called, dispatched-to, AskedByCalls}
 use Rattle.rules.proofs.Types.{Settings, Effect, Outcome}
-use Rattle.rules.specs.declared.Outcome.the-variants.{Refused as Stays, Moving, Shifted, Landed, Removed, Empty, Full}
+use Rattle.rules.specs.declared.Outcome.the-variants.{Refused as Stopped, Moving, Shifted, Landed, Removed, Empty, Full}
 use Rattle.rules.specs.declared.Checked.{Checked}
 use Rattle.rules.specs.declared.Checked.the-variants.{Unfit, Fit}
 use Rattle.rules.specs.declared.Turn.{Turn}
@@ -35,7 +35,7 @@ module _ (ws : List ℕ) where
 
   applied-kept : (g : Settings) (at j : ℕ) (e : Effect) (o : Outcome) → Kept (applyBy ws g at j e o)
   unfolding applyBy takenOf
-  applied-kept g at j e (Stays n) l = refl
+  applied-kept g at j e (Stopped n) l = refl
   applied-kept g at j e Moving l = absurd (omega arith)
   applied-kept g at j e Shifted l = absurd (omega arith)
   applied-kept g at j e Landed l = absurd (omega arith)
@@ -130,12 +130,13 @@ after-both ws (c ∷ cs) ds = after-both (callOf ws c .words) cs ds
 
 pub asked-by-calls : AskedByCalls
 unfolding wordsAsked wordsAfter
-asked-by-calls ws [] = record { calls = []; words = refl }
-asked-by-calls ws (call c ∷ asks) = let x = asked-by-calls (callOf ws c .words) asks in record { calls = c ∷ x .calls; words = x .words }
+asked-by-calls ws [] = record { calls = []; spliced = end; words = refl }
+asked-by-calls ws (call c ∷ asks) = let x = asked-by-calls (callOf ws c .words) asks in record { calls = c ∷ x .calls; spliced = called (x .spliced); words = x .words }
 asked-by-calls ws (dispatch i steps ∷ asks) =
     let d = dispatch-by-steps ws i steps in
     let x = asked-by-calls (dispatchOf ws i steps .words) asks in
     record {
       calls = d .calls ++ x .calls;
+      spliced = dispatched-to (d .made) (x .spliced);
       words = x .words ∙ ap (λ (vs : List ℕ). wordsAfter vs (x .calls)) (d .words) ∙ sym (after-both ws (d .calls) (x .calls));
     }

@@ -16,30 +16,31 @@ use Rattle.rules.specs.Layout.{workerAt}
 use Rattle.rules.specs.Fit.{checkedOf}
 use Rattle.rules.specs.Step.{fitStep, checkedStep, stepOf}
 use Rattle.rules.specs.Dispatch.{dispatched, workerAfter, busyFrom, turnFrom, endedBy, afterStep, turnsOf, fitDispatch, checkedDispatch, dispatchOf}
+use Rattle.rules.specs.DispatchSteps.{NamedFirst}
 use Rattle.rules.specs.declared.Settings.{Settings}
 use Rattle.rules.specs.declared.Checked.the-variants.{Fit}
 use Rattle.rules.specs.declared.Turn.{Turn}
 use Rattle.rules.specs.declared.Turn.the-variants.{NoneBusy as Nobody, Worker}
 use Rattle.rules.specs.declared.Dispatched.the-variants.{NoneBusy, RanOut}
+use Rattle.rules.proofs.words.Stays.{Stays, step-stays}
 
 -- ---- whose turn it is
+abbrev phase : List ℕ → Settings → ℕ → ℕ
+phase ws g i = getD ws (workerAt g i) 0
+
+pub busy-here : (ws : List ℕ) (g : Settings) (i m : ℕ) → 0 < m → phase ws g i ≢ 0 → busyFrom ws g i m ≡ Worker i
+unfolding busyFrom cond
+busy-here ws g i zero l n = absurd (omega arith)
+busy-here ws g i (suc m) l n = rw (ne-eqb (phase ws g i) 0 n) refl
+
+pub named-first : NamedFirst
+named-first ws g i l n = busy-here ws g i (g .workers) (omega arith) n
+
 module _ (ws : List ℕ) (g : Settings) where
-  abbrev phase : ℕ → ℕ
-  phase i = getD ws (workerAt g i) 0
-
-  pub busy-here : (i m : ℕ) → 0 < m → phase i ≢ 0 → busyFrom ws g i m ≡ Worker i
-  unfolding busyFrom cond
-  busy-here i zero l n = absurd (omega arith)
-  busy-here i (suc m) l n = rw (ne-eqb (phase i) 0 n) refl
-
-  -- the named worker's, where it is busy
-  pub named-first : (i : ℕ) → i < g .workers → phase i ≢ 0 → turnFrom ws g i ≡ Worker i
-  named-first i l n = busy-here i (g .workers) (omega arith) n
-
-  pub busy-next : (i m : ℕ) → 0 < m → phase i ≡ 0 → busyFrom ws g i m ≡ busyFrom ws g (workerAfter g i) (m - 1)
+  pub busy-next : (i m : ℕ) → 0 < m → phase ws g i ≡ 0 → busyFrom ws g i m ≡ busyFrom ws g (workerAfter g i) (m - 1)
   unfolding busyFrom cond
   busy-next i zero l e = absurd (omega arith)
-  busy-next i (suc m) l e = let less : suc m - 1 ≡ m = omega arith in rw (less, eq-eqb (phase i) 0 e) refl
+  busy-next i (suc m) l e = let less : suc m - 1 ≡ m = omega arith in rw (less, eq-eqb (phase ws g i) 0 e) refl
 
   pub busy-none : (i m : ℕ) → m ≡ 0 → busyFrom ws g i m ≡ Nobody
   unfolding busyFrom
@@ -47,9 +48,9 @@ module _ (ws : List ℕ) (g : Settings) where
   busy-none i (suc m) e = absurd (omega arith)
 
   -- it is a worker of the pool's, and busy
-  pub record Turned (j : ℕ) : Type 0 where
+  pub record HasTurn (j : ℕ) : Type 0 where
     pub among : j < g .workers
-    pub busy : phase j ≢ 0
+    pub busy : phase ws g j ≢ 0
 
   abbrev pub Found : Turn → Type 0
   Found t = (j : ℕ) × (t ≡ Worker j)
@@ -60,16 +61,16 @@ module _ (ws : List ℕ) (g : Settings) where
   nobody : (j : ℕ) → Nobody ≡ Worker j → ⊥
   nobody j e = let z : _≡_ {A = ℕ} 0 1 = cc in omega arith
 
-  turned-by : (m i j : ℕ) → i < g .workers → busyFrom ws g i m ≡ Worker j → Turned j
+  has-turn-by : (m i j : ℕ) → i < g .workers → busyFrom ws g i m ≡ Worker j → HasTurn j
   unfolding busyFrom
-  turned-by zero i j l e = absurd (nobody j e)
-  turned-by (suc m) i j l e =
-      cases (λ (t : Turn). t ≡ Worker j → Turned j) (eqb (phase i) 0) _ _
-      (λ b f. turned-by m (workerAfter g i) j (mod-lt _ (omega arith)) f)
-      (λ b f. subst Turned (worker-same i j f) (record { among = l; busy = eqb-false _ _ b })) e
+  has-turn-by zero i j l e = absurd (nobody j e)
+  has-turn-by (suc m) i j l e =
+      cases (λ (t : Turn). t ≡ Worker j → HasTurn j) (eqb (phase ws g i) 0) _ _
+      (λ b f. has-turn-by m (workerAfter g i) j (mod-lt _ (omega arith)) f)
+      (λ b f. subst HasTurn (worker-same i j f) (record { among = l; busy = eqb-false _ _ b })) e
 
-  pub turned : (i j : ℕ) → i < g .workers → turnFrom ws g i ≡ Worker j → Turned j
-  turned i j l e = turned-by (g .workers) i j l e
+  pub has-turn : (i j : ℕ) → i < g .workers → turnFrom ws g i ≡ Worker j → HasTurn j
+  has-turn i j l e = has-turn-by (g .workers) i j l e
 
   -- worker b is d workers on from i: at i + d, or there once the numbers have begun anew
   abbrev On : ℕ → ℕ → ℕ → Type 0
@@ -92,19 +93,19 @@ module _ (ws : List ℕ) (g : Settings) where
           inl (omega arith)
 
   -- a busy worker is found
-  found : (m i b d : ℕ) → i < g .workers → b < g .workers → phase b ≢ 0 → d < m → On i b d → Found (busyFrom ws g i m)
+  found : (m i b d : ℕ) → i < g .workers → b < g .workers → phase ws g b ≢ 0 → d < m → On i b d → Found (busyFrom ws g i m)
   unfolding busyFrom
   found zero i b d li lb busy l there = absurd (omega arith)
   found (suc m) i b zero li lb busy l there =
-      cases Found (eqb (phase i) 0) _ _
-      (λ e. absurd (busy (subst (λ (x : ℕ). phase x ≡ 0) (on-here i b li there) (eqb-true _ _ e))))
+      cases Found (eqb (phase ws g i) 0) _ _
+      (λ e. absurd (busy (subst (λ (x : ℕ). phase ws g x ≡ 0) (on-here i b li there) (eqb-true _ _ e))))
       (λ e. (i, refl))
   found (suc m) i b (suc d) li lb busy l there =
-      cases Found (eqb (phase i) 0) _ _
+      cases Found (eqb (phase ws g i) 0) _ _
       (λ e. found m (workerAfter g i) b d (mod-lt _ (omega arith)) lb busy (omega arith) (on-next i b d li lb there))
       (λ e. (i, refl))
 
-  pub busy-found : (i b : ℕ) → i < g .workers → b < g .workers → phase b ≢ 0 → Found (turnFrom ws g i)
+  pub busy-found : (i b : ℕ) → i < g .workers → b < g .workers → phase ws g b ≢ 0 → Found (turnFrom ws g i)
   busy-found i b li lb busy = elim (decLe i b) [
     | yes l ↦ found (g .workers) i b (b - i) li lb busy (omega arith) (inl (omega arith))
     | no l ↦ found (g .workers) i b (b + g .workers - i) li lb busy (omega arith) (inr (omega arith))
@@ -141,6 +142,9 @@ module _ (ws : List ℕ) (g : Settings) where
   pub fit-step : checkedOf ws ≡ Fit g → (j : ℕ) → stepOf ws j ≡ fitStep ws g j
   unfolding stepOf checkedStep
   fit-step e j = rw e refl
+
+  pub turn-stays : checkedOf ws ≡ Fit g → (j : ℕ) → numberOf (stepOf ws j .answer) ≡ 0 → Stays g (stepOf ws j .words) j
+  turn-stays e j = rw (fit-step e j) (step-stays ws g e j)
 
   pub fit-turns : checkedOf ws ≡ Fit g → (i steps : ℕ) → i < g .workers → dispatchOf ws i steps ≡ turnsOf ws g i steps
   unfolding dispatchOf checkedDispatch fitDispatch cond

@@ -20,8 +20,7 @@ use Rattle.rules.specs.declared.Turn.the-variants.{NoneBusy as Nobody, W
 use Rattle.rules.specs.declared.Dispatched.the-variants.{RanOut}
 use Rattle.rules.proofs.Fitness.{fit-pool}
 use Rattle.rules.proofs.Untouched.{unchanged, step-keeps}
-use Rattle.rules.proofs.words.Stays.{step-stays}
-use Rattle.rules.proofs.dispatch.Turns.{fit-step}
+use Rattle.rules.proofs.dispatch.Turns.{turn-stays}
 
 both-keep : {n : ℕ} {us vs ws : List ℕ} → Beyond n us vs → Beyond n vs ws → Beyond n us ws
 both-keep a b = record { length-same = b .length-same ∙ a .length-same; same = λ k l. b .same k l ∙ a .same k l }
@@ -34,14 +33,11 @@ module _ (g : Settings) where
     one-step : (j : ℕ) → Beyond (needed g) ws (stepOf ws j .words)
     one-step j = subst (λ (h : Settings). Beyond (needed h) ws (stepOf ws j .words)) (fit-pool ws g fit .settings) (step-keeps ws j)
 
-    still-fit : (j : ℕ) → numberOf (stepOf ws j .answer) ≡ 0 → checkedOf (stepOf ws j .words) ≡ Fit g
-    still-fit j = rw (fit-step ws g fit j) (λ z. step-stays ws g fit j z .fit)
-
     step-kept : (j : ℕ) (rest : DispatchOut) → (checkedOf (stepOf ws j .words) ≡ Fit g → Kept (stepOf ws j .words) rest) → Kept ws (afterStep j (stepOf ws j) rest)
     unfolding afterStep
     step-kept j rest on =
         cases (Kept ws) (eqb (numberOf (stepOf ws j .answer)) 0) _ _
-        (λ z. both-keep (one-step j) (on (still-fit j (eqb-true _ _ z))))
+        (λ z. both-keep (one-step j) (on (turn-stays ws g fit j (eqb-true _ _ z) .fit)))
         (λ z. one-step j)
 
   turns-kept : (ws : List ℕ) → checkedOf ws ≡ Fit g → (i k : ℕ) → Kept ws (turnsOf ws g i k)

@@ -23,7 +23,7 @@
 --         confirm  clean: w - 1 - scan                   else 2w + 2 + L - scan
 --
 -- L is what a take has left that starts at a window which every sub is below: 2w, or w + 1 where it is known that an item is held when the
--- take window moves. A step lowers its own worker's number; a shift raises nobody's, for what was fresh is then low.
+-- take window moves; "low" of a take's read or shift says that L is enough as well (`Ready`). A step lowers its own worker's number; a shift raises nobody's, for what was fresh is then low.
 use mathlib.Core.Path.{_≡_}
 use mathlib.Core.Logic.{_⊎_, inl, inr}
 use Prim.Native.Nat.{ℕ, _+_, _*_, _≤_, _<_}

@@ -20,7 +20,7 @@ use Rattle.rules.proofs.machine.Good.{Good, good}
 use Rattle.rules.proofs.words.Made.{accepted}
 use Rattle.rules.proofs.stretch.Past.{Reached, reached}
 use Rattle.rules.proofs.stretch.Parts.{run-stretch}
-use Rattle.rules.proofs.stretch.Within.{worst, calm, finishes-beyond}
+use Rattle.rules.proofs.stretch.Within.{owedWorst, owedCalm, finishes-beyond}
 
 -- ---- the figures
 module _ (g : Settings) (good : Good g) (kind : g .kind ≡ 0) where
@@ -30,34 +30,28 @@ module _ (g : Settings) (good : Good g) (kind : g .kind ≡ 0) where
   one-worker : g .workers ≡ 1 → (c m n : ℕ) → m ≤ n → (g .workers - 1) * c + m ≤ n
   one-worker e c m n l = rw e (omega arith)
 
-  abbrev Worst : ℕ
-  Worst = worst g good kind
-
-  abbrev Calm : ℕ
-  Calm = calm g good kind
-
-  worst-is : Worst ≡ max (5 * g .width + 1) (4 * g .width + 3)
+  worst-is : owedWorst g ≡ max (5 * g .width + 1) (4 * g .width + 3)
   worst-is = omega arith
 
   -- with a worker more than one, what takes owe less is at least w - 1 in all
-  room : 2 ≤ g .workers → (g .workers - 1) * Calm + (2 * g .width + 3) ≤ (g .workers - 1) * Worst + (g .width + 4)
+  room : 2 ≤ g .workers → (g .workers - 1) * owedCalm g + (2 * g .width + 3) ≤ (g .workers - 1) * owedWorst g + (g .width + 4)
   room several =
-      let step : Calm + (g .width - 1) ≤ Worst = omega (arith, width1) in
-      let all : (g .workers - 1) * (Calm + (g .width - 1)) ≤ (g .workers - 1) * Worst = mul-le-mul-left (g .workers - 1) step in
-      let parts : (g .workers - 1) * (Calm + (g .width - 1)) ≡ (g .workers - 1) * Calm + (g .workers - 1) * (g .width - 1) = omega arith in
+      let step : owedCalm g + (g .width - 1) ≤ owedWorst g = omega (arith, width1) in
+      let all : (g .workers - 1) * (owedCalm g + (g .width - 1)) ≤ (g .workers - 1) * owedWorst g = mul-le-mul-left (g .workers - 1) step in
+      let parts : (g .workers - 1) * (owedCalm g + (g .width - 1)) ≡ (g .workers - 1) * owedCalm g + (g .workers - 1) * (g .width - 1) = omega arith in
       let once : 1 * (g .width - 1) ≤ (g .workers - 1) * (g .width - 1) = mul-le-mul-right (g .width - 1) (omega arith) in
       omega (arith, width1)
 
-  with-a-put : (g .workers - 1) * Worst + (g .width + 4) ≤ exactStretch g
+  with-a-put : (g .workers - 1) * owedWorst g + (g .width + 4) ≤ exactStretch g
   with-a-put =
-      cases (λ (n : ℕ). (g .workers - 1) * Worst + (g .width + 4) ≤ n) (eqb (g .workers) 1) _ _
-      (λ e. one-worker (eqb-true _ _ e) Worst _ _ (omega (arith, width1)))
+      cases (λ (n : ℕ). (g .workers - 1) * owedWorst g + (g .width + 4) ≤ n) (eqb (g .workers) 1) _ _
+      (λ e. one-worker (eqb-true _ _ e) (owedWorst g) _ _ (omega (arith, width1)))
       (λ e. rw worst-is (omega arith))
 
-  with-none : (g .workers - 1) * Calm + (2 * g .width + 3) ≤ exactStretch g
+  with-none : (g .workers - 1) * owedCalm g + (2 * g .width + 3) ≤ exactStretch g
   with-none =
-      cases (λ (n : ℕ). (g .workers - 1) * Calm + (2 * g .width + 3) ≤ n) (eqb (g .workers) 1) _ _
-      (λ e. one-worker (eqb-true _ _ e) Calm _ _ (omega arith))
+      cases (λ (n : ℕ). (g .workers - 1) * owedCalm g + (2 * g .width + 3) ≤ n) (eqb (g .workers) 1) _ _
+      (λ e. one-worker (eqb-true _ _ e) (owedCalm g) _ _ (omega arith))
       (λ e. rw worst-is at (room (omega (arith, good .bounds .workers1, eqb-false (g .workers) 1 e))))
 
   -- from any words that a new queue comes to

@@ -58,20 +58,20 @@ same-debts n c = omega (arith, sum-within (λ i. c) (λ i. 0) n c (λ i l. omega
 lead-sum : (n c who debt : ℕ) → who < n → debt ≤ c → sumN (upd (λ i. c) who debt) n ≤ (n - 1) * c + debt
 lead-sum n c who debt l d = omega (arith, sum-swap (λ i. c) n who debt l, same-debts n c, times-pred n c (omega arith))
 
+-- the most that a worker owes, in the worst case and where the take window finds an item
+abbrev pub owedWorst : Settings → ℕ
+owedWorst g = mostOwed g (2 * g .width)
+
+abbrev pub owedCalm : Settings → ℕ
+owedCalm g = mostOwed g (g .width + 1)
+
 module _ (g : Settings) (good : Good g) (kind : g .kind ≡ 0) where
-  -- the most that a worker owes, in the worst case and where the take window finds an item
-  abbrev pub worst : ℕ
-  worst = mostOwed g (2 * g .width)
-
-  abbrev pub calm : ℕ
-  calm = mostOwed g (g .width + 1)
-
   width1 : 1 ≤ g .width
   width1 = good .bounds .width1
 
   -- ---- a bound that is enough where a put is under way or begins, and where none does
   module _ (limits : settingsFit g ≡ true) {ws : List ℕ} (r : Reached g good kind limits ws) (ds : List Call)
-      (most : ℕ) (with-a-put : (g .workers - 1) * worst + (g .width + 4) ≤ most) (with-none : (g .workers - 1) * calm + (2 * g .width + 3) ≤ most)
+      (most : ℕ) (with-a-put : (g .workers - 1) * owedWorst g + (g .width + 4) ≤ most) (with-none : (g .workers - 1) * owedCalm g + (2 * g .width + 3) ≤ most)
       (many : most < countedSteps (run ws ds)) where
     abbrev s : State
     s = r .state
@@ -85,8 +85,8 @@ module _ (g : Settings) (good : Good g) (kind : g .kind ≡ 0) where
     inv : Inv g s (r .related .list)
     inv = queue-inv g good kind s (r .related .list) (r .related .whole .inv)
 
-    debt-sum : sumN debt (g .workers) ≤ (g .workers - 1) * worst + lead .debt
-    debt-sum = lead-sum (g .workers) worst (lead .who) (lead .debt) (lead .among) (omega (arith, lead .small, width1))
+    debt-sum : sumN debt (g .workers) ≤ (g .workers - 1) * owedWorst g + lead .debt
+    debt-sum = lead-sum (g .workers) (owedWorst g) (lead .who) (lead .debt) (lead .among) (omega (arith, lead .small, width1))
 
     owed : Debts g (2 * g .width) s debt
     owed = all-owe g good (2 * g .width) (twice g good kind) s (r .related .list) inv lead
@@ -108,7 +108,7 @@ module _ (g : Settings) (good : Good g) (kind : g .kind ≡ 0) where
           let few : lead .debt ≤ g .width + 4 = lead .put-small (rw e at (x .putting)) in
           finish (sumN debt (g .workers)) (omega (arith, debt-sum)) (bounded-by-debts g good kind limits (r .related) debt owed ds)
       | no n ↦
-          let there : debt (x .who) ≡ worst = upd-other (λ i. worst) (lead .who) (lead .debt) (x .who) n in
+          let there : debt (x .who) ≡ owedWorst g = upd-other (λ i. owedWorst g) (lead .who) (lead .debt) (x .who) n in
           finish (sumN (upd debt (x .who) (2 * g .width + 5)) (g .workers))
           (omega (arith, debt-sum, sum-swap debt (g .workers) (x .who) (2 * g .width + 5) (x .among), lead .small))
           (bounded-by-debts g good kind limits (r .related) (upd debt (x .who) (2 * g .width + 5)) (put-debt x) ds)
@@ -128,8 +128,8 @@ module _ (g : Settings) (good : Good g) (kind : g .kind ≡ 0) where
         by : Lead g (g .width + 1) s ⊎ PutOpen g s → Finishes (run ws ds)
         by (inr x) = absurd (no-put x)
         by (inl second) =
-            let calm-sum : sumN (leadDebts g (g .width + 1) second) (g .workers) ≤ (g .workers - 1) * calm + second .debt =
-            lead-sum (g .workers) calm (second .who) (second .debt) (second .among) (omega (arith, second .small, width1)) in
+            let calm-sum : sumN (leadDebts g (g .width + 1) second) (g .workers) ≤ (g .workers - 1) * owedCalm g + second .debt =
+            lead-sum (g .workers) (owedCalm g) (second .who) (second .debt) (second .among) (omega (arith, second .small, width1)) in
             finish most (omega arith)
             (calm-stretch g good kind limits (r .related)
             (record { no-put = none; stock = λ l. stock (r .past .stocked l) })
@@ -140,10 +140,10 @@ module _ (g : Settings) (good : Good g) (kind : g .kind ≡ 0) where
               takes = omega (arith, calm-sum, second .small);
               spare = λ x l rests. elim (ℕ-discrete x (lead .who)) [
                 | yes e ↦
-                    let there : debt x ≡ lead .debt = rw e (upd-same (λ i. worst) (lead .who) (lead .debt)) in
+                    let there : debt x ≡ lead .debt = rw e (upd-same (λ i. owedWorst g) (lead .who) (lead .debt)) in
                     omega (arith, debt-sum)
                 | no n ↦
-                    let there : debt x ≡ worst = upd-other (λ i. worst) (lead .who) (lead .debt) x n in
+                    let there : debt x ≡ owedWorst g = upd-other (λ i. owedWorst g) (lead .who) (lead .debt) x n in
                     omega (arith, debt-sum, lead .small, width1)
               ];
             }) ds)

@@ -10,7 +10,7 @@ use Rattle.rules.specs.Fit.{checkedOf}
 use Rattle.rules.specs.Dispatch.{dispatched, turnsOf}
 use Rattle.rules.specs.declared.Checked.the-variants.{Fit}
 use Rattle.rules.proofs.Fitness.{fit-pool}
-use Rattle.rules.proofs.dispatch.Turns.{turned, turns-none, turns-out}
+use Rattle.rules.proofs.dispatch.Turns.{has-turn, turns-none, turns-out}
 use Rattle.rules.proofs.dispatch.Loop.{stays-fit, turns-left, turns-over}
 use Rattle.pool.proofs.dispatcher.turns.Statement.{statement}
 use Rattle.pool.proofs.dispatcher.turns.Tie as tie
@@ -71,7 +71,7 @@ add-i c =
     let l = c .before .before .before .before .before .before .before .before .before .before .before .before .loop in
     let g = c .before .before .before .before .before .before .before .before .before .before .before .before .before .before .args .g in
     let turn = sym (c .before .before .before .before .before .before .before .before .before .turn-from .ensures) ∙ c .before .before .before .before .before .before .before .t .given .1 in
-    omega (arith, turned (l .words) g (l .i) _ (l .inv .1) turn .among, fit-pool (l .words) g (l .inv .2) .bounds .workers32)
+    omega (arith, has-turn (l .words) g (l .i) _ (l .inv .1) turn .among, fit-pool (l .words) g (l .inv .2) .bounds .workers32)
 
 rem-i : tie.Need-rem-i Inv-loop μ-loop
 rem-i c = search needs

@@ -1,0 +1,126 @@
+-- Where the count runs out, a dispatch from the worker named then goes on as one with a greater count would have: each turn so far answered 0 and left the
+-- pool fit, and the turns to come start from there.
+use mathlib.Core.Path.{_≡_, refl, sym, ap, _∙_, subst}
+use mathlib.Core.Logic.{_≢_}
+use mathlib.Core.Bool.{Bool}
+use mathlib.Core.List.{List}
+use Prim.Native.Nat.{ℕ, zero, suc, _+_, _-_, _<_}
+use native.Mathlib.Decide.{ℕ-discrete}
+use native.Mathlib.Nat.{mod-lt, zero-add}
+use native.Mathlib.Decide.{decLt}
+use native.Mathlib.Omega.{arith}
+use lib.Dec.{leb}
+use borrow.Author.Tests.{le-leb}
+use Rattle.laws.specs.Choice.{cond, cases}
+use Rattle.rules.specs.Answers.{numberOf}
+use Rattle.rules.specs.Fit.{checkedOf}
+use Rattle.rules.specs.Step.{stepOf}
+use Rattle.rules.specs.Dispatch.{DispatchOut, dispatched, workerAfter, turnFrom, endedBy, turnsOf, fitDispatch, checkedDispatch, dispatchOf}
+use Rattle.rules.specs.DispatchSteps.{DispatchGoesOn}
+use Rattle.rules.proofs.Types.{Settings, Answer}
+use Rattle.rules.specs.declared.Checked.{Checked}
+use Rattle.rules.specs.declared.Checked.the-variants.{Unfit, Fit}
+use Rattle.rules.specs.declared.Turn.{Turn}
+use Rattle.rules.specs.declared.Turn.the-variants.{NoneBusy as Nobody, Worker}
+use Rattle.rules.specs.declared.Dispatched.{Dispatched}
+use Rattle.rules.specs.declared.Dispatched.the-variants.{RanOut, Refused}
+use Rattle.rules.proofs.dispatch.Turns.{turns-none, turns-out, turns-on, turns-end, turn-stays, fit-turns}
+
+-- a result that is not "the count ran out"
+abbrev Other : Dispatched → Type 0
+Other r = (next : ℕ) → r ≢ RanOut next
+
+ended-other : (j : ℕ) (a : Answer) → Other (endedBy j a)
+unfolding endedBy
+ended-other j a =
+    cases Other (leb (numberOf a) 4) _ _
+    (λ l next e. let z : _≡_ {A = ℕ} 0 1 = cc in omega arith)
+    (λ l next e. let z : _≡_ {A = ℕ} 0 1 = cc in omega arith)
+
+module _ (g : Settings) where
+  -- so far: the words are fit, the worker is one of the pool's, and from there it goes on
+  record On (ws : List ℕ) (i k : ℕ) (vs : List ℕ) (next : ℕ) : Type 0 where
+    fit : checkedOf vs ≡ Fit g
+    among : next < g .workers
+    more : (b : ℕ) → turnsOf ws g i (k + b) ≡ turnsOf vs g next b
+
+  -- one turn more before it
+  on-more : (ws : List ℕ) (i j k : ℕ) → turnFrom ws g i ≡ Worker j → numberOf (stepOf ws j .answer) ≡ 0 → (vs : List ℕ) (next : ℕ)
+      → On (stepOf ws j .words) (workerAfter g j) k vs next → On ws i (suc k) vs next
+  on-more ws i j k turn z vs next x =
+      record {
+        fit = x .fit;
+        among = x .among;
+        more = λ b.
+            let first : suc k + b ≡ suc (k + b) = omega arith in
+            let less : suc (k + b) - 1 ≡ k + b = omega arith in
+            rw first ((rw less at (turns-on ws g i j (suc (k + b)) (omega arith) turn (stepOf ws j) refl z)) ∙ x .more b);
+      }
+
+  turns-go-on : (k : ℕ) (ws : List ℕ) (i next : ℕ) → checkedOf ws ≡ Fit g → i < g .workers → turnsOf ws g i k .result ≡ RanOut next
+      → On ws i k (turnsOf ws g i k .words) next
+  turns-go-on zero ws i next fit l e = by (turnFrom ws g i) refl
+    where
+      by : (t : Turn) → turnFrom ws g i ≡ t → On ws i 0 (turnsOf ws g i 0 .words) next
+      by Nobody u =
+          let none = ap (λ (o : DispatchOut). o .result) (turns-none ws g i 0 u) in
+          let z : _≡_ {A = ℕ} 0 1 = cc in
+          absurd (omega arith)
+      by (Worker j) u =
+          let out = turns-out ws g i j 0 refl u in
+          let result = ap (λ (o : DispatchOut). o .result) out in
+          let same : i ≡ next = cc in
+          rw out (subst (On ws i 0 ws) same (record { fit = fit; among = l; more = λ b. rw (zero-add b) refl }))
+  turns-go-on (suc k) ws i next fit l e =
+      by (turnFrom ws g i) refl (λ j z. turns-go-on k (stepOf ws j .words) (workerAfter g j) next (turn-stays ws g fit j z .fit) (mod-lt _ (omega arith)))
+    where
+      Rest : Type 0
+      Rest =
+          (j : ℕ) → numberOf (stepOf ws j .answer) ≡ 0 → turnsOf (stepOf ws j .words) g (workerAfter g j) k .result ≡ RanOut next
+          → On (stepOf ws j .words) (workerAfter g j) k (turnsOf (stepOf ws j .words) g (workerAfter g j) k .words) next
+
+      by : (t : Turn) → turnFrom ws g i ≡ t → Rest → On ws i (suc k) (turnsOf ws g i (suc k) .words) next
+      by Nobody u rest =
+          let none = ap (λ (o : DispatchOut). o .result) (turns-none ws g i (suc k) u) in
+          let z : _≡_ {A = ℕ} 0 1 = cc in
+          absurd (omega arith)
+      by (Worker j) u rest = elim (ℕ-discrete (numberOf (stepOf ws j .answer)) 0) [
+        | yes z ↦
+            let less : suc k - 1 ≡ k = omega arith in
+            let come : turnsOf ws g i (suc k) ≡ turnsOf (stepOf ws j .words) g (workerAfter g j) k =
+            rw less at (turns-on ws g i j (suc k) (omega arith) u (stepOf ws j) refl z) in
+            rw come (on-more ws i j k u z _ next (rest j z (rw come at e)))
+        | no n ↦
+            let come = ap (λ (o : DispatchOut). o .result) (turns-end ws g i j (suc k) (omega arith) u (stepOf ws j) refl n) in
+            absurd (ended-other j (stepOf ws j .answer) next (sym come ∙ e))
+      ]
+
+-- ---- the call
+-- a fit pool and a worker of its, or refused at once
+module _ (ws : List ℕ) (i steps next : ℕ) (e : dispatchOf ws i steps .result ≡ RanOut next) where
+  pub record Begins : Type 0 where
+    pub settings : Settings
+    pub fit : checkedOf ws ≡ Fit settings
+    pub among : i < settings .workers
+
+  not-refused : (n : ℕ) → Refused n ≢ RanOut next
+  not-refused n u = let z : _≡_ {A = ℕ} 0 1 = cc in omega arith
+
+  begins : Begins
+  unfolding dispatchOf checkedDispatch fitDispatch cond
+  begins = by (checkedOf ws) refl e
+    where
+      by : (c : Checked) → checkedOf ws ≡ c → checkedDispatch ws c i steps .result ≡ RanOut next → Begins
+      by (Unfit n) fit u = absurd (not-refused n u)
+      by (Fit g) fit u = elim (decLt i (g .workers)) [
+        | yes l ↦ record { settings = g; fit = fit; among = l }
+        | no l ↦ absurd (not-refused 24 ((ap (λ (b : Bool). cond b (dispatched (Refused 24) ws) (turnsOf ws g i steps) .result) (sym (le-leb (g .workers) i (omega arith)))) ∙ u))
+      ]
+
+pub dispatch-goes-on : DispatchGoesOn
+dispatch-goes-on ws i steps more next e =
+    let b = begins ws i steps next e in
+    let g : Settings = b .settings in
+    let here = fit-turns ws g (b .fit) i in
+    let on = turns-go-on g steps ws i next (b .fit) (b .among) (sym (ap (λ (o : DispatchOut). o .result) (here steps (b .among))) ∙ e) in
+    rw (here (steps + more) (b .among), here steps (b .among)) (on .more more ∙ sym (fit-turns (turnsOf ws g i steps .words) g (on .fit) next more (on .among)))
