@@ -80,7 +80,7 @@ extern "C" {
  * Of so many steps in a row that are not refused, on a queue from pool_make, by any workers in any order and with begins between them, at least
  * one answers 1 to 4. So a pool_dispatch with this count finishes an operation of such a queue, where a worker is busy and the step count has as
  * many left. The second is the closest. A stack has no such number: where its shift is its depth, two workers can move its window up and down
- * as long as the step count lets them (examples/runs, stack-endless). Proved: crates/rules/specs/Stretch.antt.
+ * as long as the step count lets them (examples/runs, stack-endless). Proved: crates/stretch/specs/Stretch.antt.
  */
 #define POOL_STEPS_TO_ANSWER(width, workers) (6u * (workers) * ((width) + 1u) + 1u)
 #define POOL_STEPS_TO_ANSWER_CLOSEST(width, workers)                                                                                        \

@@ -27,7 +27,7 @@ use Rattle.rules.specs.Apply.{putItem, putSub, putLanded, putShifted, putWorker
 use Rattle.rules.specs.Step.{ruleBy, ruleOf, slotStep, fitStep, checkedStep, stepOf}
 use Rattle.rules.specs.Sequential.{putting, taking, mostPassed, leastFull}
 use Rattle.rules.specs.Solo.{soloSteps}
-use Rattle.rules.specs.Stretch.{k7Stretch, exactStretch, countedSteps}
+use Rattle.stretch.specs.Stretch.{k7Stretch, exactStretch, countedSteps}
 use Rattle.rules.specs.Newer.{k14Bound, frameworkBound, thesisBound, exactBound}
 use Rattle.rules.specs.Run.{callOf, run}
 use Rattle.rules.specs.declared.Settings.{Settings}

@@ -6,7 +6,7 @@ use mathlib.Core.List.{List, [], _∷_, _++_, map}
 use lib.ListN.{replicate}
 use Rattle.rules.specs.Answers.{numberOf}
 use Rattle.rules.specs.Run.{Call, Event}
-use Rattle.rules.specs.Stretch.{stretch, countedSteps}
+use Rattle.stretch.specs.Stretch.{stretch, countedSteps}
 use Rattle.runs.specs.Rows.{Row, eventsOf}
 use Rattle.runs.specs.Notation.{queue, stack, runs, steps, put, take, landed, taken, plain}
 

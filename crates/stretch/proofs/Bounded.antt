@@ -6,18 +6,18 @@ use mathlib.Core.List.{List, [], _∷_}
 use Prim.Native.Nat.{ℕ, suc, _+_, _*_, _≤_}
 use native.Mathlib.Nat.{le-refl}
 use native.Mathlib.Omega.{arith}
 use Rattle.rules.specs.Limits.{settingsFit}
 use Rattle.rules.specs.Run.{Call, step, Event, run, Final}
-use Rattle.rules.specs.Stretch.{countedCall, countedSteps, Finishes}
-use Rattle.rules.proofs.Types.{Settings}
+use Rattle.stretch.specs.Stretch.{countedCall, countedSteps, Finishes}
+use Rattle.stretch.proofs.Types.{Settings}
 use Rattle.rules.proofs.counts.Sums.{sumN}
 use Rattle.rules.proofs.machine.Machine.{State, nextIn}
 use Rattle.rules.proofs.machine.Good.{Good}
 use Rattle.rules.proofs.queue.Turn.{queueKind, queue-inv}
 use Rattle.rules.proofs.Transfer.{Related, next-related}
 use Rattle.rules.proofs.progress.Law.{twice}
-use Rattle.rules.proofs.stretch.Owed.{Debts}
-use Rattle.rules.proofs.stretch.Debts.{Account, pays, answers, account}
+use Rattle.stretch.proofs.Owed.{Debts}
+use Rattle.stretch.proofs.Debts.{Account, pays, answers, account}
 
 -- a final answer among the events, or at most so many counted steps
 abbrev pub Bounded : ℕ → List Event → Type 0

@@ -1,11 +1,11 @@
 -- A window that moves leaves nobody more than before: every sub had reached it, so nobody was low, and what was fresh is low now.
 use mathlib.Core.Logic.{inl, inr}
 use Prim.Native.Nat.{ℕ, _<_}
-use Rattle.rules.proofs.Types.{Settings, Putting, Taking, Phase, Idle, Window, QueuePutRead, QueueTakeRead, StackRead, Check, QueueCommit, StackCommit, QueueShift, StackShift, Confirm}
+use Rattle.stretch.proofs.Types.{Settings, Putting, Taking, Phase, Idle, Window, QueuePutRead, QueueTakeRead, StackRead, Check, QueueCommit, StackCommit, QueueShift, StackShift, Confirm}
 use Rattle.rules.proofs.machine.Machine.{State}
 use Rattle.rules.proofs.progress.QueueLeft.{Low, Ready, PutWindow, PutRead, PutCommit, PutShift, TakeWindow, TakeRead, TakeCommit, TakeShift, TakeConfirm, Left, queueLeft}
 use Rattle.rules.proofs.progress.QueueResult.{Moved, still, up, on}
-use Rattle.rules.proofs.stretch.Owed.{Owes}
+use Rattle.stretch.proofs.Owed.{Owes}
 
 -- ---- the put window
 module _ (g : Settings) (top raised : ℕ) (put : ℕ → ℕ) (not-low : Low g top put → ⊥) (now-low : Low g raised put) where

@@ -3,9 +3,9 @@ use mathlib.Core.Path.{_≡_, refl, ap, _∙_}
 use mathlib.Core.List.{List, [], _∷_}
 use Prim.Native.Nat.{ℕ, zero, suc}
 use lib.ListN.{take, drop}
 use Rattle.rules.specs.Run.{Call, callOf, run}
 use Rattle.rules.specs.Consequences.{wordsAfter}
-use Rattle.rules.specs.Stretch.{stretch}
+use Rattle.stretch.specs.Stretch.{stretch}
 
 pub run-drop : (ws : List ℕ) (cs : List Call) (p : ℕ) → drop p (run ws cs) ≡ run (wordsAfter ws (take p cs)) (drop p cs)
 unfolding run wordsAfter

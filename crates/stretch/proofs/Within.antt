@@ -10,26 +10,26 @@ use mathlib.Core.List.{List}
 use Prim.Native.Nat.{ℕ, zero, suc, _+_, _-_, _*_, _≤_, _<_}
 use native.Mathlib.Decide.{ℕ-discrete}
 use native.Mathlib.Omega.{arith}
 use Rattle.rules.specs.Limits.{settingsFit}
 use Rattle.rules.specs.Sequential.{putting, taking}
 use Rattle.rules.specs.Run.{Call, run}
-use Rattle.rules.specs.Stretch.{countedSteps, Finishes}
-use Rattle.rules.proofs.Types.{Settings}
+use Rattle.stretch.specs.Stretch.{countedSteps, Finishes}
+use Rattle.stretch.proofs.Types.{Settings}
 use Rattle.rules.proofs.counts.Sums.{upd, upd-same, upd-other, upd-all, sumN, sum-zero, sum-within, sum-swap, times-pred}
 use Rattle.rules.proofs.order.Law.{Status, idle, pending, tried}
 use Rattle.rules.proofs.machine.Machine.{State}
 use Rattle.rules.proofs.machine.Good.{Good}
 use Rattle.rules.proofs.machine.Turns.{statusIn}
 use Rattle.rules.proofs.queue.Inv.{Inv}
 use Rattle.rules.proofs.queue.Turn.{queue-inv}
 use Rattle.rules.proofs.progress.QueueResult.{openPut, putIn, Filled}
 use Rattle.rules.proofs.progress.Law.{twice}
-use Rattle.rules.proofs.stretch.Owed.{OwesIn, Debts, mostOwed, put-owes}
-use Rattle.rules.proofs.stretch.Bounded.{Bounded, bounded-by-debts}
-use Rattle.rules.proofs.stretch.Stocked.{PutOpen}
-use Rattle.rules.proofs.stretch.Lead.{Lead, leadDebts, all-owe}
-use Rattle.rules.proofs.stretch.Past.{once, Reached}
-use Rattle.rules.proofs.stretch.Calm.{calm-stretch}
+use Rattle.stretch.proofs.Owed.{OwesIn, Debts, mostOwed, put-owes}
+use Rattle.stretch.proofs.Bounded.{Bounded, bounded-by-debts}
+use Rattle.stretch.proofs.Stocked.{PutOpen}
+use Rattle.stretch.proofs.Lead.{Lead, leadDebts, all-owe}
+use Rattle.stretch.proofs.Past.{once, Reached}
+use Rattle.stretch.proofs.Calm.{calm-stretch}
 
 -- ---- is a put under way?
 put-or-none : (st : Status) → (openPut st ≡ 1) ⊎ (openPut st ≡ 0)

@@ -11,31 +11,31 @@ use native.Mathlib.Omega.{arith}
 use lib.ListN.{getD}
 use borrow.Author.Tests.{le-leb}
 use Rattle.laws.specs.Choice.{cond}
 use Rattle.rules.specs.Answers.{numberOf}
 use Rattle.rules.specs.Layout.{stepsAt}
 use Rattle.rules.specs.Limits.{settingsFit, stepLimit}
 use Rattle.rules.specs.Fit.{checkedOf}
 use Rattle.rules.specs.Step.{stepOf}
 use Rattle.rules.specs.Run.{Call, step, callOf, run, at, Final}
 use Rattle.rules.specs.Dispatch.{DispatchOut, Busy, workerAfter, turnFrom, endedBy, turnsOf, dispatchOf}
-use Rattle.rules.specs.Stretch.{exactStretch, countedSteps, FinishesIn, DispatchFinishes, DispatchK7}
-use Rattle.rules.proofs.Types.{Settings}
+use Rattle.stretch.specs.Stretch.{exactStretch, countedSteps, FinishesIn, DispatchFinishes, DispatchK7}
+use Rattle.stretch.proofs.Types.{Settings}
 use Rattle.rules.specs.declared.Checked.the-variants.{Fit}
 use Rattle.rules.specs.declared.Turn.the-variants.{Worker}
 use Rattle.rules.proofs.machine.Machine.{State, nextIn}
 use Rattle.rules.proofs.machine.Good.{Good, good}
 use Rattle.rules.proofs.queue.Turn.{queueKind, queue-inv}
 use Rattle.rules.proofs.words.Made.{accepted}
 use Rattle.rules.proofs.words.Stores.{number-same}
 use Rattle.rules.proofs.words.Fit.{checked-fit}
 use Rattle.rules.proofs.Transfer.{Related, Next-related, next-related}
 use Rattle.rules.proofs.progress.Steps.{Result, finishes, goes}
 use Rattle.rules.proofs.progress.QueueLeft.{queueLeft}
-use Rattle.rules.proofs.stretch.Acts.{busy-step}
-use Rattle.rules.proofs.stretch.Owed.{mostOwed}
-use Rattle.rules.proofs.stretch.Past.{Reached, reached}
-use Rattle.rules.proofs.stretch.Theorem.{finishes-within, exact-k7}
+use Rattle.stretch.proofs.Acts.{busy-step}
+use Rattle.stretch.proofs.Owed.{mostOwed}
+use Rattle.stretch.proofs.Past.{Reached, reached}
+use Rattle.stretch.proofs.Theorem.{finishes-within, exact-k7}
 use Rattle.rules.proofs.dispatch.Turns.{HasTurn, has-turn, busy-found, turns-on, turns-end, turn-stays, fit-turns}
 
 -- ---- steps none of which is final
 pub record Unfinished (ws : List ℕ) (m : ℕ) : Type 0 where

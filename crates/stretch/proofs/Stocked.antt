@@ -7,17 +7,17 @@ use Prim.Native.Nat.{ℕ, _+_, _≤_, _<_}
 use native.Mathlib.Nat.{le-refl}
 use native.Mathlib.Decide.{ℕ-discrete}
 use native.Mathlib.Omega.{arith}
 use Rattle.rules.specs.Sequential.{Contents}
 use Rattle.rules.specs.Run.{Call}
-use Rattle.rules.proofs.Types.{Settings, Side, Idle}
+use Rattle.stretch.proofs.Types.{Settings, Side, Idle}
 use Rattle.rules.proofs.counts.Wraps.{multiple-lt}
 use Rattle.rules.proofs.order.Law.{Next}
 use Rattle.rules.proofs.machine.Machine.{State, phaseIn}
 use Rattle.rules.proofs.machine.Calls.{begun}
 use Rattle.rules.proofs.queue.Inv.{Inv}
 use Rattle.rules.proofs.progress.QueueLeft.{Ready}
 use Rattle.rules.proofs.progress.QueueResult.{putIn, Moved, still, up, on, Filled, Ended, filled, taken}
-use Rattle.rules.proofs.stretch.Acts.{Acts, put-begun-other, put-idle}
+use Rattle.stretch.proofs.Acts.{Acts, put-begun-other, put-idle}
 
 -- ---- a step that is not final is a put's, or what was filled still is; and where the take window is below the put window, it was before
 pub record Keeps (g : Settings) (s t : State) : Type 0 where

@@ -10,17 +10,17 @@ use lib.ListN.{take, drop}
 use lib.Dec.{eqb}
 use borrow.Author.Tests.{eqb-true, eqb-false}
 use Rattle.laws.specs.Choice.{cases}
 use Rattle.rules.specs.Limits.{settingsFit}
 use Rattle.rules.specs.Make.{makeOf}
 use Rattle.rules.specs.Run.{Call, run}
-use Rattle.rules.specs.Stretch.{k7Stretch, exactStretch, countedSteps, Finishes, K7, StretchExact}
-use Rattle.rules.proofs.Types.{Settings}
+use Rattle.stretch.specs.Stretch.{k7Stretch, exactStretch, countedSteps, Finishes, K7, StretchExact}
+use Rattle.stretch.proofs.Types.{Settings}
 use Rattle.rules.proofs.counts.Sums.{times-pred}
 use Rattle.rules.proofs.machine.Good.{Good, good}
 use Rattle.rules.proofs.words.Made.{accepted}
-use Rattle.rules.proofs.stretch.Past.{Reached, reached}
-use Rattle.rules.proofs.stretch.Parts.{run-stretch}
-use Rattle.rules.proofs.stretch.Within.{owedWorst, owedCalm, finishes-beyond}
+use Rattle.stretch.proofs.Past.{Reached, reached}
+use Rattle.stretch.proofs.Parts.{run-stretch}
+use Rattle.stretch.proofs.Within.{owedWorst, owedCalm, finishes-beyond}
 
 -- ---- the figures
 module _ (g : Settings) (good : Good g) (kind : g .kind ≡ 0) where

@@ -6,20 +6,20 @@ use Prim.Native.Nat.{ℕ, _+_, _≤_, _<_}
 use native.Mathlib.Decide.{ℕ-discrete}
 use native.Mathlib.Nat.{le-refl}
 use native.Mathlib.Omega.{arith}
 use Rattle.rules.specs.Sequential.{Contents}
 use Rattle.rules.specs.Run.{Call}
-use Rattle.rules.proofs.Types.{Settings, Putting, Taking, Idle}
+use Rattle.stretch.proofs.Types.{Settings, Putting, Taking, Idle}
 use Rattle.rules.proofs.counts.Sums.{upd, upd-same, upd-all}
 use Rattle.rules.proofs.machine.Machine.{State, phaseIn, nextIn}
 use Rattle.rules.proofs.machine.Calls.{begun}
 use Rattle.rules.proofs.machine.Good.{Good}
 use Rattle.rules.proofs.machine.Turns.{Common}
 use Rattle.rules.proofs.queue.Inv.{Inv}
 use Rattle.rules.proofs.progress.QueueLeft.{Ready}
 use Rattle.rules.proofs.progress.QueueResult.{putIn}
-use Rattle.rules.proofs.stretch.Owed.{OwesIn, Debts, mostOwed, owes-most, begun-put-owes}
-use Rattle.rules.proofs.stretch.Acts.{Acts, acts, put-begun, put-begun-other, put-idle}
-use Rattle.rules.proofs.stretch.Debts.{Account, account}
+use Rattle.stretch.proofs.Owed.{OwesIn, Debts, mostOwed, owes-most, begun-put-owes}
+use Rattle.stretch.proofs.Acts.{Acts, acts, put-begun, put-begun-other, put-idle}
+use Rattle.stretch.proofs.Debts.{Account, account}
 
 pub record Lead (g : Settings) (L : ℕ) (s : State) : Type 0 where
   pub who : ℕ

@@ -6,19 +6,19 @@ use mathlib.Core.Logic.{_≢_, _⊎_, inl, inr}
 use Prim.Native.Nat.{ℕ, zero, suc, _+_, _*_, _≤_, _<_, max}
 use native.Mathlib.Nat.{le-refl}
 use native.Mathlib.Omega.{arith}
 use Rattle.rules.specs.Worker.{phaseOf, fresh}
 use Rattle.rules.specs.Sequential.{Contents}
-use Rattle.rules.proofs.Types.{Settings, Side, Putting, Taking, Phase, Idle, Window, QueuePutRead, QueueTakeRead, StackRead, Check, QueueCommit, StackCommit, QueueShift, StackShift, Confirm, Slot}
+use Rattle.stretch.proofs.Types.{Settings, Side, Putting, Taking, Phase, Idle, Window, QueuePutRead, QueueTakeRead, StackRead, Check, QueueCommit, StackCommit, QueueShift, StackShift, Confirm, Slot}
 use Rattle.rules.proofs.counts.Sums.{upd-other}
 use Rattle.rules.proofs.machine.Machine.{State, subIn, phaseIn}
 use Rattle.rules.proofs.machine.Phases.{statusOf}
 use Rattle.rules.proofs.machine.Calls.{begun}
 use Rattle.rules.proofs.machine.Good.{Good}
 use Rattle.rules.proofs.queue.Inv.{TakeReads, Knows, Inv}
 use Rattle.rules.proofs.progress.Clean.{clean-none}
 use Rattle.rules.proofs.progress.Steps.{at-begun}
 use Rattle.rules.proofs.progress.QueueLeft.{PutWindow, PutRead, PutCommit, PutShift, TakeWindow, TakeRead, TakeCommit, TakeShift, TakeConfirm, queueLeft}
 use Rattle.rules.proofs.progress.QueueResult.{openPut, putIn}
 
 pub record Rests (g : Settings) (L n : ℕ) (p : Phase) : Type 0 where
   pub idle : p ≡ Idle

@@ -1,4 +1,5 @@
 -- K7: how many counted steps of a queue's run may go without a final answer.
+pub mod Types
 pub mod Owed
 pub mod Kept
 pub mod Acts
@@ -11,3 +12,4 @@ pub mod Calm
 pub mod Parts
 pub mod Within
 pub mod Theorem
+pub mod Dispatch

@@ -9,29 +9,29 @@ use native.Mathlib.Omega.{arith}
 use lib.Dec.{leb}
 use borrow.Author.Tests.{leb-true}
 use Rattle.laws.specs.Choice.{cases}
 use Rattle.rules.specs.Answers.{numberOf}
 use Rattle.rules.specs.Worker.{phaseOf}
 use Rattle.rules.specs.Step.{ruleOf}
 use Rattle.rules.specs.Sequential.{Contents}
 use Rattle.rules.specs.Run.{Call, beginPut, beginTake, step, Final}
-use Rattle.rules.specs.Stretch.{countedCall}
-use Rattle.rules.proofs.Types.{Settings, Side, Putting, Taking, Idle, Slot, Answer}
+use Rattle.stretch.specs.Stretch.{countedCall}
+use Rattle.stretch.proofs.Types.{Settings, Side, Putting, Taking, Idle, Slot, Answer}
 use Rattle.rules.specs.declared.Answer.the-variants.{Moving, Refused}
 use Rattle.rules.proofs.counts.Sums.{upd, upd-same, upd-other, upd-all, sumN, sum-bump}
 use Rattle.rules.proofs.order.Law.{Next}
 use Rattle.rules.proofs.machine.Machine.{State, next, subIn, viewIn, phaseIn, applyIn, nextIn, apply-other}
 use Rattle.rules.proofs.machine.Phases.{idle-phase}
 use Rattle.rules.proofs.machine.Calls.{Called, refuses, does, Steps, Begins, step-called, begun, begin-called}
 use Rattle.rules.proofs.machine.Good.{Good}
 use Rattle.rules.proofs.machine.Turns.{Common}
 use Rattle.rules.proofs.machine.Slots.{not-idle}
 use Rattle.rules.proofs.queue.Inv.{Inv}
 use Rattle.rules.proofs.progress.Steps.{Goes}
 use Rattle.rules.proofs.progress.QueueLeft.{Ready, queueLeft}
 use Rattle.rules.proofs.progress.QueueResult.{Moved, QueueResult, moves, ends}
 use Rattle.rules.proofs.progress.QueueSteps.{queue-step}
-use Rattle.rules.proofs.stretch.Owed.{Owes, OwesIn, Debts, begun-owes, begun-others}
-use Rattle.rules.proofs.stretch.Kept.{owes-kept}
+use Rattle.stretch.proofs.Owed.{Owes, OwesIn, Debts, begun-owes, begun-others}
+use Rattle.stretch.proofs.Kept.{owes-kept}
 
 counted-le : (i : ℕ) (a : Answer) → countedCall (step i) a ≤ 1
 counted-le i a = cases (λ (n : ℕ). n ≤ 1) (leb (numberOf a) 4) 1 0 (λ e. omega arith) (λ e. omega arith)

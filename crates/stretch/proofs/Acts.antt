@@ -6,31 +6,31 @@ use Prim.Native.Nat.{ℕ, _*_, _<_}
 use native.Mathlib.Decide.{ℕ-discrete}
 use native.Mathlib.Nat.{le-refl}
 use native.Mathlib.Omega.{arith}
 use Rattle.rules.specs.Answers.{numberOf}
 use Rattle.rules.specs.Worker.{phaseOf, fresh, zeroSlot}
 use Rattle.rules.specs.Step.{ruleOf}
 use Rattle.rules.specs.Sequential.{putting, taking, Contents}
 use Rattle.rules.specs.Run.{Call, beginPut, beginTake, step, Final}
-use Rattle.rules.specs.Stretch.{countedCall}
-use Rattle.rules.proofs.Types.{Settings, Side, Putting, Taking, Idle, Window, Slot}
+use Rattle.stretch.specs.Stretch.{countedCall}
+use Rattle.stretch.proofs.Types.{Settings, Side, Putting, Taking, Idle, Window, Slot}
 use Rattle.rules.specs.declared.Answer.the-variants.{Moving}
 use Rattle.rules.proofs.counts.Sums.{upd-same, upd-other}
 use Rattle.rules.proofs.order.Law.{Next, refused, opened, walks, tries, stays, loses, ends as ends-here, wins}
 use Rattle.rules.proofs.machine.Machine.{State, next, subIn, viewIn, phaseIn, applyIn, nextIn, apply-other}
 use Rattle.rules.proofs.machine.Phases.{statusOf, idle-phase, window-phase}
 use Rattle.rules.proofs.machine.Calls.{Called, refuses, does, able-does, Steps, Begins, step-called, begun, begin-called}
 use Rattle.rules.proofs.machine.Good.{Good}
 use Rattle.rules.proofs.machine.Turns.{Common, Turned}
 use Rattle.rules.proofs.machine.Slots.{not-idle}
 use Rattle.rules.proofs.machine.Ways.{Snap}
 use Rattle.rules.proofs.queue.Inv.{Inv, putsIn}
 use Rattle.rules.proofs.queue.Turn.{stepped}
 use Rattle.rules.proofs.progress.Steps.{Result}
 use Rattle.rules.proofs.progress.QueueLeft.{queueLeft}
 use Rattle.rules.proofs.progress.QueueResult.{openPut, putIn, Moved, Ended, QueueResult, moves, ends, result}
 use Rattle.rules.proofs.progress.QueueSteps.{queue-step}
 use Rattle.rules.proofs.progress.Law.{twice}
-use Rattle.rules.proofs.stretch.Owed.{OwesIn, mostOwed, owes-most}
+use Rattle.stretch.proofs.Owed.{OwesIn, mostOwed, owes-most}
 
 pub data Acts (g : Settings) (s : State) (c : Call) (o : Next State) : Type 0 where
   same : o .state ≡ s → Acts g s c o

@@ -9,27 +9,27 @@ use Prim.Native.Nat.{ℕ, _+_, _-_, _*_, _≤_, _<_}
 use native.Mathlib.Nat.{le-refl}
 use native.Mathlib.Decide.{ℕ-discrete}
 use native.Mathlib.Omega.{arith}
 use Rattle.rules.specs.Limits.{settingsFit}
 use Rattle.rules.specs.Sequential.{Contents}
 use Rattle.rules.specs.Run.{Call, step, Event, run, Final}
-use Rattle.rules.specs.Stretch.{countedCall}
-use Rattle.rules.proofs.Types.{Settings, Putting, Taking, Idle}
+use Rattle.stretch.specs.Stretch.{countedCall}
+use Rattle.stretch.proofs.Types.{Settings, Putting, Taking, Idle}
 use Rattle.rules.proofs.counts.Sums.{upd, upd-all, sumN, sum-swap}
 use Rattle.rules.proofs.machine.Machine.{State, phaseIn, nextIn}
 use Rattle.rules.proofs.machine.Calls.{begun}
 use Rattle.rules.proofs.machine.Good.{Good}
 use Rattle.rules.proofs.machine.Turns.{Common}
 use Rattle.rules.proofs.queue.Inv.{Inv}
 use Rattle.rules.proofs.queue.Turn.{queueKind, queue-inv}
 use Rattle.rules.proofs.Transfer.{Related, next-related}
 use Rattle.rules.proofs.progress.QueueResult.{putIn, Filled, Moved}
 use Rattle.rules.proofs.progress.Law.{twice}
-use Rattle.rules.proofs.stretch.Owed.{OwesIn, Debts, begun-others, begun-put-owes}
-use Rattle.rules.proofs.stretch.Acts.{Acts, acts, put-begun, put-begun-other}
-use Rattle.rules.proofs.stretch.Debts.{Pays, Account, account}
-use Rattle.rules.proofs.stretch.Bounded.{Bounded, finishes-here, bounded-more, bounded-none, bounded-by-debts}
-use Rattle.rules.proofs.stretch.Stocked.{Keeps, put-or-keeps, ready-filled}
-use Rattle.rules.proofs.stretch.Past.{once}
+use Rattle.stretch.proofs.Owed.{OwesIn, Debts, begun-others, begun-put-owes}
+use Rattle.stretch.proofs.Acts.{Acts, acts, put-begun, put-begun-other}
+use Rattle.stretch.proofs.Debts.{Pays, Account, account}
+use Rattle.stretch.proofs.Bounded.{Bounded, finishes-here, bounded-more, bounded-none, bounded-by-debts}
+use Rattle.stretch.proofs.Stocked.{Keeps, put-or-keeps, ready-filled}
+use Rattle.stretch.proofs.Past.{once}
 
 -- no put is under way, and a take window below the put window finds an item when it moves
 pub record Calm (g : Settings) (s : State) : Type 0 where

@@ -13,25 +13,25 @@ use native.Mathlib.Nat.{le-refl}
 use native.Mathlib.Omega.{arith}
 use lib.Dec.{eqb}
 use Rattle.laws.specs.Choice.{cond, cond-true}
 use Rattle.rules.specs.Limits.{settingsFit}
 use Rattle.rules.specs.Make.{makeOf}
 use Rattle.rules.specs.Sequential.{Contents}
 use Rattle.rules.specs.Run.{Call}
 use Rattle.rules.specs.Consequences.{wordsAfter}
-use Rattle.rules.proofs.Types.{Settings, Idle}
+use Rattle.stretch.proofs.Types.{Settings, Idle}
 use Rattle.rules.proofs.machine.Machine.{State, phaseIn, nextIn, madeIn}
 use Rattle.rules.proofs.machine.Phases.{idle-phase}
 use Rattle.rules.proofs.machine.Good.{Good}
 use Rattle.rules.proofs.machine.Turns.{Common}
 use Rattle.rules.proofs.queue.Inv.{Inv}
 use Rattle.rules.proofs.queue.Turn.{queueKind, queue-inv}
 use Rattle.rules.proofs.words.Made.{Accepted}
 use Rattle.rules.proofs.Transfer.{Related, next-related, made-related}
 use Rattle.rules.proofs.progress.QueueResult.{Filled}
 use Rattle.rules.proofs.progress.Law.{twice}
-use Rattle.rules.proofs.stretch.Acts.{Acts, acts}
-use Rattle.rules.proofs.stretch.Stocked.{PutOpen, put-open-begins, put-open-goes, Stocked, stocked-next, ready-filled}
-use Rattle.rules.proofs.stretch.Lead.{Lead, idle-leads, lead-next}
+use Rattle.stretch.proofs.Acts.{Acts, acts}
+use Rattle.stretch.proofs.Stocked.{PutOpen, put-open-begins, put-open-goes, Stocked, stocked-next, ready-filled}
+use Rattle.stretch.proofs.Lead.{Lead, idle-leads, lead-next}
 
 pub record Past (g : Settings) (s : State) : Type 0 where
   pub lead : Lead g (2 * g .width) s

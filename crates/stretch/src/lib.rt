@@ -1,0 +1,1 @@
+// How long a queue's workers go without an answer: see specs/Stretch.antt.
