@@ -1,5 +1,5 @@
 -- Stretches without a final answer: three of queues, as long as K7's exact figure says, so that it cannot be lower there; and one of a stack that is
--- longer than K7's figure, and could go on for ever. The same runs, with a word on each turn, are texts in examples/runs.
+-- longer than K7's figure, and could go on until the step count is spent. The same runs, with a word on each turn, are texts in examples/runs.
 use Prim.Native.Nat.{ℕ}
 use mathlib.Core.Path.{_≡_}
 use mathlib.Core.List.{List, [], _∷_, _++_, map}
