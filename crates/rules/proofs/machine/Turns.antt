@@ -20,30 +20,31 @@
 -- `apply-shifted`, `apply-empty`, `apply-full` (Machine) say what `applyIn` makes of it, and `applyIn applyInBy` unfold for
 -- a landed or removed item. A slot `encode k o` is in phase `k .phase` by `queue-phase` or `stack-phase` (Phases), with
 -- `encode-value` and `encode-index`; so Inv best speaks of `phaseIn g s i` and of `s .slot i .index`, never of the other words.
--- Sums: `add32-is`, `add32-suc`, `sub32-is` (Wraps). Passes: `Summed`, `Pass` (Passes). The list: `Holds` and `find-row`
--- (Held), with `belowIn g s` as the rows not held: `queue-below`, `stack-below` (Cells). Stamps: `Stamped` (Stamps).
+-- Sums: `add32-is`, `add32-suc`, `sub32-is` (Wraps). Passes: `Summed`, `Pass` (Passes). The list: `Holds` (Held)
+-- and `find-row` (Find), with `belowIn g s` as the rows not held: `queue-below`, `stack-below` (Cells). Stamps: `Stamped` (Stamps).
 -- What the specification gives: `gives-put`, `gives-taken`, `gives-empty`, `gives-full` (Gives).
 -- How a step may end, for both kinds, with `Snap` as the pass of a worker in confirm: `by-walk`, `by-try` and the others (Ways).
-use mathlib.Core.Path.{_≡_, refl, ap, _∙_}
+use mathlib.Core.Path.{_≡_, refl, sym, ap, _∙_}
 use mathlib.Core.Logic.{_≢_}
 use mathlib.Core.Bool.{true}
 use Prim.Native.Nat.{ℕ, _+_, _*_, _^_, _≤_, _<_}
 use native.Mathlib.Omega.{arith}
 use Rattle.rules.specs.Answers.{numberOf}
 use Rattle.rules.specs.Worker.{fresh, zeroSlot, phaseOf}
+use Rattle.rules.specs.Held.{passedOver}
 use Rattle.rules.specs.Fit.{phaseFit, SubFits}
 use Rattle.rules.specs.Step.{ruleOf}
-use Rattle.rules.specs.Sequential.{Contents, noItems}
+use Rattle.rules.specs.Sequential.{Contents, noItems, passedBy}
 use Rattle.rules.specs.Run.{Call, beginPut, beginTake, step, begin}
 use Rattle.rules.specs.Consequences.{NoWrap}
 use Rattle.rules.proofs.Types.{Settings, Side, Putting, Taking, Idle, Window, Slot}
 use Rattle.rules.specs.declared.Answer.the-variants.{Moving}
 use Rattle.rules.proofs.counts.Sums.{upd, upd-same, upd-other}
 use Rattle.rules.proofs.order.Law.{Next, Status, pending, Turn, refused, opened, walks, tries, stays, loses, ends, wins}
-use Rattle.rules.proofs.machine.Machine.{State, next, subIn, viewIn, phaseIn, belowIn, applyIn, stepIn, beginIn, nextIn, madeIn}
+use Rattle.rules.proofs.machine.Machine.{State, next, subIn, viewIn, phaseIn, belowIn, distanceIn, applyIn, stepIn, beginIn, nextIn, madeIn}
 use Rattle.rules.proofs.machine.Calls.{Called, refuses, does, Steps, Begins, step-called, begun, begin-called}
 use Rattle.rules.proofs.machine.Phases.{operationOf, statusOf, worker, idle-phase, window-phase, encode-value}
-use Rattle.rules.proofs.counts.Held.{Holds}
+use Rattle.rules.proofs.counts.Held.{Holds, held-count}
 
 -- ---- what every pool from make has, of either kind
 pub record SlotFits (g : Settings) (o : Slot) : Type 0 where
@@ -66,6 +67,12 @@ pub record Counts (g : Settings) (s : State) : Type 0 where
 pub record Holding (g : Settings) (s : State) (q : Contents) : Type 0 where
   pub held : Holds (g .width) (belowIn g s) (s .first) (s .item) (q .items)
   pub count : q .count ≡ s .puts
+
+-- the machine's distance is that of the list
+pub distance-held : (g : Settings) (s : State) (q : Contents) (stamp : ℕ) → ((j : ℕ) → j < g .width → belowIn g s j ≤ s .first j)
+    → Holds (g .width) (belowIn g s) (s .first) (s .item) (q .items) → distanceIn g s stamp ≡ passedBy g q stamp
+unfolding distanceIn
+distance-held g s q stamp o h = sym (held-count h o (passedOver (g .kind) stamp))
 
 -- no sum that a step adds up reaches 2^32, no difference but confirm's passes below 0, and no commit that matches is refused
 pub record Safe (g : Settings) (s : State) : Type 0 where

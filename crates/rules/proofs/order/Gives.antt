@@ -13,7 +13,7 @@ use Rattle.rules.specs.Run.{Final}
 use Rattle.rules.proofs.order.Closest.{Gives}
 use Rattle.rules.proofs.Types.{Settings, Row}
 use Rattle.rules.specs.declared.Answer.the-variants.{Put, Taken, Empty, Full}
-use Rattle.rules.proofs.counts.Held.{RowFound}
+use Rattle.rules.proofs.counts.Find.{RowFound}
 
 module _ (g : Settings) (q : Contents) where
   -- the specification's list after a put of v with the next stamp, and after a take

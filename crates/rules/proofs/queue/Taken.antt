@@ -25,11 +25,12 @@ use Rattle.rules.proofs.Cells.{queue-below}
 use Rattle.rules.proofs.counts.Sums.{upd, upd-same, upd-other, upd-self, upTo, sum-within-but, rows-more, rows-flat, times-pred}
 use Rattle.rules.proofs.machine.Machine.{State, next, subIn, viewIn, phaseIn, belowIn, takenIn, distanceIn, applyIn, applyInBy}
 use Rattle.rules.proofs.counts.Wraps.{add32-suc}
-use Rattle.rules.proofs.counts.Held.{Holds, rowsOf, holds-low, holds-ext, RowFound, find-row, distance-held}
+use Rattle.rules.proofs.counts.Held.{Holds, rowsOf, holds-low, holds-ext}
+use Rattle.rules.proofs.counts.Find.{RowFound, find-row}
 use Rattle.rules.proofs.counts.Stamps.{single}
 use Rattle.rules.proofs.order.Gives.{takenOff, gives-taken, final-taken}
 use Rattle.rules.proofs.machine.Good.{Good, queue-most}
-use Rattle.rules.proofs.machine.Turns.{Common}
+use Rattle.rules.proofs.machine.Turns.{Common, distance-held}
 use Rattle.rules.proofs.queue.Inv.{Windows, Pool, TakeCommits, Knows, Inv, Grown, taken-few}
 use Rattle.rules.proofs.queue.Moves.{Stepped, walk, end}
 
@@ -139,7 +140,7 @@ module _ (g : Settings) (good : Good g) (kind : g .kind ≡ 0) (s : State) (q : 
 
     distance : distanceIn g s (it .stamp) ≡ passedBy g q (it .stamp)
     distance =
-        sym (distance-held g s (q .items) (it .stamp) (λ m l. rw (queue-below g kind (s .second m)) (o .held m l)) (holds-below g kind s q (inv .pool)))
+        distance-held g s q (it .stamp) (λ m l. rw (queue-below g kind (s .second m)) (o .held m l)) (holds-below g kind s q (inv .pool))
 
     distance-le : distanceIn g s (it .stamp) ≤ exactBound g
     distance-le = rw distance (le-trans bounded (queue-most g kind))

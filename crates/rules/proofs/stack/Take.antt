@@ -13,11 +13,12 @@ use Rattle.rules.proofs.Cells.{stack-below}
 use Rattle.rules.proofs.counts.Sums.{upd, upd-same, upd-other, upd-all}
 use Rattle.rules.proofs.machine.Machine.{State, next, subIn, viewIn, phaseIn, takenIn, distanceIn, applyIn, applyInBy}
 use Rattle.rules.proofs.counts.Wraps.{add32-suc, sub32-is}
-use Rattle.rules.proofs.counts.Held.{RowFound, find-row, holds-top, distance-held}
+use Rattle.rules.proofs.counts.Held.{holds-top}
+use Rattle.rules.proofs.counts.Find.{RowFound, find-row}
 use Rattle.rules.proofs.counts.Stamps.{Stamped, single, stamped-less}
 use Rattle.rules.proofs.order.Gives.{takenOff, gives-taken, final-taken}
 use Rattle.rules.proofs.machine.Good.{Good}
-use Rattle.rules.proofs.machine.Turns.{Holding}
+use Rattle.rules.proofs.machine.Turns.{Holding, distance-held}
 use Rattle.rules.proofs.stack.Inv.{Pairs, Inv}
 use Rattle.rules.proofs.stack.After.{version-few, held-le, held-rows, rows-held, Stepping, On}
 use Rattle.rules.proofs.stack.Commit.{live-fits, committed, commits}
@@ -88,7 +89,7 @@ module _ {g : Settings} {s : State} {q : Contents} {i : ℕ} (a : Stepping g s q
 
   distance-is : distanceIn g s (it .stamp) ≡ passedBy g q (it .stamp)
   distance-is =
-      sym (distance-held g s (q .items) (it .stamp) (λ m l. rw (stack-below g (a .kind) (s .second m)) (omega arith)) (a .inv .pool .holding .held))
+      distance-held g s q (it .stamp) (λ m l. rw (stack-below g (a .kind) (s .second m)) (omega arith)) (a .inv .pool .holding .held)
 
   -- ---- the step
   pub apply-removed : applyIn g s i (removedOf (viewIn s i) (sub32 r 1) (add32 (s .second j) 1) r) ≡ next (takenIn g s j r) t
