@@ -1,9 +1,14 @@
 -- The queue's invariant, and why each of its steps keeps it.
 pub mod Inv
+pub mod Others
 pub mod Moves
-pub mod Put
-pub mod Landed
-pub mod Empty
-pub mod Take
-pub mod Taken
+pub mod Window
+pub mod Pass
+pub mod Read
+pub mod CommitPut
+pub mod Distance
+pub mod CommitTake
+pub mod Shift
+pub mod Confirm
+pub mod Safe
 pub mod Turn

@@ -23,7 +23,7 @@ use Rattle.rules.proofs.machine.Phases.{worker, queue-phase}
 use Rattle.rules.proofs.machine.Good.{Good}
 use Rattle.rules.proofs.machine.Turns.{Common}
 use Rattle.rules.proofs.queue.Inv.{TakeCommits, Knows, Inv, sum-few, mark-few}
-use Rattle.rules.proofs.queue.Take.{counted-put}
+use Rattle.rules.proofs.queue.Confirm.{counted-put}
 use Rattle.rules.proofs.progress.Steps.{written, shifts-on}
 use Rattle.rules.proofs.progress.Confirm.{confirm-cases, confirm-some, confirm-more, confirm-ends}
 use Rattle.rules.proofs.progress.QueueLeft.{Low, Ready, TakeWindow, TakeCommit, TakeShift, TakeConfirm, starts-low, queueLeft}

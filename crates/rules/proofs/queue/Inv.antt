@@ -3,20 +3,22 @@
 --
 -- The windows are multiples of the depth; each sub's counts lie in its window, because a window moves only after every sub
 -- was seen to have reached it and counts only grow. So whoever is above a multiple of the depth came after all who are not:
--- that is the order of the stamps. A worker knows what its pass has seen, in a form that growing counts keep.
-use mathlib.Core.Path.{_≡_}
-use mathlib.Core.Logic.{_≢_, _⊎_, inl, inr}
+-- that is the order of the stamps. A worker knows what its pass has seen, in a form that growing counts keep
+-- (Others).
+use mathlib.Core.Path.{_≡_, refl, sym}
+use mathlib.Core.Logic.{_≢_, _⊎_}
 use Prim.Native.Nat.{ℕ, _+_, _*_, _≤_, _<_}
 use native.Mathlib.Nat.{le-trans}
 use native.Mathlib.Omega.{arith}
 use Rattle.rules.specs.Held.{Item}
 use Rattle.rules.specs.Sequential.{Contents}
 use Rattle.rules.proofs.Types.{Settings, Putting, Taking, Phase, Idle, Window, QueuePutRead, QueueTakeRead, StackRead, Check, QueueCommit, StackCommit, QueueShift, StackShift, Confirm}
+use Rattle.rules.proofs.Cells.{queue-below}
 use Rattle.rules.proofs.counts.Sums.{sumN, sum-zero, sum-gap-at}
-use Rattle.rules.proofs.machine.Machine.{State, subIn, phaseIn}
+use Rattle.rules.proofs.machine.Machine.{State, subIn, phaseIn, belowIn}
 use Rattle.rules.proofs.counts.Visits.{Visited}
-use Rattle.rules.proofs.counts.Passes.{Summed, summed-grow}
-use Rattle.rules.proofs.counts.Held.{Holds}
+use Rattle.rules.proofs.counts.Passes.{Summed}
+use Rattle.rules.proofs.counts.Held.{Holds, holds-ext}
 use Rattle.rules.proofs.counts.Stamps.{Stamped}
 use Rattle.rules.proofs.machine.Good.{Good}
 
@@ -83,6 +85,10 @@ module _ {g : Settings} {s : State} {q : Contents} (good : Good g) (o : Pool g s
   pub mark-few : s .mark ≤ 4000000064
   mark-few = le-trans (o .windows .order) top-few
 
+-- ---- the list against the rows above `belowIn`, which in a queue are the rows not taken
+pub holds-below : (g : Settings) → g .kind ≡ 0 → (s : State) (q : Contents) → Pool g s q → Holds (g .width) (belowIn g s) (s .first) (s .item) (q .items)
+holds-below g kind s q o = holds-ext (λ m l. sym (queue-below g kind (s .second m))) (λ m l. refl) (o .holds)
+
 -- ---- the workers
 -- a put that reads
 pub record PutReads (g : Settings) (s : State) (index window scan : ℕ) : Type 0 where
@@ -142,49 +148,3 @@ pub record Inv (g : Settings) (s : State) (q : Contents) : Type 0 where
 -- ---- what a take's pass sums up of each sub
 abbrev pub putsIn : State → ℕ → ℕ
 putsIn s = s .first
-
--- ---- windows and counts only grow, and what a worker knows stays true
-pub record Grown (s t : State) : Type 0 where
-  pub top : s .top ≤ t .top
-  pub mark : s .mark ≤ t .mark
-  pub put : (j : ℕ) → s .first j ≤ t .first j
-  pub taken : (j : ℕ) → s .second j ≤ t .second j
-
-pub read-grown : {g : Settings} {s t : State} {index window bare scan sum : ℕ} → Grown s t
-    → Read g s index window bare scan sum → Read g t index window bare scan sum
-read-grown {g} {s} {t} {index} {window} {bare} {scan} {sum} u k =
-    record {
-      windows = k .windows;
-      window-is = k .window-is;
-      window-le = le-trans (k .window-le) (u .mark);
-      bare-le = k .bare-le;
-      sums = summed-grow (u .put) (k .sums);
-      missed = λ j l v. more j (k .missed j l v);
-      spent = λ e j l v. le-trans (k .spent e j l v) (u .taken j);
-      low = k .low;
-    }
-  where
-    more : (j : ℕ) → ((window ≤ s .second j) ⊎ (k .sums .reads j ≤ s .second j)) → (window ≤ t .second j) ⊎ (k .sums .reads j ≤ t .second j)
-    more j (inl a) = inl (le-trans a (u .taken j))
-    more j (inr a) = inr (le-trans a (u .taken j))
-
-pub knows-grown : (g : Settings) {s t : State} → Grown s t → (index : ℕ) (p : Phase) → Knows g s index p → Knows g t index p
-knows-grown g u index Idle k = k
-knows-grown g u index (Window side) k = k
-knows-grown g u index (QueuePutRead window scan) k =
-    record {
-      scan-lt = k .scan-lt;
-      window-le = le-trans (k .window-le) (u .top);
-      missed = λ j l v. le-trans (k .missed j l v) (u .put j);
-    }
-knows-grown g u index (QueueTakeRead window bare scan sum) k = record { scan-lt = k .scan-lt; read = read-grown u (k .read) }
-knows-grown g u index (StackRead side window version scan sum) k = k
-knows-grown g u index (Check side version seen) k = k
-knows-grown g u index (QueueCommit Putting seen) k = le-trans k (u .top)
-knows-grown g u index (QueueCommit Taking seen) k = record { below = le-trans (k .below) (u .mark); there = le-trans (k .there) (u .put index) }
-knows-grown g u index (StackCommit side seen) k = k
-knows-grown g u index (QueueShift Putting window) k = λ j l. le-trans (k j l) (u .put j)
-knows-grown g u index (QueueShift Taking window) k = λ j l. le-trans (k j l) (u .taken j)
-knows-grown g u index (StackShift side version scan sum) k = k
-knows-grown g u index (Confirm Putting scan sum) k = k
-knows-grown g u index (Confirm Taking scan sum) k = k

@@ -1,8 +1,8 @@
--- The queue as a kind: its invariant holds of a new pool, every begin and every step keeps it, no sum of a queue from make
--- reaches 2^32, and no difference but confirm's passes below 0. Each phase's step is in the file of its operation; here they
--- are put together.
+-- The queue is a kind: its invariant holds of a new pool, every begin and every step keeps it, and each step is a turn of the
+-- placed order. Puts and takes are placed at their commits, "full" at the shift that cannot move; "empty" likewise, or at the read that
+-- sent a take to confirm. Each phase's step is in the file of the phase; here they are put together.
 use mathlib.Core.Path.{_≡_, refl, subst}
-use Prim.Native.Nat.{ℕ, _≤_, _<_}
+use Prim.Native.Nat.{ℕ}
 use native.Mathlib.Nat.{le-refl}
 use native.Mathlib.Omega.{arith}
 use lib.Dec.{eqb}
@@ -11,24 +11,26 @@ use Rattle.rules.specs.Worker.{zeroSlot}
 use Rattle.rules.specs.Effects.{refusedOf}
 use Rattle.rules.specs.Step.{ruleOf, ruleBy}
 use Rattle.rules.specs.Sequential.{Contents, noItems}
-use Rattle.rules.specs.Consequences.{NoWrap}
 use Rattle.rules.proofs.Types.{Settings, Side, Putting, Taking, Phase, Idle, Window, QueuePutRead, QueueTakeRead, StackRead, Check, QueueCommit, StackCommit, QueueShift, StackShift, Confirm}
 use Rattle.rules.proofs.counts.Sums.{sum-zero}
 use Rattle.rules.proofs.order.Law.{refused}
 use Rattle.rules.proofs.machine.Machine.{State, subIn, viewIn, phaseIn, applyIn, applyInBy, madeIn}
 use Rattle.rules.proofs.machine.Phases.{idle-phase, worker}
-use Rattle.rules.proofs.counts.Passes.{summed-more, summed-le}
 use Rattle.rules.proofs.counts.Held.{count-none}
 use Rattle.rules.proofs.machine.Good.{Good}
-use Rattle.rules.proofs.machine.Turns.{Common, Counts, Safe, Kind}
+use Rattle.rules.proofs.machine.Turns.{Common, Kind}
 use Rattle.rules.proofs.machine.Calls.{begun}
 use Rattle.rules.proofs.machine.Ways.{Snap, Written, others-after}
-use Rattle.rules.proofs.queue.Inv.{Windows, Stamps, Knows, Inv, putsIn, Grown, sum-few, put-few, taken-few, top-few, mark-few}
+use Rattle.rules.proofs.queue.Inv.{Windows, Stamps, Knows, Inv, putsIn, holds-below}
+use Rattle.rules.proofs.queue.Others.{Grown}
 use Rattle.rules.proofs.queue.Moves.{Stepped, written, inv-after}
-use Rattle.rules.proofs.queue.Put.{put-window, put-read, put-shift}
-use Rattle.rules.proofs.queue.Landed.{put-commit}
-use Rattle.rules.proofs.queue.Take.{take-window, take-read, take-shift, take-confirm}
-use Rattle.rules.proofs.queue.Taken.{take-commit, holds-below}
+use Rattle.rules.proofs.queue.Window.{put-window, take-window}
+use Rattle.rules.proofs.queue.Read.{put-read, take-read}
+use Rattle.rules.proofs.queue.CommitPut.{put-commit}
+use Rattle.rules.proofs.queue.CommitTake.{take-commit}
+use Rattle.rules.proofs.queue.Shift.{put-shift, take-shift}
+use Rattle.rules.proofs.queue.Confirm.{take-confirm}
+use Rattle.rules.proofs.queue.Safe.{queue-counts, queue-safe}
 
 module _ (g : Settings) (good : Good g) (kind : g .kind ≡ 0) where
   -- ---- a new pool
@@ -131,63 +133,6 @@ module _ (g : Settings) (good : Good g) (kind : g .kind ≡ 0) where
     unfolding ruleOf
     stepped = by-phase (phaseIn g s i) refl
 
-    -- ---- no sum reaches 2^32, and no difference but confirm's passes below 0
-    index : subIn s i < g .width
-    index = common .slots i .index
-
-    width16 : g .width ≤ 16
-    width16 = good .bounds .width16
-
-    no-wrap : (p : Phase) → Knows g s (subIn s i) p → NoWrap g (viewIn s i) p
-    no-wrap Idle k = tt
-    no-wrap (Window side) k = tt
-    no-wrap (QueuePutRead window scan) k = omega (arith, k .scan-lt, width16)
-    no-wrap (QueueTakeRead window bare scan sum) k = (
-      omega (arith, sum-few good (inv .pool), summed-le (summed-more g (s .first) (subIn s i) scan sum index (k .scan-lt) (k .read .sums))),
-      omega (arith, k .read .bare-le, k .scan-lt, width16),
-      omega (arith, k .scan-lt, width16),
-    )
-    no-wrap (StackRead side window version scan sum) k = absurd k
-    no-wrap (Check side version seen) k = absurd k
-    no-wrap (QueueCommit Putting seen) k = (
-      inv .pool .windows .held (subIn s i) index,
-      omega (arith, put-few good (inv .pool) (subIn s i) index),
-      omega (arith, inv .pool .puts-few, inv .pool .steps-few),
-    )
-    no-wrap (QueueCommit Taking seen) k = omega (arith, taken-few good (inv .pool) (subIn s i) index)
-    no-wrap (StackCommit side seen) k = absurd k
-    no-wrap (QueueShift Putting window) k = (omega (arith, top-few good (inv .pool), good .bounds .depth64), omega (arith, inv .pool .windows .order))
-    no-wrap (QueueShift Taking window) k = omega (arith, mark-few good (inv .pool), good .bounds .depth64)
-    no-wrap (StackShift side version scan sum) k = absurd k
-    no-wrap (Confirm Putting scan sum) k = absurd k
-    no-wrap (Confirm Taking scan sum) k = omega (arith, k, width16)
-
-  -- ---- what follows
-  pub counts : (s : State) (q : Contents) → Inv g s q → Counts g s
-  counts s q inv =
-      let o = inv .pool .windows in
-      record {
-        sub = λ j l. record {
-          queue-order = λ e. o .held j l;
-          queue-rows = λ e. omega (arith, o .put-le j l, o .taken-ge j l, o .room);
-          stack-rows = λ e. absurd (omega arith);
-        };
-        first-few = put-few good (inv .pool);
-        second-few = taken-few good (inv .pool);
-      }
-
-  pub safe : (s : State) (q : Contents) → Common g s → Inv g s q → Safe g s
-  safe s q common inv =
-      record {
-        puts = omega (arith, inv .pool .puts-few, inv .pool .steps-few);
-        top = omega (arith, top-few good (inv .pool), good .bounds .depth64);
-        mark = omega (arith, mark-few good (inv .pool), good .bounds .depth64);
-        first = λ j l. omega (arith, put-few good (inv .pool) j l);
-        second = λ j l. omega (arith, taken-few good (inv .pool) j l);
-        rule = λ i. no-wrap s q common inv i (phaseIn g s i) (inv .knows i);
-        able = λ i. stepped s q common inv i .able;
-      }
-
 unfoldable pub queueKind : (g : Settings) → Good g → g .kind ≡ 0 → Kind g
 queueKind g good kind =
     record {
@@ -197,9 +142,9 @@ queueKind g good kind =
       begins = λ s q common inv i e side v. begins g good kind s i side v q inv;
       begins-kept = λ s i side v. others-after (opens g good kind s i side v) (Inv g) .kept;
       steps = λ s q common inv i l few. stepped g good kind s q common inv i .turn few;
-      counts = counts g good kind;
+      counts = λ s q inv. queue-counts good kind inv;
       holding = λ s q inv. record { held = holds-below g kind s q (inv .pool); count = inv .pool .count };
-      safe = safe g good kind;
+      safe = λ s q common inv. queue-safe good kind inv common (λ i. stepped g good kind s q common inv i .able);
     }
 
 -- its invariant, from the kind, which stays shut

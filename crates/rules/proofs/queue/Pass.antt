@@ -1,4 +1,4 @@
--- A take's pass that finds nothing, and why the pool was empty at its end if its confirm leaves nothing.
+-- A take's pass, as one sub more is read, and why the pool was empty at its end if its confirm leaves nothing.
 --
 -- Some sub was bare below the take window seen. If no put count has changed since it was read, that sub has not reached the
 -- put window, so the put window is no higher than the take window, and that is the one seen. Then a spent sub has taken all
@@ -106,8 +106,8 @@ module _ {g : Settings} {s : State} {q : Contents} (good : Good g) (o : Pool g s
     low-put : s .first low < window
     low-put = omega (arith, same low low-lt, k .low some-bare .3)
 
-    take-window : s .mark ≡ window
-    take-window =
+    window-now : s .mark ≡ window
+    window-now =
         omega (
           arith,
           k .window-is,
@@ -116,8 +116,8 @@ module _ {g : Settings} {s : State} {q : Contents} (good : Good g) (o : Pool g s
           multiple-le (w .marks) (k .windows) (g .depth) (omega (arith, k .window-is, w .mark-is, low-put, w .taken-ge low low-lt, w .held low low-lt)),
         )
 
-    put-window : s .top ≤ s .mark
-    put-window = elim (decLe (s .top) (s .mark)) [
+    windows-met : s .top ≤ s .mark
+    windows-met = elim (decLe (s .top) (s .mark)) [
       | yes p ↦ p
       | no p ↦ absurd (omega (
         arith,
@@ -126,7 +126,7 @@ module _ {g : Settings} {s : State} {q : Contents} (good : Good g) (o : Pool g s
         w .top-is,
         w .put-ge low low-lt,
         low-put,
-        take-window,
+        window-now,
       ))
     ]
 
@@ -134,7 +134,7 @@ module _ {g : Settings} {s : State} {q : Contents} (good : Good g) (o : Pool g s
     all-taken j l = by (k .missed j l (visited-all li l))
       where
         by : ((window ≤ s .second j) ⊎ (k .sums .reads j ≤ s .second j)) → s .second j ≡ s .first j
-        by (inl a) = omega (arith, put-window, take-window, w .put-le j l, w .held j l)
+        by (inl a) = omega (arith, windows-met, window-now, w .put-le j l, w .held j l)
         by (inr a) = omega (arith, same j l, w .held j l)
 
   pub pass-begins : Pass (g .width) (q .items ≡ []) (s .first) (s .first) index 0 sum

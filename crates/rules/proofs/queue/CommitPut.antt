@@ -28,7 +28,8 @@ use Rattle.rules.proofs.counts.Stamps.{Added, added, Row, row-cases, st
 use Rattle.rules.proofs.order.Gives.{putOn, gives-put, final-put}
 use Rattle.rules.proofs.machine.Good.{Good}
 use Rattle.rules.proofs.machine.Turns.{Common}
-use Rattle.rules.proofs.queue.Inv.{Windows, Stamps, Pool, Knows, Inv, Grown, put-few}
+use Rattle.rules.proofs.queue.Inv.{Windows, Stamps, Pool, Knows, Inv, put-few}
+use Rattle.rules.proofs.queue.Others.{Grown}
 use Rattle.rules.proofs.queue.Moves.{Stepped, walk, end}
 
 -- the item, and the state, of a put by worker i that lands
@@ -107,8 +108,8 @@ module _ (g : Settings) (good : Good g) (kind : g .kind ≡ 0) (s : State) (q : 
         }
 
     -- and its cell is free
-    free : s .first j - s .second j < g .rows
-    free = omega (arith, below, o .room, o .taken-ge j index)
+    put-room : s .first j - s .second j < g .rows
+    put-room = omega (arith, below, o .room, o .taken-ge j index)
 
     abbrev Rows : ℕ → ℕ → Type 0
     Rows = Row (inv .pool .stamps .each) put refl
@@ -162,8 +163,8 @@ module _ (g : Settings) (good : Good g) (kind : g .kind ≡ 0) (s : State) (q : 
     grown : Grown s t
     grown = record { top = le-refl _; mark = le-refl _; put = put-grown; taken = λ m. le-refl _ }
 
-    lands : Steps (landedOf (viewIn s i) (add32 (s .first j) 1) (s .second j) (add32 (s .first j) 1))
-    lands =
+    put-lands : Steps (landedOf (viewIn s i) (add32 (s .first j) 1) (s .second j) (add32 (s .first j) 1))
+    put-lands =
         rw (apply-landed g s i (omega (arith, few)) (omega (arith, inv .pool .puts-few, inv .pool .steps-few)))
         (end g kind s q inv i (QueueCommit Putting seen) now j t refl grown _ (putting (s .slot i .value)) _ refl (final-put _ _ _ _)
         (gives-put g q (s .slot i .value) j (record { 0 = suc (s .first j) }) (suc (s .puts)) (sym counted)) pool)
@@ -174,6 +175,6 @@ module _ (g : Settings) (good : Good g) (kind : g .kind ≡ 0) (s : State) (q : 
       cases Steps (eqb (s .first j) seen) _ _
       (λ a. rw (sub32-is (s .first j) (s .second j) (o .held j index) (omega (arith, few)))
       (cases Steps (ltb (s .first j - s .second j) (g .rows)) _ _
-      (λ b. lands (eqb-true _ _ a))
-      (λ b. absurd (omega (arith, free (eqb-true _ _ a), ltb-false (s .first j - s .second j) (g .rows) b)))))
+      (λ b. put-lands (eqb-true _ _ a))
+      (λ b. absurd (omega (arith, put-room (eqb-true _ _ a), ltb-false (s .first j - s .second j) (g .rows) b)))))
       (λ a. walk g kind s q inv i (QueueCommit Putting seen) now (hopOf g j) (Window Putting) tt _ tt (putting (s .slot i .value)) refl refl)
