@@ -18,11 +18,11 @@ use Rattle.rules.proofs.counts.Stamps.{Added, added}
 use Rattle.rules.proofs.machine.Machine.{State, subIn, phaseIn, applyIn}
 use Rattle.rules.proofs.machine.Good.{good}
 use Rattle.rules.proofs.stack.Inv.{Hit}
-use Rattle.rules.proofs.stack.After.{Stepping}
+use Rattle.rules.proofs.stack.Moves.{Stepping}
 use Rattle.rules.proofs.stack.Corridor.{countAfter}
-use Rattle.rules.proofs.stack.Commit.{committed}
-use Rattle.rules.proofs.stack.Put.{put-room, apply-landed}
-use Rattle.rules.proofs.stack.Take.{take-row, apply-removed}
+use Rattle.rules.proofs.stack.Commit.{put-room, take-row, committed}
+use Rattle.rules.proofs.stack.CommitPut.{apply-landed}
+use Rattle.rules.proofs.stack.CommitTake.{apply-removed}
 use Rattle.reached.proofs.Run.{Got, got-call}
 use Rattle.reached.proofs.Rules.{step-is, put-rule, take-rule}
 use Rattle.reached.proofs.Steps.{Walked}
@@ -153,7 +153,7 @@ module _ (g : Settings) (limits : settingsFit g ≡ true) (kind : g .kind ≡ 1)
 
     later-removed : phaseIn g s i ≡ StackCommit Taking seen → Later 1 s (committed s i Taking (s .puts) (s .item))
     later-removed e =
-        let some : 1 ≤ s .first j = take-row (good g limits) kind (got .live .inv) i (got .live .common .slots i .index) seen e live in
+        let some : 1 ≤ s .first j = take-row (got .live .inv) i seen e live in
         record {
           got =
               got-call g limits kind got (step i) _ _

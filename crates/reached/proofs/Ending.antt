@@ -13,8 +13,7 @@ use Rattle.rules.specs.Effects.{nextOf}
 use Rattle.reached.proofs.Types.{Settings, Putting, Taking, StackCommit}
 use Rattle.rules.proofs.Fitness.{settings-bounds}
 use Rattle.rules.proofs.machine.Machine.{State, subIn, phaseIn}
-use Rattle.rules.proofs.stack.Inv.{Missed}
-use Rattle.rules.proofs.stack.After.{window-ge}
+use Rattle.rules.proofs.stack.Inv.{Missed, window-ge}
 use Rattle.reached.proofs.Run.{Got}
 use Rattle.reached.proofs.Steps.{Walked}
 use Rattle.reached.proofs.Walks.{there, before, begun, next-up, comes-to-commit}

@@ -16,8 +16,8 @@ use Rattle.rules.proofs.Fitness.{settings-bounds}
 use Rattle.rules.proofs.machine.Machine.{State, subIn, phaseIn, madeIn}
 use Rattle.rules.proofs.machine.Good.{good}
 use Rattle.rules.proofs.words.Made.{accepted}
-use Rattle.rules.proofs.stack.Figures.{times, times-low, bound-stack, below-highest, highest-rows}
-use Rattle.rules.proofs.stack.Exactness.{framework-low}
+use Rattle.rules.proofs.figures.Figures.{times, times-low, bound-stack, below-highest, highest-rows}
+use Rattle.rules.proofs.figures.Exactness.{framework-low}
 use Rattle.rules.proofs.stack.Turn.{stackKind}
 use Rattle.rules.proofs.Transfer.{made-related, events-same}
 use Rattle.reached.proofs.Run.{new, got-made}

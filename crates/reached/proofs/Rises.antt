@@ -8,7 +8,7 @@ use native.Mathlib.Omega.{arith}
 use Rattle.rules.specs.Limits.{settingsFit, Bounds}
 use Rattle.reached.proofs.Types.{Settings}
 use Rattle.rules.proofs.machine.Machine.{State}
-use Rattle.rules.proofs.stack.Figures.{times, times-low}
+use Rattle.rules.proofs.figures.Figures.{times, times-low}
 use Rattle.reached.proofs.Scene.{Scene, Ready, ready, rises, risen}
 
 -- s goes into d - 1 fewer than 64 times

@@ -20,8 +20,7 @@ use Rattle.rules.proofs.counts.Sums.{upd-same, upd-other}
 use Rattle.rules.proofs.counts.Wraps.{add32-suc, sub32-is}
 use Rattle.rules.proofs.machine.Machine.{State, subIn, viewIn, phaseIn, slotIn, applyIn, apply-moved}
 use Rattle.rules.proofs.machine.Phases.{OfStack, worker, stack-phase, encode-index}
-use Rattle.rules.proofs.stack.Inv.{Hit, Missed}
-use Rattle.rules.proofs.stack.After.{window-ge, window-le}
+use Rattle.rules.proofs.stack.Inv.{Hit, Missed, window-ge, window-le}
 use Rattle.reached.proofs.Run.{Got, got-call}
 use Rattle.reached.proofs.Rules.{Busy, step-is, begins, valueBegun, begin-is, window-rule, hit-rule, miss-rule, last-rule, sumAfter, check-rule}
 

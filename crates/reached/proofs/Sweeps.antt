@@ -13,8 +13,7 @@ use Rattle.rules.specs.Effects.{nextOf}
 use Rattle.reached.proofs.Types.{Settings, Side, Putting, Taking}
 use Rattle.rules.proofs.Fitness.{settings-bounds}
 use Rattle.rules.proofs.machine.Machine.{State, subIn}
-use Rattle.rules.proofs.stack.Inv.{Hit, Missed}
-use Rattle.rules.proofs.stack.After.{window-le, held-le}
+use Rattle.rules.proofs.stack.Inv.{Hit, Missed, window-le, held-le}
 use Rattle.rules.proofs.stack.Corridor.{countAfter}
 use Rattle.reached.proofs.Run.{Got}
 use Rattle.reached.proofs.Walks.{Comes, there, before, next-up, next-around}

@@ -21,9 +21,10 @@ use Rattle.rules.proofs.counts.Sums.{upTo, upTo-ext, upTo-true, upTo-none, sum-
 use Rattle.rules.proofs.order.Law.{Next, events}
 use Rattle.rules.proofs.machine.Machine.{State, subIn, phaseIn, countIn, takenIn, applyIn, nextIn, madeIn, distanceIn as distanceAt}
 use Rattle.rules.proofs.machine.Good.{good}
-use Rattle.rules.proofs.stack.After.{Stepping}
-use Rattle.rules.proofs.stack.Figures.{bound-stack}
-use Rattle.rules.proofs.stack.Take.{take-row, take-newer, apply-removed}
+use Rattle.rules.proofs.stack.Moves.{Stepping}
+use Rattle.rules.proofs.figures.Figures.{bound-stack}
+use Rattle.rules.proofs.stack.Commit.{take-row}
+use Rattle.rules.proofs.stack.CommitTake.{take-newer, apply-removed}
 use Rattle.reached.proofs.Run.{after, last-event, Got}
 use Rattle.reached.proofs.Rules.{step-is, take-rule}
 use Rattle.reached.proofs.Scene.{mover}
@@ -48,7 +49,7 @@ module _ (g : Settings) (limits : settingsFit g ≡ true) (kind : g .kind ≡ 1)
     lj = got .live .common .slots i .index
 
     some : 1 ≤ s .first (subIn s i)
-    some = take-row (good g limits) kind (got .live .inv) i lj seen waits refl
+    some = take-row (got .live .inv) i seen waits refl
 
     answer : nextIn g s (step i) .answer ≡ takenIn g s (subIn s i) (s .first (subIn s i))
     answer =

@@ -17,7 +17,7 @@ use Rattle.rules.proofs.Transfer.{words-order}
 use Rattle.rules.proofs.words.Made.{accepted}
 use Rattle.rules.proofs.queue.Turn.{queueKind}
 use Rattle.rules.proofs.stack.Turn.{stackKind}
-use Rattle.rules.proofs.stack.Figures.{exact-thesis, thesis-k14, k14-most}
+use Rattle.rules.proofs.figures.Figures.{exact-thesis, thesis-k14, k14-most}
 use Rattle.rules.proofs.order.Relaxed.{relaxed}
 
 -- the law of one step, for settings within limits

@@ -20,10 +20,9 @@ use Rattle.rules.proofs.order.Gives.{final-put, final-taken}
 use Rattle.rules.proofs.machine.Machine.{State, subIn, viewIn, phaseIn, applyIn, applyInBy}
 use Rattle.rules.proofs.machine.Good.{Good}
 use Rattle.rules.proofs.machine.Turns.{Common}
-use Rattle.rules.proofs.stack.Inv.{sight, Hit, Reading, Inv}
-use Rattle.rules.proofs.stack.After.{versions-few}
-use Rattle.rules.proofs.stack.Moves.{sum-le-versions}
-use Rattle.rules.proofs.stack.Safe.{landsOf, commit-cases}
+use Rattle.rules.proofs.stack.Inv.{sight, Hit, Reading, Inv, versions-few}
+use Rattle.rules.proofs.stack.Pass.{sum-le-versions}
+use Rattle.rules.proofs.stack.Commit.{landsOf, commit-cases}
 use Rattle.rules.proofs.progress.Clean.{Clean, clean-start, clean-more}
 use Rattle.rules.proofs.progress.StackDue.{AtWindow, window-left, window-read, read-again, read-shift}
 use Rattle.rules.proofs.progress.Steps.{Result, finishes, miss-cases}
@@ -104,4 +103,4 @@ module _ (g : Settings) (good : Good g) (kind : g .kind ≡ 1) (s : State) (q : 
   lands Taking = finishes (final-taken _ _ _ _ _)
 
   pub commit-step : (seen : Version) → phaseIn g s i ≡ StackCommit side seen → seen .0 ≡ s .second j → Steps (stackCommit g (viewIn s i) side seen)
-  commit-step seen now live = commit-cases good kind common inv i Steps side seen now (λ e. lands side) (λ other. absurd (other live))
+  commit-step seen now live = commit-cases inv i Steps side seen now (λ e. lands side) (λ other. absurd (other live))

@@ -17,8 +17,7 @@ use Rattle.rules.proofs.machine.Machine.{State, subIn, viewIn, phaseIn,
 use Rattle.rules.proofs.machine.Phases.{worker, stack-phase}
 use Rattle.rules.proofs.machine.Good.{Good}
 use Rattle.rules.proofs.machine.Turns.{Common}
-use Rattle.rules.proofs.stack.Inv.{sight, Shifting, Inv}
-use Rattle.rules.proofs.stack.After.{versions-few, window-ge, window-le}
+use Rattle.rules.proofs.stack.Inv.{sight, Shifting, Inv, versions-few, window-ge, window-le}
 use Rattle.rules.proofs.progress.Clean.{rest-start}
 use Rattle.rules.proofs.progress.StackDue.{shift-window, shift-confirm, shift-left}
 use Rattle.rules.proofs.progress.Steps.{Result, goes, shifts-on, finds-nothing}

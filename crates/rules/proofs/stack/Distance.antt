@@ -13,15 +13,23 @@ use native.Mathlib.Omega.{arith}
 use borrow.Author.Tests.{le-ltb}
 use Rattle.laws.specs.Choice.{cond-false}
 use Rattle.rules.specs.Held.{Item, passedOver}
-use Rattle.rules.specs.Sequential.{Contents}
+use Rattle.rules.specs.Sequential.{Contents, passedBy}
 use Rattle.rules.specs.Newer.{exactRows, exactBound}
 use Rattle.rules.proofs.Types.{Settings}
+use Rattle.rules.proofs.Cells.{stack-below}
 use Rattle.rules.proofs.counts.Sums.{upTo, upTo-none, rows-more, rows-flat, sum-zero, sum-within-but, times-pred}
 use Rattle.rules.proofs.counts.Wraps.{multiple-lt}
 use Rattle.rules.proofs.machine.Machine.{State, countIn, distanceIn}
 use Rattle.rules.proofs.machine.Good.{Good}
+use Rattle.rules.proofs.machine.Turns.{distance-held}
 use Rattle.rules.proofs.stack.Inv.{Ghost, Pool}
-use Rattle.rules.proofs.stack.Figures.{times, times-high, below-highest, bound-stack}
+use Rattle.rules.proofs.figures.Figures.{times, times-high, below-highest, bound-stack}
+
+-- the machine's distance is that of the list
+pub distance-is : (g : Settings) → g .kind ≡ 1 → {s : State} {q : Contents} {ghost : Ghost} → Pool g s q ghost → (stamp : ℕ)
+    → distanceIn g s stamp ≡ passedBy g q stamp
+distance-is g kind {s} {q} o stamp =
+    distance-held g s q stamp (λ m l. rw (stack-below g kind (s .second m)) (omega arith)) (o .holding .held)
 
 -- no row from 1 to c passes a test
 no-row : (p : ℕ → Bool) (c : ℕ) → ((n : ℕ) → 1 ≤ n → n ≤ c → p n ≡ false) → upTo p c ≡ 0
@@ -33,7 +41,7 @@ module _ (g : Settings) (good : Good g) (kind : g .kind ≡ 1) {s : State} {q : 
   abbrev r : ℕ
   r = s .first j
 
-  pub row-there : 1 ≤ r
+  row-there : 1 ≤ r
   row-there = omega (arith, o .window .depth-lo)
 
   abbrev it : Item

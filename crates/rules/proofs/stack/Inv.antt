@@ -4,16 +4,20 @@
 -- Each of the two stands at d and some shifts, so they lie a multiple of s apart, which gives the exact bound. Late commits keep the
 -- corridor too: a worker that checked an earlier window is live only in a sub that has not changed since the last shift, and the
 -- pass that led to that shift found such a sub so high, or so low, that one commit more does not leave the corridor.
-use mathlib.Core.Path.{_≡_}
+use mathlib.Core.Path.{_≡_, refl, sym}
 use mathlib.Core.Logic.{_⊎_}
+use mathlib.Core.List.{List}
 use Prim.Native.Nat.{ℕ, _+_, _*_, _≤_, _<_}
+use native.Mathlib.Omega.{arith}
 use Rattle.rules.specs.Held.{Item}
 use Rattle.rules.specs.Sequential.{Contents}
 use Rattle.rules.proofs.Types.{Settings, Side, Putting, Taking, Phase, Idle, Window, QueuePutRead, QueueTakeRead, StackRead, Check, QueueCommit, StackCommit, QueueShift, StackShift, Confirm}
-use Rattle.rules.proofs.counts.Sums.{sumN}
-use Rattle.rules.proofs.machine.Machine.{State, subIn, phaseIn}
+use Rattle.rules.proofs.Cells.{stack-below}
+use Rattle.rules.proofs.counts.Sums.{sumN, sum-gap-at, sum-zero}
+use Rattle.rules.proofs.machine.Machine.{State, belowIn, subIn, phaseIn}
 use Rattle.rules.proofs.counts.Visits.{Visited}
 use Rattle.rules.proofs.counts.Passes.{Summed}
+use Rattle.rules.proofs.counts.Held.{Holds, holds-ext}
 use Rattle.rules.proofs.counts.Stamps.{Stamped}
 use Rattle.rules.proofs.machine.Turns.{Holding}
 
@@ -93,6 +97,31 @@ pub record Pool (g : Settings) (s : State) (q : Contents) (ghost : Ghost) : Type
   pub stamps : Stamped (g .width) (s .first) (s .item) (s .puts)
   pub pairs : Pairs g (s .first) (s .item)
   pub holding : Holding g s q
+
+-- ---- what a pool from make has: no count is near 2^32, and the list is what the rows from 1 to the held ones have
+module _ {g : Settings} {s : State} {q : Contents} {ghost : Ghost} (o : Pool g s q ghost) where
+  pub versions-few : s .mark + sumN (s .second) (g .width) ≤ 4000000000
+  versions-few = omega (arith, o .few .changes, o .few .steps)
+
+  pub version-few : (j : ℕ) → j < g .width → s .second j ≤ 4000000000
+  version-few j l =
+      omega (arith, versions-few, sum-zero (g .width), sum-gap-at (λ m. 0) (s .second) (g .width) j (s .second j) l (λ m u. omega arith) (omega arith))
+
+  pub window-ge : g .depth ≤ s .top
+  window-ge = omega (arith, o .window .depth-lo, o .window .lo-window)
+
+  pub window-le : s .top ≤ g .rows
+  window-le = omega (arith, o .window .window-lo, o .window .lo-rows)
+
+  pub held-le : (j : ℕ) → j < g .width → s .first j ≤ g .rows
+  held-le j l = omega (arith, o .corridor .high j l, o .window .lo-rows)
+
+  pub held-rows : g .kind ≡ 1 → Holds (g .width) (λ j. 0) (s .first) (s .item) (q .items)
+  held-rows kind = holds-ext (λ j l. stack-below g kind (s .second j)) (λ j l. refl) (o .holding .held)
+
+pub rows-held : (g : Settings) → g .kind ≡ 1 → (s : State) (xs : List Item) → Holds (g .width) (λ j. 0) (s .first) (s .item) xs
+    → Holds (g .width) (belowIn g s) (s .first) (s .item) xs
+rows-held g kind s xs h = holds-ext (λ j l. sym (stack-below g kind (s .second j))) (λ j l. refl) h
 
 -- ---- what a worker knows
 -- sub j, of which a pass at the present window read a version: as it was read; or committed to since, so that only commits

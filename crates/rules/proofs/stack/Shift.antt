@@ -1,11 +1,9 @@
 -- The shift step. Where the window moves, every sub was left behind by the pass that led here, so the corridor moves with it.
--- Where it cannot move, the worker goes to confirm, and this step is its linearization point if it wins: if every sub's version
--- is still the one read, then every sub is as the pass found it, at the present window, so all are empty, or all are full.
+-- Where it cannot move, the worker goes to confirm, and this step is its linearization point if it wins (Pass).
 use mathlib.Core.Path.{_≡_, refl, sym}
-use mathlib.Core.Logic.{inl, inr}
 use mathlib.Core.Bool.{Bool, true, false}
 use Prim.Native.Nat.{ℕ, suc, _+_, _-_, _<_}
-use native.Mathlib.Nat.{le-refl, le-trans}
+use native.Mathlib.Nat.{le-refl}
 use native.Mathlib.Omega.{arith}
 use borrow.Author.Tests.{ltb-true, ltb-false, leb-true, leb-false, eqb-true}
 use lib.Dec.{ltb, leb}
@@ -19,13 +17,13 @@ use Rattle.rules.proofs.Types.{Settings, Side, Putting, Taking, Window,
 use Rattle.rules.proofs.machine.Machine.{State, subIn, viewIn, phaseIn, turnedIn, apply-moved, apply-shifted}
 use Rattle.rules.proofs.counts.Wraps.{add32-is, add32-suc, sub32-is}
 use Rattle.rules.proofs.counts.Visits.{visited-all}
-use Rattle.rules.proofs.counts.Passes.{Pass, pass-start}
-use Rattle.rules.proofs.counts.Held.{none-held, many-held}
-use Rattle.rules.proofs.machine.Good.{stack-full}
+use Rattle.rules.proofs.counts.Passes.{Pass}
 use Rattle.rules.proofs.machine.Ways.{Stuck, Written, by-walk, by-try}
-use Rattle.rules.proofs.stack.Inv.{Ghost, Sight, sight, Missed, Left, Shifting, Pool, versionsIn}
-use Rattle.rules.proofs.stack.After.{versions-few, window-ge, window-le, held-rows, Stepping, On, moves, known, written, inv-after, moved, inv-still, restart}
-use Rattle.rules.proofs.stack.Corridor.{Able, Unable, windowAfter, loAfter, window-after-shift, corridor-moves, knows-shifted}
+use Rattle.rules.proofs.stack.Inv.{Ghost, Sight, sight, Left, Shifting, Pool, versionsIn, versions-few, window-ge, window-le}
+use Rattle.rules.proofs.stack.Moves.{Stepping, On, moves, known, written, inv-after, moved, inv-still, restart}
+use Rattle.rules.proofs.stack.Corridor.{Able, Unable, windowAfter, loAfter, window-after-shift, corridor-moves}
+use Rattle.rules.proofs.stack.Others.{knows-shifted}
+use Rattle.rules.proofs.stack.Pass.{pass-begins}
 
 module _ {g : Settings} {s : State} {q : Contents} {i : ℕ} (a : Stepping g s q i) where
   abbrev j : ℕ
@@ -64,7 +62,7 @@ module _ {g : Settings} {s : State} {q : Contents} {i : ℕ} (a : Stepping g s q
           let o = a .inv .pool in
           record {
             window = window-after-shift g (a .good .bounds) v (a .inv .ghost) (o .window) side able;
-            corridor = corridor-moves g (a .good .bounds) v (a .inv .ghost) (o .window) side able (o .eras) reads left (o .corridor);
+            corridor = corridor-moves g (a .good .bounds) v (a .inv .ghost) (o .window) side able reads left (o .corridor);
             eras = λ m. le-refl _;
             few = record { puts = o .few .puts; changes = omega (arith, o .few .changes); steps = a .time };
             stamps = o .stamps;
@@ -81,27 +79,13 @@ module _ {g : Settings} {s : State} {q : Contents} {i : ℕ} (a : Stepping g s q
           (subIn s m) (a .common .slots m .index) p h) tt))
 
     -- ---- the window cannot move
-    -- all as read: then no sub has been committed to since
-    as-read : ((m : ℕ) → m < g .width → reads m ≡ s .second m) → (m : ℕ) → m < g .width → Missed g side (s .top) (s .first m)
-    as-read same m l = go (left m l)
-      where
-        go : Left g v (a .inv .ghost) side (reads m) m → Missed g side (s .top) (s .first m)
-        go (inl x) = x
-        go (inr x) = absurd (omega (arith, x .0, same m l))
-
-    stuck : (b : Side) → Unable g b (s .top) → ((m : ℕ) → m < g .width → Missed g b (s .top) (s .first m)) → Stuck g b q
-    stuck Putting l missed =
-        le-trans (stack-full g (a .kind))
-        (many-held (held-rows (a .inv .pool) (a .kind)) (g .rows - g .shift + 1) (λ m u. omega (arith, missed m u, a .inv .pool .window)))
-    stuck Taking l missed = none-held (held-rows (a .inv .pool) (a .kind)) (λ m u. omega (arith, missed m u))
-
     abbrev confirms : Worker
     confirms = moves s i j (Confirm side scan sum)
 
     goes-to-confirm : Unable g side (s .top) → On a (movedOf (viewIn s i) j (Confirm side scan sum) (s .slot i))
     goes-to-confirm l =
         let pass : Pass (g .width) (Stuck g side q) (s .second) (s .second) j scan sum =
-        rw (k .scan-is) (pass-start (k .passed .summed) (omega (arith, versions-few (a .inv .pool))) (λ same. stuck side l (as-read same))) in
+        rw (k .scan-is) (pass-begins (a .kind) (a .inv .pool) side (version .0) j sum (a .common .slots i .index) (k .passed) now l) in
         rw (apply-moved g s i j (Confirm side scan sum) (s .slot i))
         (by-try (moved a confirms (s .slot i) tt) e refl refl
         (inv-still a confirms (s .slot i) tt (omega (arith, k .scan-is, a .good .bounds .width1))) pass)

@@ -1,15 +1,15 @@
--- A take that lands: the top row of its sub leaves, and with it the item of that stamp on the list. The rows that stay keep their
--- stamps and their pairs, and the newer items passed over are few (Distance).
+-- The commit of a take. Where it lands, the top row of its sub leaves, and with it the item of that stamp on the list. The rows that stay
+-- keep their stamps and their pairs, and the newer items passed over are few (Distance).
 use mathlib.Core.Path.{_≡_, refl, sym}
 use Prim.Native.Nat.{ℕ, suc, _-_, _≤_, _<_}
 use native.Mathlib.Nat.{le-refl, le-trans}
 use native.Mathlib.Omega.{arith}
 use Rattle.laws.specs.Wrap.{add32, sub32}
 use Rattle.rules.specs.Held.{Item}
-use Rattle.rules.specs.Commit.{removedOf}
-use Rattle.rules.specs.Sequential.{Contents, passedBy}
+use Rattle.rules.specs.Effects.{hopOf}
+use Rattle.rules.specs.Commit.{stackCommit, removedOf}
+use Rattle.rules.specs.Sequential.{Contents}
 use Rattle.rules.proofs.Types.{Settings, Taking, StackCommit, Version}
-use Rattle.rules.proofs.Cells.{stack-below}
 use Rattle.rules.proofs.counts.Sums.{upd, upd-same, upd-other, upd-all}
 use Rattle.rules.proofs.machine.Machine.{State, next, subIn, viewIn, phaseIn, takenIn, distanceIn, applyIn, applyInBy}
 use Rattle.rules.proofs.counts.Wraps.{add32-suc, sub32-is}
@@ -18,21 +18,18 @@ use Rattle.rules.proofs.counts.Find.{RowFound, find-row}
 use Rattle.rules.proofs.counts.Stamps.{Stamped, single, stamped-less}
 use Rattle.rules.proofs.order.Gives.{takenOff, gives-taken, final-taken}
 use Rattle.rules.proofs.machine.Good.{Good}
-use Rattle.rules.proofs.machine.Turns.{Holding, distance-held}
-use Rattle.rules.proofs.stack.Inv.{Pairs, Inv}
-use Rattle.rules.proofs.stack.After.{version-few, held-le, held-rows, rows-held, Stepping, On}
-use Rattle.rules.proofs.stack.Commit.{live-fits, committed, commits}
+use Rattle.rules.proofs.machine.Turns.{Holding}
+use Rattle.rules.proofs.stack.Inv.{Pairs, Inv, version-few, held-le, held-rows, rows-held}
+use Rattle.rules.proofs.stack.Moves.{Stepping, On, restart}
+use Rattle.rules.proofs.stack.Commit.{live-fits, take-row, commit-cases, committed, commits}
 use Rattle.rules.specs.Newer.{exactBound}
-use Rattle.rules.proofs.stack.Distance.{row-there, newer-few}
+use Rattle.rules.proofs.stack.Distance.{distance-is, newer-few}
 
--- a live take has an item, and passes over few newer ones
-module _ {g : Settings} {s : State} {q : Contents} (good : Good g) (kind : g .kind ≡ 1) (inv : Inv g s q) (i : ℕ) (lj : subIn s i < g .width)
-    (seen : Version) (e : phaseIn g s i ≡ StackCommit Taking seen) (live : seen .0 ≡ s .second (subIn s i)) where
-  pub take-row : 1 ≤ s .first (subIn s i)
-  take-row = row-there g good kind (inv .pool) (subIn s i) lj (live-fits inv i Taking seen e live)
-
-  pub take-newer : distanceIn g s (s .item (subIn s i) (s .first (subIn s i)) .stamp) ≤ exactBound g
-  take-newer = newer-few g good kind (inv .pool) (subIn s i) lj (live-fits inv i Taking seen e live)
+-- a live take passes over few newer items
+pub take-newer : {g : Settings} {s : State} {q : Contents} → Good g → g .kind ≡ 1 → (inv : Inv g s q) (i : ℕ) → subIn s i < g .width → (seen : Version)
+    → phaseIn g s i ≡ StackCommit Taking seen → seen .0 ≡ s .second (subIn s i)
+    → distanceIn g s (s .item (subIn s i) (s .first (subIn s i)) .stamp) ≤ exactBound g
+take-newer {g} {s} good kind inv i lj seen e live = newer-few g good kind (inv .pool) (subIn s i) lj (live-fits inv i Taking seen e live)
 
 module _ {g : Settings} {s : State} {q : Contents} {i : ℕ} (a : Stepping g s q i)
     (seen : Version) (e : phaseIn g s i ≡ StackCommit Taking seen) (live : seen .0 ≡ s .second (subIn s i)) where
@@ -49,7 +46,7 @@ module _ {g : Settings} {s : State} {q : Contents} {i : ℕ} (a : Stepping g s q
   j-lt = a .common .slots i .index
 
   there : 1 ≤ r
-  there = take-row (a .good) (a .kind) (a .inv) i j-lt seen e live
+  there = take-row (a .inv) i seen e live
 
   -- ---- the rows that stay
   abbrev held′ : ℕ → ℕ
@@ -87,10 +84,6 @@ module _ {g : Settings} {s : State} {q : Contents} {i : ℕ} (a : Stepping g s q
         count = a .inv .pool .holding .count;
       }
 
-  distance-is : distanceIn g s (it .stamp) ≡ passedBy g q (it .stamp)
-  distance-is =
-      distance-held g s q (it .stamp) (λ m l. rw (stack-below g (a .kind) (s .second m)) (omega arith)) (a .inv .pool .holding .held)
-
   -- ---- the step
   pub apply-removed : applyIn g s i (removedOf (viewIn s i) (sub32 r 1) (add32 (s .second j) 1) r) ≡ next (takenIn g s j r) t
   unfolding applyIn applyInBy
@@ -105,5 +98,10 @@ module _ {g : Settings} {s : State} {q : Contents} {i : ℕ} (a : Stepping g s q
       rw apply-removed
       (commits a Taking seen e live (s .puts) (s .item) (takenOff g q (found .out)) (omega arith) stamps pairs holding
       (takenIn g s j r) (final-taken _ _ _ _ _)
-      (gives-taken g q it j (record { 0 = r }) (distanceIn g s (it .stamp)) found distance-is
+      (gives-taken g q it j (record { 0 = r }) (distanceIn g s (it .stamp)) found (distance-is g (a .kind) (a .inv .pool) (it .stamp))
       (take-newer (a .good) (a .kind) (a .inv) i j-lt seen e live)))
+
+pub take-commit : {g : Settings} {s : State} {q : Contents} {i : ℕ} (a : Stepping g s q i) (seen : Version) → phaseIn g s i ≡ StackCommit Taking seen
+    → On a (stackCommit g (viewIn s i) Taking seen)
+take-commit {g} {s} {i = i} a seen e =
+    commit-cases (a .inv) i (On a) Taking seen e (take-lands a seen e) (λ other. restart a e Taking refl (hopOf g (subIn s i)))

@@ -12,7 +12,7 @@ use Rattle.rules.specs.Newer.{k14Rows, frameworkRows, thesisRows, highes
 use Rattle.rules.proofs.Types.{Settings}
 use Rattle.rules.proofs.Fitness.{settings-bounds}
 use Rattle.rules.proofs.counts.Wraps.{multiple-lt}
-use Rattle.rules.proofs.stack.Figures.{times, times-low, times-high, below-highest, highest-rows, bound-le, bound-stack}
+use Rattle.rules.proofs.figures.Figures.{times, times-low, times-high, below-highest, highest-rows, bound-le, bound-stack}
 
 -- with another sub, fewer rows make a lower figure, and a figure that is not higher has no more rows
 module _ (g : Settings) (kind : g .kind ≡ 1) (w : 2 ≤ g .width) where

@@ -1,0 +1,3 @@
+-- The stack's figures (specs/Newer), from the closest to the highest. No machine is known here.
+pub mod Figures
+pub mod Exactness
