@@ -2,6 +2,7 @@
 use mathlib.Core.Path.{_≡_, refl}
 use Prim.Native.Nat.{ℕ}
 use native.Mathlib.Nat.{le-refl}
+use native.Mathlib.Omega.{arith}
 use lib.Dec.{eqb}
 use borrow.Author.Tests.{eqb-false}
 use Rattle.laws.specs.Choice.{cases}
@@ -30,7 +31,7 @@ module _ (g : Settings) (good : Good g) (kind : g .kind ≡ 0) (s : State) (q : 
   put-window now =
       cases (λ (p : Phase). Steps (movedOf (viewIn s i) j p zeroSlot)) (eqb (g .kind) 0) _ _
       (λ e. walk g kind s q inv i (Window Putting) now j (QueuePutRead (s .top) 0) tt zeroSlot
-      (record { scan-lt = good .bounds .width1; window-le = le-refl _; missed = λ m l v. absurd (visited-none l v) }) (putting (s .slot i .value)) refl refl)
+      (record { scan-lt = good .bounds .width1; window-le = omega arith; missed = λ m l v. absurd (visited-none l v) }) (putting (s .slot i .value)) refl refl)
       (λ e. absurd (eqb-false _ _ e kind))
 
   pub take-window : phaseIn g s i ≡ Window Taking → Steps (windowRule g (viewIn s i) Taking)
