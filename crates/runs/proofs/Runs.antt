@@ -1,13 +1,14 @@
--- Every row of the tables holds: the rules are run, and each line compared with the row's. That a row's `made` is make's number
--- whatever the lent words hold is `make-number`: it depends on the settings and on how many words are lent alone, so the large
--- settings are judged by their size.
+-- Every row of the tables holds. A table's rows are compared with the run of the rules by one test, which computes, and what passes the test holds:
+-- so a new row is a line of its table, and no line here. That a row's `made` is make's number whatever the lent words hold is
+-- `make-number`: it depends on the settings and on how many words are lent alone, so the large settings are judged by their size.
 use Prim.Native.Nat.{ℕ}
-use mathlib.Core.List.{List}
+use mathlib.Core.List.{List, [], _∷_}
 use mathlib.Core.Path.{_≡_, refl}
-use mathlib.Core.Bool.{Bool, true, false}
+use mathlib.Core.Bool.{Bool, true, false, false≢true}
 use lib.ListN.{length}
-use lib.Dec.{ltb}
-use Rattle.laws.specs.Choice.{cond, allBelow}
+use lib.Dec.{ltb, eqb}
+use borrow.Author.Tests.{eqb-true}
+use Rattle.laws.specs.Choice.{cond, allBelow, both-true, all, all-holds, Holds as Passed}
 use Rattle.rules.specs.Answers.{numberOf, out, refuse}
 use Rattle.rules.specs.Layout.{needed}
 use Rattle.rules.specs.Limits.{settingsFit}
@@ -25,19 +26,20 @@ use Rattle.rules.specs.Confirm.{confirmedOf, confirmRule}
 use Rattle.rules.specs.Held.{itemsAbove, heldSub, heldBelow, countItems, distanceOf}
 use Rattle.rules.specs.Apply.{putItem, putSub, putLanded, putShifted, putWorker, takenOf, applyBy, applyOf}
 use Rattle.rules.specs.Step.{ruleBy, ruleOf, slotStep, fitStep, checkedStep, stepOf}
-use Rattle.rules.specs.Sequential.{putting, taking, mostPassed, leastFull}
-use Rattle.rules.specs.Solo.{soloSteps}
-use Rattle.stretch.specs.Stretch.{k7Stretch, exactStretch, countedSteps}
+use Rattle.rules.specs.Sequential.{mostPassed, leastFull}
 use Rattle.rules.specs.Newer.{k14Bound, frameworkBound, thesisBound, exactBound}
+use Rattle.rules.specs.Statement.{All}
+use Rattle.stretch.specs.Stretch.{countedSteps}
 use Rattle.rules.specs.Run.{callOf, run}
 use Rattle.rules.specs.declared.Settings.{Settings}
 use Rattle.rules.specs.declared.Answer.the-variants.{Moving}
-use Rattle.runs.specs.Rows.{makeNumber, linesOf, eventsOf, runOf, AllHold, end, _also_}
-use Rattle.runs.specs.Notation.{queue, stack}
+use Rattle.runs.specs.Rows.{Row, makeNumber, linesOf, eventsOf, runOf, Holds, AllHold}
+use Rattle.runs.specs.Reach.{Reach, Reaches, Gives}
 use Rattle.runs.specs.Table.{table}
 use Rattle.runs.specs.Extremes.{extremes}
 use Rattle.runs.specs.Solos.{solos}
-use Rattle.runs.specs.Stretches.{Unanswered, oneWorker, movedWindow, changedSub, endless, stretches}
+use Rattle.runs.specs.Stretches.{Stretch, Unanswered, stretches}
+use Rattle.runs.specs.Tests.{every, sameList, lineTests, sameLine, holds, gives, reaches, unanswered}
 
 pub make-number : (ws : List ℕ) (g : Settings) → numberOf (makeOf ws g .answer) ≡ makeNumber g (length ws)
 unfolding makeOf makeNumber cond
@@ -48,82 +50,63 @@ make-number ws g = go (settingsFit g) (ltb (length ws) (needed g))
     go true false = refl
     go false b = refl
 
-pub runs-hold : AllHold table × AllHold extremes × AllHold solos × AllHold stretches
-unfolding table extremes solos stretches oneWorker movedWindow changedSub endless eventsOf runOf linesOf makeNumber settingsFit run callOf cond allBelow slotAt putSlot queuePhase stackPhase phaseOf decode encode encodePhase headFit subFit subsFit phaseFit wordFit workersFit bodyChecked checkedOf zeroed indexed madeWords makeOf slotBegin fitBegin checkedBegin beginOf viewOf nextOf windowRule missOf queuePutRead queueTakeRead stackRead checkRule commitBy queueCommit stackCommit shiftBy queueShift stackShift confirmedOf confirmRule itemsAbove heldSub heldBelow countItems distanceOf putItem putSub putLanded putShifted putWorker takenOf applyBy applyOf ruleBy ruleOf slotStep fitStep checkedStep stepOf
+-- ---- what passes a comparison is equal
+abbrev Right : {A : Type 0} → (A → A → Bool) → Type 0
+Right {A = A} same = (x y : A) → same x y ≡ true → x ≡ y
+
+list-right : {A : Type 0} (same : A → A → Bool) → Right same → Right (sameList same)
+list-right same right [] [] e = refl
+list-right same right [] (y ∷ ys) e = absurd (false≢true e)
+list-right same right (x ∷ xs) [] e = absurd (false≢true e)
+list-right same right (x ∷ xs) (y ∷ ys) e =
+    let t = both-true (same x y) (sameList same xs ys) e in
+    λ i. right x y (t .0) i ∷ list-right same right xs ys (t .1) i
+
+line-right : Right sameLine
+line-right x y e =
+    let t = all-holds (lineTests x y) e in
+    λ i. record {
+      worker = eqb-true (x .worker) (y .worker) (t .0) i;
+      steps = eqb-true (x .steps) (y .steps) (t .1 .0) i;
+      number = eqb-true (x .number) (y .number) (t .1 .1 .0) i;
+      fields = list-right eqb eqb-true (x .fields) (y .fields) (t .1 .1 .1 .0) i;
+    }
+
+-- ---- the tests give the claims
+all-from-tests :
+    {A : Type 0} {P : A → Type 0} (tests : A → List Bool) → ((x : A) → Passed (tests x) → P x)
+    → (xs : List A) → every tests xs ≡ true → All P xs
+all-from-tests tests claim [] e = tt
+all-from-tests tests claim (x ∷ xs) e =
+    let t = both-true (all (tests x)) (every tests xs) e in
+    (claim x (all-holds (tests x) (t .0)), all-from-tests tests claim xs (t .1))
+
+row-holds : (r : Row) → Passed (holds r) → Holds r
+row-holds r t = record { made = eqb-true _ _ (t .0); lines = list-right sameLine line-right _ _ (t .1 .0) }
+
+figures-give : (g : Settings) (n : ℕ) (fs : List (Settings → ℕ)) → gives g n fs ≡ true → Gives g n fs
+figures-give g n = all-from-tests (λ f. eqb (f g) n ∷ []) (λ f t. eqb-true (f g) n (t .0))
+
+row-reaches : (x : Reach) → Passed (reaches x) → Reaches x
+row-reaches x t = record { holds = row-holds (x .row) (all-holds (holds (x .row)) (t .0)); reached = figures-give _ _ (x .figures) (t .1 .0) }
+
+stretch-unanswered : (s : Stretch) → Passed (unanswered s) → Unanswered s
+stretch-unanswered s t =
+    record {
+      holds = row-holds (s .row) (all-holds (holds (s .row)) (t .0));
+      zeros = list-right eqb eqb-true _ _ (t .1 .0);
+      counted = eqb-true _ _ (t .1 .1 .0);
+    }
+
+-- ---- the tables
+tables-pass : (every holds table ≡ true) × (every reaches extremes ≡ true) × (every reaches solos ≡ true) × (every unanswered stretches ≡ true)
+unfolding table extremes solos stretches mostPassed leastFull frameworkBound exactBound thesisBound k14Bound countedSteps eventsOf runOf linesOf makeNumber settingsFit run callOf cond allBelow slotAt putSlot queuePhase stackPhase phaseOf decode encode encodePhase headFit subFit subsFit phaseFit wordFit workersFit bodyChecked checkedOf zeroed indexed madeWords makeOf slotBegin fitBegin checkedBegin beginOf viewOf nextOf windowRule missOf queuePutRead queueTakeRead stackRead checkRule commitBy queueCommit stackCommit shiftBy queueShift stackShift confirmedOf confirmRule itemsAbove heldSub heldBelow countItems distanceOf putItem putSub putLanded putShifted putWorker takenOf applyBy applyOf ruleBy ruleOf slotStep fitStep checkedStep stepOf
+tables-pass = (refl, refl, refl, refl)
+
+pub runs-hold : AllHold table × All Reaches extremes × All Reaches solos × All Unanswered stretches
 runs-hold = (
-  record { made = refl; lines = refl }
-      also record { made = refl; lines = refl }
-      also record { made = refl; lines = refl }
-      also record { made = refl; lines = refl }
-      also record { made = refl; lines = refl }
-      also record { made = refl; lines = refl }
-      also record { made = refl; lines = refl }
-      also record { made = refl; lines = refl }
-      also record { made = refl; lines = refl }
-      also record { made = refl; lines = refl }
-      also record { made = refl; lines = refl }
-      also record { made = refl; lines = refl }
-      also end,
-  record { made = refl; lines = refl }
-      also record { made = refl; lines = refl }
-      also record { made = refl; lines = refl }
-      also record { made = refl; lines = refl }
-      also record { made = refl; lines = refl }
-      also record { made = refl; lines = refl }
-      also record { made = refl; lines = refl }
-      also end,
-  record { made = refl; lines = refl }
-      also record { made = refl; lines = refl }
-      also record { made = refl; lines = refl }
-      also record { made = refl; lines = refl }
-      also record { made = refl; lines = refl }
-      also end,
-  record { made = refl; lines = refl }
-      also record { made = refl; lines = refl }
-      also record { made = refl; lines = refl }
-      also record { made = refl; lines = refl }
-      also end,
+  all-from-tests holds row-holds table (tables-pass .0),
+  all-from-tests reaches row-reaches extremes (tables-pass .1),
+  all-from-tests reaches row-reaches solos (tables-pass .2),
+  all-from-tests unanswered stretch-unanswered stretches (tables-pass .3),
 )
-
--- which are demand 3's numbers for the queue's take and for both fulls
-pub numbers-reached : (mostPassed (queue 3 2 4 3) ≡ 4) × (leastFull (queue 2 1 2 1) ≡ 2) × (leastFull (stack 2 2 2 5 1) ≡ 8)
-unfolding mostPassed leastFull cond
-numbers-reached = (refl, refl, refl)
-
--- and the exact figure for the stack's takes; it is K14's in the first two of them, and the thesis' in all but the last
-pub record Figures (g : Settings) (framework exact thesis k14 : ℕ) : Type 0 where
-  pub framework-is : frameworkBound g ≡ framework
-  pub exact-is : exactBound g ≡ exact
-  pub thesis-is : thesisBound g ≡ thesis
-  pub k14-is : k14Bound g ≡ k14
-
-pub figures-reached : Figures (stack 2 1 1 3 2) 3 3 3 3 × Figures (stack 2 2 1 5 2) 4 5 5 5 × Figures (stack 2 2 2 6 3) 6 6 6 7 × Figures (stack 2 1 1 2 3) 3 2 3 3
-unfolding frameworkBound exactBound thesisBound k14Bound cond
-figures-reached = (
-  record { framework-is = refl; exact-is = refl; thesis-is = refl; k14-is = refl },
-  record { framework-is = refl; exact-is = refl; thesis-is = refl; k14-is = refl },
-  record { framework-is = refl; exact-is = refl; thesis-is = refl; k14-is = refl },
-  record { framework-is = refl; exact-is = refl; thesis-is = refl; k14-is = refl },
-)
-
--- and K3's, for the last operation of each
-pub solo-reached :
-    (soloSteps (queue 2 1 2 1) (putting 3) ≡ 7) × (soloSteps (queue 2 1 2 2) taking ≡ 9)
-    × (soloSteps (stack 2 1 1 3 2) (putting 5) ≡ 12) × (soloSteps (stack 2 1 1 3 2) taking ≡ 12) × (soloSteps (stack 5 1 1 2 2) taking ≡ 19)
-unfolding cond
-solo-reached = (refl, refl, refl, refl, refl)
-
--- and K7's: the three of queues are as long as its exact figure says, and the stack's is longer than K7's
-pub stretches-reached : Unanswered oneWorker 26 8 7 × Unanswered movedWindow 24 13 12 × Unanswered changedSub 20 18 17 × Unanswered endless 5 32 30
-unfolding oneWorker movedWindow changedSub endless eventsOf run callOf cond allBelow slotAt putSlot queuePhase stackPhase phaseOf decode encode encodePhase headFit subFit subsFit phaseFit wordFit workersFit bodyChecked checkedOf zeroed indexed madeWords makeOf slotBegin fitBegin checkedBegin beginOf viewOf nextOf windowRule missOf queuePutRead queueTakeRead stackRead checkRule commitBy queueCommit stackCommit shiftBy queueShift stackShift confirmedOf confirmRule itemsAbove heldSub heldBelow countItems distanceOf putItem putSub putLanded putShifted putWorker takenOf applyBy applyOf ruleBy ruleOf slotStep fitStep checkedStep stepOf settingsFit countedSteps
-stretches-reached = (
-  record { zeros = refl; counted = refl },
-  record { zeros = refl; counted = refl },
-  record { zeros = refl; counted = refl },
-  record { zeros = refl; counted = refl },
-)
-
-pub stretch-figures :
-    (exactStretch (queue 2 1 2 1) ≡ 7) × (exactStretch (queue 1 1 2 2) ≡ 12) × (exactStretch (queue 2 1 2 2) ≡ 17) × (k7Stretch (queue 1 1 2 2) ≡ 24)
-unfolding cond
-stretch-figures = (refl, refl, refl, refl)

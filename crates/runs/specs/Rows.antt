@@ -10,6 +10,7 @@ use Rattle.rules.specs.Layout.{needed, stepsAt}
 use Rattle.rules.specs.Limits.{settingsFit}
 use Rattle.rules.specs.Make.{makeOf}
 use Rattle.rules.specs.Run.{Call, beginPut, beginTake, step, Event, run}
+use Rattle.rules.specs.Statement.{All}
 use Rattle.rules.specs.declared.Settings.{Settings}
 
 -- an operation that finished, or a call that was refused: the worker, the operation's steps taken, the answer's number and fields
@@ -67,7 +68,5 @@ pub record Holds (r : Row) : Type 0 where
   pub made : makeNumber (r .settings) (r .lent) ≡ r .made
   pub lines : runOf r ≡ r .lines
 
-infixr 5 _also_
-pub data AllHold : List Row → Type 0 where
-  end : AllHold []
-  _also_ : {r : Row} {rs : List Row} → Holds r → AllHold rs → AllHold (r ∷ rs)
+abbrev pub AllHold : List Row → Type 0
+AllHold = All Holds
