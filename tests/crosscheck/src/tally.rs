@@ -144,8 +144,9 @@ impl Tally {
 
     pub fn report_runs(&self) {
         println!(
-            "one at a time: {} operations of {} runs have places; {} runs need places before last steps",
-            self.runs.operations, self.runs.runs, self.runs.not_at_last_steps,
+            "one at a time: {} operations of {} runs have places; {} runs need a put or a take before \
+             its last step",
+            self.runs.operations, self.runs.runs, self.runs.changed_early,
         );
         let [queue, stack] = self.runs.percent_of_worst;
         let [queues, stacks] = self.runs.at_worst;

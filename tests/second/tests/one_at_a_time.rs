@@ -6,7 +6,7 @@ mod common;
 use common::{put_answer, queue, stack, taken_answer};
 use second::phase::Side;
 use second::{closer_distance_bound, distance_bound, worst_distance};
-use second::{one_at_a_time, Answer, Event, Settings};
+use second::{one_at_a_time, Answer, AtLast, Event, Settings};
 use second::{EMPTY, FULL, MOVING, SPENT};
 
 fn begin_put(worker: u32, value: u32) -> Event {
@@ -130,10 +130,10 @@ fn an_empty_in_the_middle_of_its_steps() {
         events.extend([begin_put(1, 6), ends(1, put(2, 6)), ends(2, answer)]);
         events
     };
-    assert_eq!(
-        places(small(), &around(Answer::of(EMPTY), 1)),
-        Some(vec![1, 5, 8, 6])
-    );
+    let placed = one_at_a_time(&small(), 1, &around(Answer::of(EMPTY), 1)).expect("it has places");
+    assert_eq!(placed.events, [1, 5, 8, 6]);
+    assert_eq!(placed.unchanging.len(), 1);
+    assert_eq!(placed.unchanging[0].at_last, AtLast::Cannot);
     // Without a step of its own there, it was never empty in its steps.
     assert_eq!(places(small(), &around(Answer::of(EMPTY), 0)), None);
     // Full is for a put alone.

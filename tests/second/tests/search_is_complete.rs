@@ -1,15 +1,17 @@
 //! The search beside plain enumeration: on small random histories, right ones
-//! and spoiled ones, it finds a placing exactly if one exists.
+//! and spoiled ones, it finds a placing exactly if one exists, and says exactly
+//! of which empties and fulls one exists with them at their last steps.
 
 mod common;
 
 use common::{put_answer, queue, stack, taken_answer, Numbers};
 use second::phase::Side;
 use second::{distance_bound, full_bound, worst_distance};
-use second::{one_at_a_time, Answer, Event, Settings};
+use second::{one_at_a_time, Answer, AtLast, Event, Placed, Settings};
 use second::{EMPTY, FULL, MOVING, PUT, QUEUE, TAKEN};
 
 /// An operation with the events of its own steps.
+#[derive(Clone)]
 struct Planned {
     worker: u32,
     side: Side,
@@ -184,10 +186,34 @@ fn some_placing(claim: Claim, planned: &[Planned], chosen: &mut Vec<(usize, usiz
     })
 }
 
+/// Of each empty and full, in the order in which they finished, whether some
+/// placing has it at its last step.
+fn at_their_last_steps(claim: Claim, planned: &[Planned]) -> Vec<AtLast> {
+    let mut unchanging: Vec<usize> = (0..planned.len())
+        .filter(|k| matches!(planned[*k].answer.number, EMPTY | FULL))
+        .collect();
+    unchanging.sort_by_key(|k| planned[*k].steps.last().copied());
+    let at_last = |k: usize| {
+        let mut kept = planned.to_vec();
+        kept[k].steps.drain(..planned[k].steps.len() - 1);
+        match some_placing(claim, &kept, &mut Vec::new()) {
+            true => AtLast::Can,
+            false => AtLast::Cannot,
+        }
+    };
+    unchanging.into_iter().map(at_last).collect()
+}
+
+fn said(placed: &Placed) -> Vec<AtLast> {
+    let unchanging = placed.unchanging.iter();
+    unchanging.map(|unchanging| unchanging.at_last).collect()
+}
+
 #[test]
 fn the_search_agrees_with_enumeration() {
     let mut numbers = Numbers(1);
     let (mut right, mut wrong, mut gone_back) = (0, 0, 0);
+    let (mut can, mut cannot) = (0, 0);
     for _ in 0..4000 {
         let kinds = [
             queue(2, 1, 2, 3),
@@ -203,6 +229,13 @@ fn the_search_agrees_with_enumeration() {
         let expected = some_placing(claim, &planned, &mut Vec::new());
         let found = one_at_a_time(&settings, most_passed, &events);
         assert_eq!(found.is_ok(), expected, "{claim:?} {events:?}");
+        if let Ok(placed) = &found {
+            let at_last = at_their_last_steps(claim, &planned);
+            assert_eq!(said(placed), at_last, "{claim:?} {events:?}");
+            let cannots = at_last.iter().filter(|at| **at == AtLast::Cannot).count();
+            cannot += cannots;
+            can += at_last.len() - cannots;
+        }
         match found {
             Ok(placed) if placed.returns > 0 => gone_back += 1,
             Ok(_) => right += 1,
@@ -213,4 +246,5 @@ fn the_search_agrees_with_enumeration() {
         right > 500 && wrong > 500 && gone_back > 500,
         "{right} {wrong} {gone_back}"
     );
+    assert!(can > 500 && cannot > 200, "{can} {cannot}");
 }

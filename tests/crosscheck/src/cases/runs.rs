@@ -13,8 +13,8 @@ use second::{worst_distance, Settings};
 pub struct Runs {
     pub runs: u64,
     pub operations: u64,
-    /// Runs in which some put or take could not stand at its last step.
-    pub not_at_last_steps: u64,
+    /// Runs in which some put or take cannot stand at its last step.
+    pub changed_early: u64,
     /// How many percent of the worst distance a take has reached, by kind.
     pub percent_of_worst: [u32; 2],
     /// How many runs had a take at the worst distance, by kind.
@@ -29,8 +29,9 @@ impl Runs {
         let placed = run.one_at_a_time()?;
         self.runs += 1;
         self.operations += placed.events.len() as u64;
-        self.not_at_last_steps += u64::from(placed.returns > 0);
+        self.changed_early += u64::from(placed.returns > 0);
         self.note_distance(&settings, run.greatest);
+        checks.coverage.places.record(&settings, &placed);
         checks.coverage.stretch.record_run(&settings, run.longest);
         Ok(())
     }

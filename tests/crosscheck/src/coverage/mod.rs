@@ -3,13 +3,15 @@
 //! where the paper's text is about words that no make leads to, each sort of
 //! settings that a script can have, each phase in which others may have stopped
 //! beside a solo operation, and the most steps of one; each corner of a
-//! dispatch, and the most steps of a stretch.
+//! dispatch, and the most steps of a stretch; and an empty of each kind that
+//! cannot stand at its last step.
 
 mod corners;
 mod counts;
 mod dispatch;
 mod numbers;
 mod phases;
+mod places;
 mod scripts;
 mod solo;
 mod stretch;
@@ -19,6 +21,7 @@ use counts::Counts;
 use dispatch::DISPATCHES;
 use numbers::Numbers;
 use phases::Phases;
+use places::Places;
 use scripts::SCRIPTS;
 use second::{layout, Answer, Dispatched, Settings, NO_WORKER, UNFIT};
 use sides::{Call, Dispatch, SECOND};
@@ -47,6 +50,7 @@ pub struct Coverage {
     pub solo: Solo,
     dispatch: Counts<{ DISPATCHES.len() }>,
     pub stretch: Stretch,
+    pub places: Places,
 }
 
 impl Coverage {
@@ -112,6 +116,7 @@ impl Coverage {
         missing.extend(self.solo.report());
         missing.extend(self.dispatch.report(DISPATCHES));
         missing.extend(self.stretch.report());
+        missing.extend(self.places.report());
         missing
     }
 }

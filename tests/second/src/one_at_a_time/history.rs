@@ -1,6 +1,6 @@
 //! The finished operations of a run, and the steps that are their own.
 
-use crate::answer::{Answer, MOVING};
+use crate::answer::{Answer, EMPTY, FULL, MOVING};
 use crate::pool::phase::Side;
 use crate::pool::settings::Settings;
 use std::collections::BTreeMap;
@@ -37,6 +37,13 @@ pub(super) struct Operation {
     pub side: Side,
     pub value: u32,
     pub answer: Answer,
+}
+
+impl Operation {
+    /// An empty or a full: "both give zeros and change nothing".
+    pub fn changes_nothing(&self) -> bool {
+        matches!(self.answer.number, EMPTY | FULL)
+    }
 }
 
 /// A step of a finished operation, the places where it may stand.

@@ -9,12 +9,37 @@ mod search;
 mod sequential;
 
 pub use history::Event;
-pub use search::Placed;
 
 use crate::pool::settings::Settings;
 use history::History;
-use search::Search;
+use search::{Found, Search};
 use sequential::Sequential;
+
+/// Where the operations stand.
+pub struct Placed {
+    /// The chosen step of each finished operation, as its place in the run.
+    pub events: Vec<usize>,
+    /// How often the search had to go back: 0 exactly if the puts and takes can
+    /// all stand at their last steps.
+    pub returns: u64,
+    /// The empties and fulls, in the order in which they finished.
+    pub unchanging: Vec<Unchanging>,
+}
+
+/// An empty or a full.
+pub struct Unchanging {
+    pub number: u32,
+    pub at_last: AtLast,
+}
+
+/// Whether some choice of steps, for all operations, has it at its last step.
+#[derive(Clone, Copy, Debug, PartialEq, Eq)]
+pub enum AtLast {
+    Can,
+    Cannot,
+    /// The search gave up.
+    Undecided,
+}
 
 /// The linearization points of a run in which no take passes over more items
 /// than `most_passed`, or why there are none. Demand 3's own claim has the
@@ -26,29 +51,59 @@ pub fn one_at_a_time(
 ) -> Result<Placed, String> {
     let history = History::of(settings, events)?;
     let list = || Sequential::new(settings, most_passed);
-    let placed = Search::new(list(), &history).run()?;
-    replay(list(), &history, &placed)?;
-    Ok(placed)
+    let found = Search::new(list(), &history).run().map_err(|no| no.why)?;
+    let unchanging = replay(list, &history, &found)?;
+    let Found { events, returns } = found;
+    Ok(Placed {
+        events,
+        returns,
+        unchanging,
+    })
 }
 
 /// The search need not be believed: its outcome is replayed from the start.
-fn replay(mut list: Sequential, history: &History, placed: &Placed) -> Result<(), String> {
+fn replay(
+    list: impl Fn() -> Sequential,
+    history: &History,
+    found: &Found,
+) -> Result<Vec<Unchanging>, String> {
+    let mut replayed = list();
     let mut fed = 0;
+    let mut unchanging = Vec::new();
     for moment in &history.moments {
-        if placed.events[moment.operation] == moment.event {
-            let operation = &history.operations[moment.operation];
-            list.feed(operation).ok_or(format!(
+        let operation = &history.operations[moment.operation];
+        if found.events[moment.operation] == moment.event {
+            replayed.feed(operation).ok_or(format!(
                 "the search placed {operation:?} where it is not allowed"
             ))?;
             fed += 1;
         }
+        if moment.last && operation.changes_nothing() {
+            // Nobody's place depends on where it stands.
+            let at_last = match replayed.allows(operation) {
+                true => AtLast::Can,
+                false => with_others_moved(list(), history, moment.operation),
+            };
+            let number = operation.answer.number;
+            unchanging.push(Unchanging { number, at_last });
+        }
     }
     if fed == history.operations.len() {
-        Ok(())
+        Ok(unchanging)
     } else {
         Err(format!(
             "the search placed {fed} of {}",
             history.operations.len()
         ))
+    }
+}
+
+/// An empty or a full that is not allowed at its last step where the others
+/// stand: whether it is with the others elsewhere.
+fn with_others_moved(list: Sequential, history: &History, operation: usize) -> AtLast {
+    match Search::new(list, history).keep_last(operation).run() {
+        Ok(_) => AtLast::Can,
+        Err(no) if no.decided => AtLast::Cannot,
+        Err(_) => AtLast::Undecided,
     }
 }

@@ -17,20 +17,27 @@
 
 use super::history::{History, Moment};
 use super::sequential::{Sequential, Undo};
-use crate::answer::{PUT, TAKEN};
 use std::collections::HashSet;
 
 /// The search gives up after this many visits to steps beyond the first walk,
 /// and says so.
 const PATIENCE: usize = 2_000_000;
+/// The same where one operation is kept to its last step.
+const SHORT_PATIENCE: usize = 200_000;
 
 /// Where the operations stand.
-pub struct Placed {
+pub(super) struct Found {
     /// The chosen step of each finished operation, as its place in the run.
     pub events: Vec<usize>,
-    /// How often the search had to go back; 0 if every put and take stands at
-    /// its last step.
+    /// How often the search had to go back.
     pub returns: u64,
+}
+
+/// Why there are no places.
+pub(super) struct NoPlaces {
+    /// Every choice was tried.
+    pub decided: bool,
+    pub why: String,
 }
 
 /// What was decided at a moment, to go back over it.
@@ -54,6 +61,9 @@ pub(super) struct Search<'a> {
     failed: HashSet<(usize, u64)>,
     returns: u64,
     furthest: usize,
+    /// An operation that may stand at its last step alone.
+    kept_last: Option<usize>,
+    patience: usize,
 }
 
 impl<'a> Search<'a> {
@@ -68,16 +78,25 @@ impl<'a> Search<'a> {
             failed: HashSet::new(),
             returns: 0,
             furthest: 0,
+            kept_last: None,
+            patience: PATIENCE,
         }
     }
 
-    pub fn run(mut self) -> Result<Placed, String> {
+    /// With an empty or a full at its last step, if it can be there at all.
+    pub fn keep_last(mut self, operation: usize) -> Search<'a> {
+        self.kept_last = Some(operation);
+        self.patience = SHORT_PATIENCE;
+        self
+    }
+
+    pub fn run(mut self) -> Result<Found, NoPlaces> {
         let mut at = 0;
         let mut visits = 0;
         while at < self.history.moments.len() {
             visits += 1;
-            if visits > PATIENCE + self.history.moments.len() {
-                return Err(self.complaint("undecided: the search gave up near"));
+            if visits > self.patience + self.history.moments.len() {
+                return Err(self.no_places(false, "undecided: the search gave up near"));
             }
             if self.visit(at) {
                 at += 1;
@@ -87,13 +106,13 @@ impl<'a> Search<'a> {
             self.returns += 1;
             match self.go_back() {
                 Some(chosen) => at = chosen + 1,
-                None => return Err(self.complaint("no place for")),
+                None => return Err(self.no_places(true, "no place for")),
             }
         }
         let moments = &self.history.moments;
         let places = self.place.iter();
         let events = places.map(|place| moments[place.expect("all are passed")].event);
-        Ok(Placed {
+        Ok(Found {
             events: events.collect(),
             returns: self.returns,
         })
@@ -102,7 +121,7 @@ impl<'a> Search<'a> {
     /// Decides at a moment; false if no operation order goes on from here.
     fn visit(&mut self, at: usize) -> bool {
         let moment = &self.history.moments[at];
-        let number = self.history.operations[moment.operation].answer.number;
+        let operation = &self.history.operations[moment.operation];
         if self.place[moment.operation].is_some() {
             if moment.last {
                 self.early &= !self.bit(moment);
@@ -110,8 +129,10 @@ impl<'a> Search<'a> {
             }
             return true;
         }
-        let changes_the_list = number == PUT || number == TAKEN;
-        if changes_the_list && !moment.last {
+        if self.kept_last == Some(moment.operation) && !moment.last {
+            return true;
+        }
+        if !operation.changes_nothing() && !moment.last {
             if self.failed.contains(&(at, self.early)) {
                 return false;
             }
@@ -165,12 +186,13 @@ impl<'a> Search<'a> {
         1 << self.history.operations[moment.operation].worker
     }
 
-    fn complaint(&self, what: &str) -> String {
+    fn no_places(&self, decided: bool, what: &str) -> NoPlaces {
         let moment = &self.history.moments[self.furthest];
         let operation = &self.history.operations[moment.operation];
-        format!(
-            "{what} {operation:?}, finished or stopped at call {}",
-            moment.event
-        )
+        let at = moment.event;
+        NoPlaces {
+            decided,
+            why: format!("{what} {operation:?}, finished or stopped at call {at}"),
+        }
     }
 }

@@ -42,14 +42,19 @@ impl Sequential {
         }
     }
 
-    /// Feeds the operation if it is allowed here and its answer has the value,
-    /// stamp and distance that the list gives; else nothing changes.
-    pub fn feed(&mut self, operation: &Operation) -> Option<Undo> {
+    /// Whether the operation is allowed here, and its answer has the value,
+    /// stamp and distance that the list gives.
+    pub fn allows(&self, operation: &Operation) -> bool {
         let answer = &operation.answer;
-        let answered = (answer.value, answer.stamp, answer.distance);
-        if self.gives(operation) != Some(answered) {
+        self.gives(operation) == Some((answer.value, answer.stamp, answer.distance))
+    }
+
+    /// Feeds the operation if it is allowed here; else nothing changes.
+    pub fn feed(&mut self, operation: &Operation) -> Option<Undo> {
+        if !self.allows(operation) {
             return None;
         }
+        let answer = &operation.answer;
         Some(match answer.number {
             PUT => {
                 self.puts += 1;
