@@ -14,7 +14,7 @@ static uint32_t words[LENT], fields[POOL_DISPATCH_FIELDS];
 /* Whether there is a final answer, from the worker whose turn it is on; else the number that ended the turns is in `number`. */
 static int next_answer(uint32_t *turn, uint32_t *number) {
     *number = pool_dispatch(words, LENT, *turn, POOL_STEPS_TO_ANSWER(WIDTH, WORKERS), fields);
-    if (*number > POOL_FULL) { return 0; }
+    if (!POOL_FINAL(*number)) { return 0; }
     printf("%u: worker %u, %u at distance %u\n", *number, fields[POOL_WORKER], fields[POOL_VALUE], fields[POOL_DISTANCE]);
     *turn = (fields[POOL_WORKER] + 1) % WORKERS;
     return 1;
@@ -35,7 +35,7 @@ int main(void) {
         uint32_t worker = fields[POOL_WORKER];
         if (number == POOL_TAKEN) { pool_begin_take(words, LENT, worker, fields); }
     }
-    printf("%s\n", number == POOL_NONE_BUSY ? "no worker is busy" : "refused");
+    printf("%s\n", number == POOL_NONE_BUSY ? "no worker is busy" : POOL_REFUSED(number) ? "refused" : "no answer");
     printf("%u steps are enough for an answer, %u at the closest\n", POOL_STEPS_TO_ANSWER(WIDTH, WORKERS),
            POOL_STEPS_TO_ANSWER_CLOSEST(WIDTH, WORKERS));
     return 0;

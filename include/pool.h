@@ -2,8 +2,8 @@
  * The windowed pool: a queue (paper 01's line) or a stack (its pile) spread over several subs, in words that the caller lends.
  *
  * Each call works on the `len` 32-bit words at `words`, whatever they hold, and keeps nothing of its own. It returns the
- * answer's number and writes the answer's five fields (pool_dispatch: six). A refusal (21 or more) leaves all lent words unchanged; where
- * pool_dispatch meets one after some steps, as before the step that was refused.
+ * answer's number and writes the answer's five fields (pool_dispatch: six). `words` and `fields` must not be NULL, nor overlap. A refusal
+ * (21 or more) leaves all lent words unchanged; where pool_dispatch meets one after some steps, as before the step that was refused.
  *
  *   0   moving, made or begun
  *   1   put: the value, the sub and row that it lies in, its stamp
@@ -20,7 +20,10 @@
  *   26  pool_step: the worker is idle
  *   27  begin or a step: the step count is 4,000,000,000 or more
  *
- * Nothing here locks: one call at a time on the same words.
+ * 28 to 30 are the run lister's. Nothing here locks: one call at a time on the same words.
+ *
+ * What is said of a pool below, its figures and its end, is said of one from pool_make that these calls alone have changed. The macros are
+ * for settings within limits; they may evaluate an argument more than once.
  */
 #ifndef POOL_H
 #define POOL_H
@@ -51,6 +54,10 @@ extern "C" {
 #define POOL_IDLE 26u
 #define POOL_STEPS_SPENT 27u
 
+/* An answer 1 to 4 ends its operation, one of 21 or more refuses the call; 0, 5 and 6 are neither. */
+#define POOL_FINAL(number) ((number)-1u < 4u)
+#define POOL_REFUSED(number) ((number) >= 21u)
+
 /* The fields, by their place; each is 0 unless the answer names it. */
 #define POOL_VALUE 0     /* the value put or taken */
 #define POOL_SUB 1       /* the sub that it lies or lay in, from 0 */
@@ -63,8 +70,27 @@ extern "C" {
 #define POOL_WORKER 5
 #define POOL_DISPATCH_FIELDS 6
 
-/* How many words a pool needs. */
+/* How many words a pool needs, and the most that one can need. */
 #define POOL_WORDS(width, rows, workers) (12u + 2u * (width) + 8u * (workers) + 2u * (width) * (rows))
+#define POOL_MAX_WORDS 8492u
+
+/*
+ * How many items a take may pass over, older ones (queue) or newer ones (stack): no distance is above it. The first is paper 01's, and the run
+ * lister's 30 goes by it. The second is closer for a stack, and exact: with two workers or more some run comes to it. Proved:
+ * crates/rules/specs/Statement.antt, Newer.antt; crates/reached/specs/Reached.antt.
+ */
+#define POOL_BOUND(kind, width, depth, shift)                                                                                               \
+    (((width)-1u) * ((kind) == POOL_QUEUE ? 1u * (depth) : 2u * (depth) + 2u * (shift)))
+#define POOL_BOUND_CLOSEST(kind, width, depth, shift, rows)                                                                                 \
+    (((width)-1u) * ((kind) == POOL_QUEUE                                                                                                   \
+                         ? 1u * (depth)                                                                                                     \
+                         : (depth) + (shift) * (((depth)-1u) / (shift) + 2u < ((rows)-1u * (depth)) / (shift)                               \
+                                                    ? ((depth)-1u) / (shift) + 2u                                                           \
+                                                    : ((rows)-1u * (depth)) / (shift))))
+
+/* How many items are held at the least, at one of its steps, where a put answers 4. Proved: crates/rules/specs/Statement.antt. */
+#define POOL_LEAST_FULL(kind, width, depth, shift, rows)                                                                                    \
+    ((width) * ((kind) == POOL_QUEUE ? (rows)-1u * (depth) : (rows)-1u * (shift) + 1u))
 
 /*
  * How many steps to reserve for an operation whose worker alone steps from its begin on, wherever the others have stopped, in a pool
@@ -75,6 +101,23 @@ extern "C" {
 #define POOL_STEPS_ALONE_QUEUE_PUT(width) ((width) + 5u)
 #define POOL_STEPS_ALONE_QUEUE_TAKE(width) (3u * (width) + 3u)
 #define POOL_STEPS_ALONE_STACK(width) ((width) < 4u ? 2u * (width) + 8u : 3u * (width) + 4u)
+
+/*
+ * The end of a pool's life: once it has taken so many steps, begins and steps answer 27, for good, and what the pool holds can't be taken any
+ * more. At full speed that is a matter of minutes. The two functions read a pool's words: the steps that it has taken, and those that it has
+ * left. Begins and refused calls count none.
+ *
+ * To drain a pool in time, keep a worker idle. While POOL_STEPS_TO_DRAIN(width, items) steps are left, for the items held or more (they are at
+ * most width * rows), stop all others wherever they are, and let that worker take until it is answered 3: each take ends within
+ * POOL_STEPS_ALONE(width) steps, and after the 3 the pool holds nothing. The value of a put that was stopped is not in the pool.
+ * examples/drain.c does it.
+ */
+#define POOL_STEP_LIMIT 4000000000u
+#define POOL_STEPS_TO_DRAIN(width, items) (((items) + 1u) * POOL_STEPS_ALONE(width))
+
+static inline uint32_t pool_steps_used(const uint32_t *words) { return words[6]; }
+
+static inline uint32_t pool_steps_left(const uint32_t *words) { return words[6] < POOL_STEP_LIMIT ? POOL_STEP_LIMIT - words[6] : 0u; }
 
 /*
  * Of so many steps in a row that are not refused, on a queue from pool_make, by any workers in any order and with begins between them, at least
