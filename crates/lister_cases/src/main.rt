@@ -1,5 +1,6 @@
-// The lister's library over run files in memory: every kind of line, and every refusal that a run file can reach, against the stored output.
-// Out of reach are 21 (the lister lends enough words), 23 (its pool is always fit), 27 (four billion steps) and 30 (no take passes over more than the bound).
+// The lister's library over run files in memory: every kind of line, and every refusal that a run file can reach, against the stored output, but for 27:
+// it takes four billion words (tests/spent_steps.py). Out of reach are 21 (the lister lends enough words), 23 (its pool is always fit) and 30 (no take
+// passes over more than the bound).
 // The files are those of examples/, packed.
 use libc::STDOUT_FILENO;
 use listing::begin;
