@@ -1,5 +1,6 @@
 #!/bin/sh
-# tests/examples.sh: packs each text of examples/ and examples/runs/ into a run file, lists it with target/bin/lister, and compares with the stored listing.
+# tests/examples.sh: packs each text of examples/ and examples/runs/ into a run file, lists it with target/bin/lister, from a file and in pieces of a few
+# bytes, and compares with the stored listing.
 # The lister must have been built: `rt check lister`.
 cd "$(dirname "$0")/.." || exit 2
 lister=target/bin/lister
@@ -11,6 +12,8 @@ failed=0
 for text in examples/*.txt examples/runs/*.txt; do
     listing=${text%.txt}.listing
     if tools/runfile pack <"$text" >"$work/run" && "$lister" <"$work/run" >"$work/listing" 2>"$work/errors" &&
+        cmp -s "$work/listing" "$listing" && [ ! -s "$work/errors" ] &&
+        tests/in_pieces.py "$lister" <"$work/run" >"$work/listing" 2>"$work/errors" &&
         cmp -s "$work/listing" "$listing" && [ ! -s "$work/errors" ]; then
         passed=$((passed + 1))
     else
