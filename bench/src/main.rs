@@ -1,5 +1,6 @@
 //! The compiled library's time per call beside that of `fast`, the second
-//! implementation made fast, as Markdown for a page in docs.
+//! implementation made fast, as Markdown for a page in docs. With `reading`, the
+//! last table alone.
 
 mod busy;
 mod dispatching;
@@ -11,6 +12,15 @@ mod tables;
 mod workload;
 
 fn main() {
+    let words: Vec<String> = std::env::args().skip(1).collect();
+    match words.iter().map(String::as_str).collect::<Vec<_>>()[..] {
+        [] => all(),
+        ["reading"] => reading::table(),
+        _ => eprintln!("bench [reading]"),
+    }
+}
+
+fn all() {
     println!("# Benchmark\n");
     println!("- Machine: {}, {}", machine::uname(), machine::cpu());
     println!("- Date: {}", machine::date());
