@@ -12,8 +12,8 @@ use std::panic::{self, AssertUnwindSafe};
 use std::process::ExitCode;
 use std::time::{Duration, Instant};
 
-/// Cases that are run however short the time is; they reach all there is to
-/// reach.
+/// Cases that are run however short the time is. They reach all there is to
+/// reach but for few seeds, which ask for more time (one of the first sixty).
 const LEAST_CASES: u64 = 400;
 /// Images, makes and most scripts are short: a case has this many of them.
 const IMAGES: u64 = 160;
