@@ -1,8 +1,12 @@
-// The settings: their limits, and the words that they need.
+// The limits of the settings.
 use rules::Settings;
+use rules::numbers::DEEPEST;
+use rules::numbers::MOST_CELLS;
+use rules::numbers::MOST_ROWS;
+use rules::numbers::MOST_WORKERS;
+use rules::numbers::WIDEST;
 ghost use mathlib.Core.Path.{_≡_};
-ghost use Rattle.rules.specs.Layout.{needed};
-ghost use Rattle.rules.specs.Limits.{settingsFit, Bounds};
+ghost use Rattle.rules.specs.Limits.{settingsFit};
 
 // Whether settings are within limits.
 pub fn settings_fit(g: Settings) -> bool
@@ -20,13 +24,13 @@ pub fn settings_fit(g: Settings) -> bool
     if width < 1 {
         return false;
     }
-    if 16 < width {
+    if WIDEST < width {
         return false;
     }
     if depth < 1 {
         return false;
     }
-    if 64 < depth {
+    if DEEPEST < depth {
         return false;
     }
     if shift < 1 {
@@ -38,16 +42,16 @@ pub fn settings_fit(g: Settings) -> bool
     if rows < 2 * depth {
         return false;
     }
-    if 1024 < rows {
+    if MOST_ROWS < rows {
         return false;
     }
     if workers < 1 {
         return false;
     }
-    if 32 < workers {
+    if MOST_WORKERS < workers {
         return false;
     }
-    if 4096 < width * rows {
+    if MOST_CELLS < width * rows {
         return false;
     }
     if kind == 0 {
@@ -60,14 +64,4 @@ pub fn settings_fit(g: Settings) -> bool
         return true;
     }
     true
-}
-
-// How many words a pool needs.
-pub fn words_needed(g: Settings) -> usize
-    requires { ⌜ Bounds g ⌝ }
-    ensures { λ r. ⌜ r ≡ needed g ⌝ }
-{
-    let width = g.width as usize;
-    let rows = g.rows as usize;
-    12 + 2 * width + 8 * (g.workers as usize) + 2 * (width * rows)
 }

@@ -1,12 +1,14 @@
 // The subs: sub by sub, their two words.
+use image::sub_of;
 use rules::Settings;
 use std::num::wrapping_sub_u64;
 ghost use mathlib.Core.Path.{_≡_};
-ghost use Prim.Native.Nat.{_+_, _*_, _<_, _≤_};
+ghost use Prim.Native.Nat.{_+_, _<_, _≤_};
 ghost use lib.ListN.{length};
 ghost use Rattle.laws.specs.Choice.{fourFrom};
 ghost use Rattle.rules.specs.Fit.{queueSubFit, subFit, subsFit};
-ghost use Rattle.rules.specs.Layout.{firstOf, secondOf};
+ghost use Rattle.rules.specs.Layout.{firstOf, secondOf, needed};
+ghost use Rattle.rules.specs.Limits.{Bounds};
 
 // Whether a queue's sub of items put and taken is fit. One comparison tells: were more taken than put, the difference would
 // wrap above every number of rows.
@@ -17,21 +19,24 @@ fn queue_fit(rows: u32, put: u32, taken: u32) -> bool
     held <= (rows as u64)
 }
 
-// Whether sub `j` is fit.
+// Whether sub `j` is fit. Each kind reads the words for itself: read before the test, they would have the compiler do both
+// tests at every sub.
 fn sub_fit(words: &[u32], g: Settings, j: u32) -> bool
-    requires { ⌜ (j < 16) × (12 + 2 * j + 2 ≤ length (now words)) ⌝ }
+    requires { ⌜ (needed g ≤ length (now words)) × (j < g .width) ⌝ }
     ensures { λ r. ⌜ r ≡ subFit g (firstOf (now (words .entry)) j) (secondOf (now (words .entry)) j) ⌝ }
 {
-    let sub = 12 + 2 * (j as usize);
     if g.kind == 0 {
-        return queue_fit(g.rows, words[sub], words[sub + 1]);
+        let sub = sub_of(words, j);
+        return queue_fit(g.rows, sub.first, sub.second);
     }
-    words[sub] <= g.rows
+    let sub = sub_of(words, j);
+    sub.first <= g.rows
 }
 
 // Whether the four subs from `j` on are fit.
 fn four_fit(words: &[u32], g: Settings, j: u32) -> bool
-    requires { ⌜ (j < 13) × (12 + 2 * j + 8 ≤ length (now words)) ⌝ }
+    requires { ⌜ Bounds g ⌝ }
+    requires { ⌜ (needed g ≤ length (now words)) × (j + 3 < g .width) ⌝ }
     ensures { λ r. ⌜ r ≡ fourFrom j (λ k. subFit g (firstOf (now (words .entry)) k) (secondOf (now (words .entry)) k)) ⌝ }
 {
     if sub_fit(words, g, j) {
@@ -46,7 +51,8 @@ fn four_fit(words: &[u32], g: Settings, j: u32) -> bool
 
 // Whether each sub is fit, four subs a turn: the test of one is shorter than a turn's own work.
 pub fn subs_fit(words: &[u32], g: Settings) -> bool
-    requires { ⌜ (g .width ≤ 16) × (12 + 2 * g .width ≤ length (now words)) ⌝ }
+    requires { ⌜ Bounds g ⌝ }
+    requires { ⌜ needed g ≤ length (now words) ⌝ }
     ensures { λ r. ⌜ r ≡ subsFit (now (words .entry)) g ⌝ }
 {
     let width = g.width;

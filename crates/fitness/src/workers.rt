@@ -1,25 +1,44 @@
 // The workers: worker by worker, their words.
+use image::INDEX;
+use image::PHASE;
+use image::SCAN;
+use image::WORKER_WORDS;
+use image::worker_at;
 use rules::Settings;
+use rules::numbers::COMMIT;
+use rules::numbers::CONFIRM;
+use rules::numbers::IDLE;
+use rules::numbers::READ;
+use rules::numbers::SHIFT;
+use rules::numbers::TAKE_COMMIT;
+use rules::numbers::TAKE_CONFIRM;
+use rules::numbers::TAKE_READ;
+use rules::numbers::TAKE_SHIFT;
+use rules::numbers::TAKE_WINDOW;
+use rules::numbers::TAKING;
+use rules::numbers::WINDOW;
 ghost use mathlib.Core.Path.{_≡_};
-ghost use Prim.Native.Nat.{_+_, _*_, _≤_};
+ghost use Prim.Native.Nat.{_≤_};
 ghost use lib.ListN.{length};
 ghost use Rattle.rules.specs.Fit.{phaseFit, wordFit, workersFit};
+ghost use Rattle.rules.specs.Layout.{needed};
+ghost use Rattle.rules.specs.Limits.{Bounds};
 
 // Whether `x` is a phase of a queue: a match, which the compiler turns into one look at a word of bits.
 fn queue_phase_fit(x: u32) -> bool
     ensures { λ r. ⌜ r ≡ phaseFit 0 x ⌝ }
 {
     match x {
-        0 => true,
-        1 => true,
-        2 => true,
-        4 => true,
-        5 => true,
-        9 => true,
-        10 => true,
-        12 => true,
-        13 => true,
-        14 => true,
+        IDLE => true,
+        WINDOW => true,
+        READ => true,
+        COMMIT => true,
+        SHIFT => true,
+        TAKE_WINDOW => true,
+        TAKE_READ => true,
+        TAKE_COMMIT => true,
+        TAKE_SHIFT => true,
+        TAKE_CONFIRM => true,
         _ => false,
     }
 }
@@ -31,14 +50,13 @@ fn phase_fit(kind: u32, x: u32) -> bool
     if kind == 0 {
         return queue_phase_fit(x);
     }
-    if 14 < x {
+    if TAKE_CONFIRM < x {
         return false;
     }
-    if x == 7 {
-        return false;
-    }
-    if x == 8 {
-        return false;
+    if CONFIRM < x {
+        if x <= TAKING {
+            return false;
+        }
     }
     true
 }
@@ -47,13 +65,13 @@ fn phase_fit(kind: u32, x: u32) -> bool
 fn word_fit(g: Settings, k: usize, x: u32) -> bool
     ensures { λ r. ⌜ r ≡ wordFit g k x ⌝ }
 {
-    if k == 0 {
+    if k == PHASE {
         return phase_fit(g.kind, x);
     }
-    if k == 2 {
+    if k == INDEX {
         return x < g.width;
     }
-    if k == 5 {
+    if k == SCAN {
         return x < g.width;
     }
     true
@@ -61,18 +79,18 @@ fn word_fit(g: Settings, k: usize, x: u32) -> bool
 
 // Whether every word of every worker is fit.
 pub fn workers_fit(words: &[u32], g: Settings) -> bool
-    requires { ⌜ (g .width ≤ 16) × (g .workers ≤ 32) × (12 + 2 * g .width + 8 * g .workers ≤ length (now words)) ⌝ }
+    requires { ⌜ Bounds g ⌝ }
+    requires { ⌜ needed g ≤ length (now words) ⌝ }
     ensures { λ r. ⌜ r ≡ workersFit (now (words .entry)) g ⌝ }
 {
-    let base = 12 + 2 * (g.width as usize);
-    let n = g.workers as usize;
+    let n = g.workers;
     let mut fit = true;
-    let mut i: usize = 0;
+    let mut i: u32 = 0;
     'workers: while i < n {
+        let at = worker_at(g, i);
         let mut k: usize = 0;
-        while k < 8 {
-            let at = base + 8 * i + k;
-            let x = words[at];
+        while k < WORKER_WORDS {
+            let x = words[at + k];
             if !word_fit(g, k, x) {
                 fit = false;
                 break 'workers;

@@ -27,6 +27,12 @@ unfolding cond
 cases P true x y f g = f refl
 cases P false x y f g = g refl
 
+-- what is done to a choice is done to either
+pub cond-under : {A B : Type 0} (f : A → B) (b : Bool) (x y : A) → f (cond b x y) ≡ cond b (f x) (f y)
+unfolding cond
+cond-under f true x y = refl
+cond-under f false x y = refl
+
 -- both tests hold
 abbrev pub both : Bool → Bool → Bool
 both true b = b

@@ -50,16 +50,16 @@ line-most digits x xs h = omega (arith, line-length x xs, decimal-most digits x 
 
 -- every entry's line fits: 20 digits, 3 digits, six times 10 digits, and a byte after each
 pub entry-fits : (e : Entry) → (e .position < 2 ^ 64) × (e .number < 2 ^ 32) × (e .worker < 2 ^ 8) × (e .value < 2 ^ 32) × (e .sub < 2 ^ 32)
-    × (e .row < 2 ^ 32) × (e .stamp < 2 ^ 32) × (e .distance < 2 ^ 32) → length (lineOf (numbersOf e)) ≤ lineBytes
+    × (e .row .0 < 2 ^ 32) × (e .stamp .0 < 2 ^ 32) × (e .distance < 2 ^ 32) → length (lineOf (numbersOf e)) ≤ lineBytes
 unfolding lineOf
 entry-fits e bounds =
-    let a = line-most 19 (e .position) (e .number ∷ e .worker ∷ e .value ∷ e .sub ∷ e .row ∷ e .stamp ∷ e .distance ∷ []) (omega arith) in
-    let b = line-most 9 (e .number) (e .worker ∷ e .value ∷ e .sub ∷ e .row ∷ e .stamp ∷ e .distance ∷ []) (omega arith) in
-    let c = line-most 2 (e .worker) (e .value ∷ e .sub ∷ e .row ∷ e .stamp ∷ e .distance ∷ []) (omega arith) in
-    let f = line-most 9 (e .value) (e .sub ∷ e .row ∷ e .stamp ∷ e .distance ∷ []) (omega arith) in
-    let g = line-most 9 (e .sub) (e .row ∷ e .stamp ∷ e .distance ∷ []) (omega arith) in
-    let h = line-most 9 (e .row) (e .stamp ∷ e .distance ∷ []) (omega arith) in
-    let i = line-most 9 (e .stamp) (e .distance ∷ []) (omega arith) in
+    let a = line-most 19 (e .position) (e .number ∷ e .worker ∷ e .value ∷ e .sub ∷ e .row .0 ∷ e .stamp .0 ∷ e .distance ∷ []) (omega arith) in
+    let b = line-most 9 (e .number) (e .worker ∷ e .value ∷ e .sub ∷ e .row .0 ∷ e .stamp .0 ∷ e .distance ∷ []) (omega arith) in
+    let c = line-most 2 (e .worker) (e .value ∷ e .sub ∷ e .row .0 ∷ e .stamp .0 ∷ e .distance ∷ []) (omega arith) in
+    let f = line-most 9 (e .value) (e .sub ∷ e .row .0 ∷ e .stamp .0 ∷ e .distance ∷ []) (omega arith) in
+    let g = line-most 9 (e .sub) (e .row .0 ∷ e .stamp .0 ∷ e .distance ∷ []) (omega arith) in
+    let h = line-most 9 (e .row .0) (e .stamp .0 ∷ e .distance ∷ []) (omega arith) in
+    let i = line-most 9 (e .stamp .0) (e .distance ∷ []) (omega arith) in
     let j = line-most 9 (e .distance) [] (omega arith) in
     omega arith
 

@@ -11,9 +11,13 @@ space = 32
 abbrev pub newline : ℕ
 newline = 10
 
--- the last decimal digit of a number; byte 48 is "0"
+-- the byte of "0"
+abbrev pub zeroDigit : ℕ
+zeroDigit = 48
+
+-- the last decimal digit of a number
 abbrev pub digit : ℕ → ℕ
-digit x = 48 + x % 10
+digit x = zeroDigit + x % 10
 
 -- the last `most` digits of a number, with no leading zero
 unfoldable pub digitsOf : ℕ → ℕ → List ℕ
@@ -39,7 +43,7 @@ lineOf (x ∷ xs) = decimal x ++ (afterOf xs ∷ lineOf xs)
 -- word position, number, worker, value, sub, row, stamp, distance
 abbrev pub numbersOf : Entry → List ℕ
 numbersOf e =
-    e .position ∷ e .number ∷ e .worker ∷ e .value ∷ e .sub ∷ e .row ∷ e .stamp ∷ e .distance ∷ []
+    e .position ∷ e .number ∷ e .worker ∷ e .value ∷ e .sub ∷ e .row .0 ∷ e .stamp .0 ∷ e .distance ∷ []
 
 -- "held " and " worst "
 abbrev pub heldText : List ℕ

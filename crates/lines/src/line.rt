@@ -1,4 +1,6 @@
 // The lines of a listing: each fills the end of a lent area, and only the used part is handed back.
+use rules::Row;
+use rules::Stamp;
 ghost use mathlib.Core.Path.{_≡_};
 ghost use mathlib.Core.List.{_++_, _∷_, []};
 ghost use Prim.Native.Nat.{_<_, _≤_};
@@ -16,8 +18,8 @@ pub struct Entry {
     pub worker: u8,
     pub value: u32,
     pub sub: u32,
-    pub row: u32,
-    pub stamp: u32,
+    pub row: Row,
+    pub stamp: Stamp,
     pub distance: u32,
 }
 
@@ -30,11 +32,11 @@ fn put_digits(area: &mut [u8], end: usize, x: u64) -> usize
     let mut rest = x;
     while 10 <= rest {
         at -= 1;
-        area[at] = 48 + (rest % 10) as u8;
+        area[at] = b'0' + (rest % 10) as u8;
         rest = rest / 10;
     }
     at -= 1;
-    area[at] = 48 + (rest % 10) as u8;
+    area[at] = b'0' + (rest % 10) as u8;
     at
 }
 
@@ -92,8 +94,8 @@ fn put_entry(area: &mut [u8], e: Entry) -> usize
         e.worker as u64,
         e.value as u64,
         e.sub as u64,
-        e.row as u64,
-        e.stamp as u64,
+        e.row.0 as u64,
+        e.stamp.0 as u64,
         e.distance as u64,
     ];
     put_line(area, &numbers)

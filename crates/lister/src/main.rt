@@ -4,14 +4,16 @@ use libc::STDERR_FILENO;
 use libc::STDIN_FILENO;
 use libc::STDOUT_FILENO;
 use lines::LINE_BYTES;
-use listing::Stretch;
-use listing::begin;
-use listing::lent_words;
-use listing::list_words;
+use replay::Stretch;
+use replay::begin;
+use replay::lent_words;
+use replay::list_words;
+use runfile::word::WORD_BYTES;
 ghost use mathlib.Core.Path.{_≡_};
 ghost use Prim.Native.Nat.{_-_, _%_, _<_, _≤_};
 ghost use lib.ListN.{length, drop};
 ghost use lib.Seq.{paste};
+ghost use Rattle.runfile.specs.Words.{wordBytes};
 
 // How far the program is: the listing, the bytes of a cut word at the front of the input, and whether to read on.
 struct Run {
@@ -77,9 +79,9 @@ fn list_piece(words: &mut [u32], from: Stretch, src: &[u8], last: bool, out: &mu
 // The next piece starts with the bytes of the word that this one cuts; how many they are.
 fn carry(src: &mut [u8], end: usize) -> usize
     requires { ⌜ end ≤ length (now src) ⌝ }
-    ensures { λ r. ⌜ (r ≡ end % 4) × (now (src .exit) ≡ paste (now (src .entry)) 0 (drop (end - end % 4) (now (src .entry))) (end % 4)) ⌝ }
+    ensures { λ r. ⌜ (r ≡ end % wordBytes) × (now (src .exit) ≡ paste (now (src .entry)) 0 (drop (end - end % wordBytes) (now (src .entry))) (end % wordBytes)) ⌝ }
 {
-    let n = end % 4;
+    let n = end % WORD_BYTES;
     let from = end - n;
     let mut i: usize = 0;
     while i < n {
@@ -118,7 +120,7 @@ fn read_on(src: &mut [u8], carried: usize) -> Input
 // Reads a piece and lists it. A read of no bytes is the file's end. Where the input can't be read, what is listed is written, and no closing line.
 fn list_some(words: &mut [u32], run: Run, src: &mut [u8], out: &mut [u8]) -> Run
     requires { ⌜ (run .carried ≤ length (now src)) × (run .stretch .used ≤ length (now out)) ⌝ }
-    ensures { λ r. ⌜ (r .carried < 4) × (r .stretch .used ≤ length (now (out .entry))) ⌝ }
+    ensures { λ r. ⌜ (r .carried < wordBytes) × (r .stretch .used ≤ length (now (out .entry))) ⌝ }
 {
     let carried = run.carried;
     let s = run.stretch;

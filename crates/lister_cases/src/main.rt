@@ -3,9 +3,9 @@
 // passes over more than the bound).
 // The files are those of examples/, packed.
 use libc::STDOUT_FILENO;
-use listing::begin;
-use listing::lent_words;
-use listing::list_words;
+use replay::begin;
+use replay::lent_words;
+use replay::list_words;
 
 // Writes the listing of a file, and an empty line.
 fn show(file: &[u8]) {

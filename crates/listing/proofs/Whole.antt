@@ -10,7 +10,7 @@ use native.Mathlib.Omega.{arith}
 use lib.Dec.{eqb}
 use lib.ListN.{length, replicate}
 use Rattle.laws.specs.Choice.{cond}
-use Rattle.rules.specs.Answers.{noFields}
+use Rattle.rules.specs.Answers.{noFields, badWord}
 use Rattle.rules.specs.declared.Answer.{Answer}
 use Rattle.rules.specs.declared.Answer.the-variants.{Moving, Put, Taken, Empty, Full, Refused}
 use Rattle.runfile.specs.Words.{wordOf, readsOf, readAt}
@@ -21,7 +21,9 @@ use Rattle.runfile.specs.declared.item.Item.{Item}
 use Rattle.runfile.specs.declared.item.Item.the-variants.{Open, Make, BeginPut, BeginTake, Step, End, Bad}
 use Rattle.lines.specs.Lines.{numbersOf}
 use Rattle.lines.specs.declared.line.Entry.{Entry}
-use Rattle.listing.specs.Listing.{Line, entry, closing, callOf, distanceIn, cappedOf, stops, lineThen, answerThen, heldOf, linesFrom, lentWords, linesOf}
+use Rattle.rules.specs.Layout.{mostWords}
+use Rattle.rules.specs.Held.{heldOf}
+use Rattle.listing.specs.Listing.{Line, entry, closing, callOf, distanceIn, cappedOf, stops, lineThen, answerThen, linesFrom, linesOf}
 use Rattle.listing.specs.Turn.{Turned, onward, plain, lineTurn, answerTurn, cappedTurn, callTurn, itemTurn, wordTurn, endTurn, turnOf, newLister}
 use Rattle.listing.specs.Turns.{listedThen, turnsFrom, turnsOf}
 use Rattle.listing.specs.declared.answer.Lister.{Lister}
@@ -101,7 +103,7 @@ module _ (n : ℕ) (rest : List ℕ) (ih : (ws : List ℕ) (l : Lister) → l .p
   by-item (BeginTake worker) = good (BeginTake worker)
   by-item (Step worker) = good (Step worker)
   by-item End = good End
-  by-item Bad = line-lines (λ l′. turnsFrom n rest 0 ws l′) l (plain (l .position) 29 0)
+  by-item Bad = line-lines (λ l′. turnsFrom n rest 0 ws l′) l (plain (l .position) badWord 0)
 
 -- ---- a file
 -- four bytes in front are one word
@@ -142,4 +144,4 @@ follows (a ∷ b ∷ c ∷ d ∷ rest) ws l few =
 
 pub turns-list : (bytes : List ℕ) → length bytes < 2 ^ 64 → turnsOf bytes ≡ linesOf bytes
 unfolding turnsOf linesOf fileOf
-turns-list bytes few = follows bytes (replicate lentWords 0) newLister (omega arith)
+turns-list bytes few = follows bytes (replicate mostWords 0) newLister (omega arith)

@@ -7,17 +7,15 @@ use mathlib.Core.Bool.{Bool, true}
 use lib.ListN.{length, replicate}
 use lib.Dec.{eqb, ltb}
 use Rattle.laws.specs.Choice.{cond}
-use Rattle.rules.specs.Answers.{Out, out, fieldsOf, noFields}
+use Rattle.rules.specs.Answers.{Out, out, fieldsOf, noFields, offLimits, fileCut, badWord, overBound}
 use Rattle.rules.specs.Limits.{settingsFit}
-use Rattle.rules.specs.Fit.{checkedOf}
+use Rattle.rules.specs.Layout.{mostWords}
 use Rattle.rules.specs.Make.{makeOf}
 use Rattle.rules.specs.Begin.{beginPutOf, beginTakeOf}
 use Rattle.rules.specs.Step.{stepOf}
-use Rattle.rules.specs.Held.{heldItems}
+use Rattle.rules.specs.Held.{heldOf}
 use Rattle.rules.specs.Sequential.{mostPassed}
 use Rattle.rules.specs.declared.Settings.{Settings}
-use Rattle.rules.specs.declared.Checked.{Checked}
-use Rattle.rules.specs.declared.Checked.the-variants.{Unfit, Fit}
 use Rattle.rules.specs.declared.Answer.{Answer}
 use Rattle.rules.specs.declared.Answer.the-variants.{Moving, Put, Taken, Empty, Full, Refused}
 use Rattle.runfile.specs.File.{fileOf}
@@ -65,11 +63,11 @@ distanceIn (Refused n) = 0
 
 -- "A 30 is printed in place of that take's answer, its last five fields 0"
 unfoldable pub cappedOf : ℕ → Answer → Answer
-cappedOf bound a = cond (ltb bound (distanceIn a)) (Refused 30) a
+cappedOf bound a = cond (ltb bound (distanceIn a)) (Refused overBound) a
 
 -- ---- lines
 unfoldable pub stops : ℕ → Bool
-stops n = cond (eqb n 22) true (cond (eqb n 28) true (cond (eqb n 29) true (eqb n 30)))
+stops n = cond (eqb n offLimits) true (cond (eqb n fileCut) true (cond (eqb n badWord) true (eqb n overBound)))
 
 -- a line, and the lines after it unless its number stops the lister
 abbrev pub lineThen : ℕ → ℕ → ℕ → List ℕ → List Line → List Line
@@ -90,14 +88,6 @@ pub record Pool : Type 0 where
   pub bound : ℕ
   pub worst : ℕ
 
--- the items that a pool holds; the lister's words are a fit pool once it is made
-unfoldable pub heldBy : List ℕ → Checked → ℕ
-heldBy ws (Unfit n) = 0
-heldBy ws (Fit g) = length (heldItems ws g)
-
-unfoldable pub heldOf : List ℕ → ℕ
-heldOf ws = heldBy ws (checkedOf ws)
-
 -- the lines of a file's items from a position on, and of the fault that ends the file (0: none)
 unfoldable pub linesFrom : ℕ → Pool → List Item → ℕ → List Line
 linesFrom position s [] fault =
@@ -108,12 +98,9 @@ linesFrom position s (item ∷ items) fault =
     answerThen position (c .worker) a
     (linesFrom (position + 1) (record { words = c .out .words; bound = c .bound; worst = max (s .worst) (distanceIn a) }) items fault)
 
--- the words that the lister lends: enough for the largest pool, so that make never answers 21
-abbrev pub lentWords : ℕ
-lentWords = 12 + 2 * 16 + 8 * 32 + 2 * 4096
-
+-- before the first word: enough words for the largest pool, so that make never answers 21
 abbrev pub noPool : Pool
-noPool = record { words = replicate lentWords 0; bound = 0; worst = 0 }
+noPool = record { words = replicate mostWords 0; bound = 0; worst = 0 }
 
 unfoldable pub linesOf : List ℕ → List Line
 linesOf bytes = linesFrom 0 noPool ((fileOf bytes) .items) ((fileOf bytes) .fault)

@@ -4,6 +4,8 @@ use Prim.Native.Nat.{ℕ, _+_, _%_, _^_, max}
 use mathlib.Core.List.{List}
 use lib.Dec.{eqb}
 use Rattle.laws.specs.Choice.{cond}
+use Rattle.rules.specs.Answers.{badWord}
+use Rattle.rules.specs.Held.{heldOf}
 use Rattle.rules.specs.declared.Row.{Row}
 use Rattle.rules.specs.declared.Stamp.{Stamp}
 use Rattle.rules.specs.declared.Answer.{Answer}
@@ -17,7 +19,7 @@ use Rattle.runfile.specs.declared.item.Place.the-variants.{First}
 use Rattle.runfile.specs.declared.item.Item.{Item}
 use Rattle.runfile.specs.declared.item.Item.the-variants.{Open, Make, BeginPut, BeginTake, Step, End, Bad}
 use Rattle.lines.specs.declared.line.Entry.{Entry}
-use Rattle.listing.specs.Listing.{callOf, cappedOf, stops, heldOf}
+use Rattle.listing.specs.Listing.{callOf, cappedOf, stops}
 use Rattle.listing.specs.declared.answer.Lister.{Lister}
 use Rattle.listing.specs.declared.answer.Listed.the-variants.{Nothing, Line, Last, Closing}
 use Rattle.listing.specs.declared.answer.Turn.{Turn}
@@ -43,12 +45,12 @@ onward l worst = record { place = l .place; position = (l .position + 1) % 2 ^ 6
 -- an entry whose last five fields are 0
 abbrev pub plain : ℕ → ℕ → ℕ → Entry
 plain position number worker =
-    record { position = position; number = number; worker = worker; value = 0; sub = 0; row = 0; stamp = 0; distance = 0 }
+    record { position = position; number = number; worker = worker; value = 0; sub = 0; row = record { 0 = 0 }; stamp = record { 0 = 0 }; distance = 0 }
 
 -- the entry of an item that was put or taken
 abbrev pub itemEntry : ℕ → ℕ → ℕ → ℕ → ℕ → Row → Stamp → ℕ → Entry
 itemEntry position number worker value sub row stamp distance =
-    record { position = position; number = number; worker = worker; value = value; sub = sub; row = row .0; stamp = stamp .0; distance = distance }
+    record { position = position; number = number; worker = worker; value = value; sub = sub; row = row; stamp = stamp; distance = distance }
 
 -- ---- turns
 -- nothing is printed
@@ -89,7 +91,7 @@ itemTurn ws l (BeginPut worker value) = callTurn ws l (BeginPut worker value)
 itemTurn ws l (BeginTake worker) = callTurn ws l (BeginTake worker)
 itemTurn ws l (Step worker) = callTurn ws l (Step worker)
 itemTurn ws l End = callTurn ws l End
-itemTurn ws l Bad = turned (lineTurn l (plain (l .position) 29 0)) ws
+itemTurn ws l Bad = turned (lineTurn l (plain (l .position) badWord 0)) ws
 
 unfoldable pub wordTurn : List ℕ → Lister → ℕ → Turned
 wordTurn ws l word = itemTurn ws l (itemOf (l .place) word)

@@ -2,9 +2,10 @@
 use Prim.Native.Nat.{ℕ, zero, suc, _+_, _/_}
 use mathlib.Core.List.{List, [], _∷_}
 use lib.ListN.{length, replicate}
-use Rattle.runfile.specs.Words.{readAt}
+use Rattle.runfile.specs.Words.{wordBytes, readAt}
 use Rattle.lines.specs.Lines.{numbersOf}
-use Rattle.listing.specs.Listing.{Line, entry, closing, lentWords}
+use Rattle.rules.specs.Layout.{mostWords}
+use Rattle.listing.specs.Listing.{Line, entry, closing}
 use Rattle.listing.specs.Turn.{newLister, turnOf}
 use Rattle.listing.specs.declared.answer.Lister.{Lister}
 use Rattle.listing.specs.declared.answer.Listed.{Listed}
@@ -26,4 +27,4 @@ turnsFrom (suc n) bytes at ws l =
 
 -- a turn for each whole word, and one for the end of the file
 unfoldable pub turnsOf : List ℕ → List Line
-turnsOf bytes = turnsFrom (length bytes / 4 + 1) bytes 0 (replicate lentWords 0) newLister
+turnsOf bytes = turnsFrom (length bytes / wordBytes + 1) bytes 0 (replicate mostWords 0) newLister

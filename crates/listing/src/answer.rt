@@ -3,12 +3,16 @@ use lines::Entry;
 use rules::Answer;
 use rules::Row;
 use rules::Stamp;
+use rules::numbers::BAD_WORD;
+use rules::numbers::FILE_CUT;
+use rules::numbers::OFF_LIMITS;
+use rules::numbers::OVER_BOUND;
 use runfile::item::Place;
 ghost use mathlib.Core.Path.{_≡_};
 ghost use Prim.Native.Nat.{max};
 ghost use Rattle.listing.specs.Listing.{distanceIn, cappedOf};
 ghost use Rattle.listing.specs.Listing.{stops as Listing·stops};
-ghost use Rattle.listing.specs.Turn.{plain, itemEntry, quietTurn, lineTurn, answerTurn, cappedTurn};
+ghost use Rattle.listing.specs.Turn.{newLister, plain, itemEntry, quietTurn, lineTurn, answerTurn, cappedTurn};
 
 // Where the lister is in a file: the next word's place and position, the greatest distance listed, and the bound on one.
 pub struct Lister {
@@ -32,20 +36,32 @@ pub struct Turn {
     pub listed: Listed,
 }
 
+// The lister before a file's first word.
+pub fn start() -> Lister
+    ensures { λ r. ⌜ r ≡ newLister ⌝ }
+{
+    Lister {
+        place: Place::First,
+        position: 0,
+        worst: 0,
+        bound: 0,
+    }
+}
+
 // Whether the lister stops after a number.
 fn stops(number: u32) -> bool
     ensures { λ r. ⌜ r ≡ Listing·stops number ⌝ }
 {
-    if number == 22 {
+    if number == OFF_LIMITS {
         return true;
     }
-    if number == 28 {
+    if number == FILE_CUT {
         return true;
     }
-    if number == 29 {
+    if number == BAD_WORD {
         return true;
     }
-    number == 30
+    number == OVER_BOUND
 }
 
 // An entry whose last five fields are 0.
@@ -58,8 +74,8 @@ pub fn plain_entry(position: u64, number: u32, worker: u8) -> Entry
         worker,
         value: 0,
         sub: 0,
-        row: 0,
-        stamp: 0,
+        row: Row(0),
+        stamp: Stamp(0),
         distance: 0,
     }
 }
@@ -129,8 +145,8 @@ fn item_line(
             worker,
             value,
             sub,
-            row: row.0,
-            stamp: stamp.0,
+            row,
+            stamp,
             distance,
         },
     )
@@ -190,7 +206,7 @@ pub fn call_answered(l: Lister, worker: u8, a: Answer) -> Turn
     ensures { λ r. ⌜ r ≡ cappedTurn l worker a ⌝ }
 {
     if l.bound < distance_in(a) {
-        return answered(l, worker, Answer::Refused(30));
+        return answered(l, worker, Answer::Refused(OVER_BOUND));
     }
     answered(l, worker, a)
 }

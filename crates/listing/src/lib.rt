@@ -1,15 +1,13 @@
-// The listing of a run file, one word of it at a time.
+// What the listing of a run file means, and what each answer and the file's end print.
 mod answer;
-mod held;
-mod stretch;
-mod turn;
+mod end;
 
 pub use answer::Listed;
 pub use answer::Lister;
 pub use answer::Turn;
-pub use stretch::Stretch;
-pub use stretch::begin;
-pub use stretch::list_words;
-pub use turn::lent_words;
-pub use turn::list_next;
-pub use turn::start;
+pub use answer::call_answered;
+pub use answer::line;
+pub use answer::plain_entry;
+pub use answer::quiet;
+pub use answer::start;
+pub use end::ended;

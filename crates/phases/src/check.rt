@@ -1,6 +1,7 @@
 // The check phase, of a stack.
-use crate::effects::moved;
-use crate::effects::restart;
+use crate::views::stack_view;
+use effects::moved;
+use effects::restart;
 use rules::Effect;
 use rules::Phase;
 use rules::Side;
@@ -12,9 +13,10 @@ ghost use Rattle.rules.specs.Check.{checkRule};
 pub fn check(v: View, side: Side, version: Version, seen: Version) -> Effect
     ensures { λ r. ⌜ r ≡ checkRule v side version seen ⌝ }
 {
-    if v.mark == version.0 {
-        let slot = v.slot;
-        return moved(v, v.slot.index, Phase::StackCommit { side, seen }, slot);
+    let s = stack_view(v);
+    if s.version.0 == version.0 {
+        let kept = v.kept;
+        return moved(v, v.worker.index, Phase::StackCommit { side, seen }, kept);
     }
-    restart(v, v.slot.index, side)
+    restart(v, v.worker.index, side)
 }

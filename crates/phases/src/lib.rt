@@ -2,10 +2,8 @@
 mod check;
 mod commit;
 mod confirm;
-mod effects;
-pub mod num;
 mod read;
 pub mod rule;
 mod shift;
+mod views;
 mod window;
-pub mod worker;

@@ -1,9 +1,11 @@
 // The read phase.
-use crate::effects::moved;
-use crate::effects::next;
-use crate::effects::with_pass;
-use crate::num::minus;
-use crate::num::plus;
+use crate::views::queue_view;
+use crate::views::stack_view;
+use effects::moved;
+use effects::next;
+use effects::with_pass;
+use laws::num::minus;
+use laws::num::plus;
 use rules::Effect;
 use rules::Phase;
 use rules::Settings;
@@ -13,119 +15,103 @@ use rules::Version;
 use rules::View;
 ghost use mathlib.Core.Path.{_≡_};
 ghost use Prim.Native.Nat.{_<_};
-ghost use Rattle.rules.specs.Read.{queuePutRead, queueTakeMiss, queueTakeRead, stackHit, stackRead, afterTakes};
+ghost use lib.Dec.{ltb};
+ghost use Rattle.laws.specs.Choice.{cond};
+ghost use Rattle.laws.specs.Wrap.{add32};
+ghost use Rattle.rules.specs.Read.{missOf, queuePutRead, afterTakes, queueTakeMiss, queueTakeRead, stackHit, stackRead};
+
+// The phase after a miss: `again` to read on, or `after` at w misses.
+fn missed(g: Settings, scan: u32, again: Phase, after: Phase) -> Phase
+    ensures { λ r. ⌜ r ≡ cond (ltb (add32 scan 1) (g .width)) again after ⌝ }
+{
+    if plus(scan, 1) < g.width {
+        return again;
+    }
+    after
+}
+
+// To the next sub. The phase is picked first, so that the worker is written in one place: written in two, this function is
+// too long to be inlined, and steps are slower.
+fn miss(g: Settings, v: View, scan: u32, again: Phase, after: Phase, kept: Slot) -> Effect
+    requires { ⌜ v .worker .index < g .width ⌝ }
+    ensures { λ r. ⌜ r ≡ missOf g v scan again after kept ⌝ }
+{
+    let index = next(g, v.worker.index);
+    moved(v, index, missed(g, scan, again, after), kept)
+}
 
 pub fn queue_put_read(g: Settings, v: View, window: u32, scan: u32) -> Effect
-    requires { ⌜ v .slot .index < g .width ⌝ }
+    requires { ⌜ v .worker .index < g .width ⌝ }
     ensures { λ r. ⌜ r ≡ queuePutRead g v window scan ⌝ }
 {
-    let slot = v.slot;
-    if v.first < window {
-        return moved(
-            v,
-            v.slot.index,
-            Phase::QueueCommit {
-                side: Side::Putting,
-                seen: v.first,
-            },
-            slot,
-        );
+    let q = queue_view(v);
+    let side = Side::Putting;
+    let seen = q.items_put;
+    let kept = v.kept;
+    if seen < window {
+        return moved(v, v.worker.index, Phase::QueueCommit { side, seen }, kept);
     }
-    let index = next(g, v.slot.index);
-    let kept = with_pass(slot, v.slot.extra, 0, v.slot.sum);
-    let missed = plus(scan, 1);
-    if missed < g.width {
-        return moved(
-            v,
-            index,
-            Phase::QueuePutRead {
-                window,
-                scan: missed,
-            },
-            kept,
-        );
-    }
-    moved(
-        v,
-        index,
-        Phase::QueueShift {
-            side: Side::Putting,
-            window,
-        },
-        kept,
-    )
+    let again = Phase::QueuePutRead {
+        window,
+        scan: plus(scan, 1),
+    };
+    let after = Phase::QueueShift { side, window };
+    let pass = with_pass(kept, kept.extra, 0, kept.sum);
+    miss(g, v, scan, again, after, pass)
 }
 
 // All subs missed by a take.
 fn after_takes(window: u32, bare: u32, sum: u32) -> Phase
     ensures { λ r. ⌜ r ≡ afterTakes window bare sum ⌝ }
 {
+    let side = Side::Taking;
     if bare == 0 {
-        return Phase::QueueShift {
-            side: Side::Taking,
-            window,
-        };
+        return Phase::QueueShift { side, window };
     }
-    Phase::Confirm {
-        side: Side::Taking,
-        scan: 0,
-        sum,
-    }
+    Phase::Confirm { side, scan: 0, sum }
 }
 
 fn queue_take_miss(g: Settings, v: View, window: u32, bare: u32, scan: u32, sum: u32) -> Effect
-    requires { ⌜ v .slot .index < g .width ⌝ }
+    requires { ⌜ v .worker .index < g .width ⌝ }
     ensures { λ r. ⌜ r ≡ queueTakeMiss g v window bare scan sum ⌝ }
 {
-    let slot = v.slot;
-    let index = next(g, v.slot.index);
-    let kept = with_pass(slot, bare, 0, sum);
-    let missed = plus(scan, 1);
-    if missed < g.width {
-        return moved(
-            v,
-            index,
-            Phase::QueueTakeRead {
-                window,
-                bare,
-                scan: missed,
-                sum,
-            },
-            kept,
-        );
-    }
-    moved(v, index, after_takes(window, bare, sum), kept)
+    let again = Phase::QueueTakeRead {
+        window,
+        bare,
+        scan: plus(scan, 1),
+        sum,
+    };
+    let after = after_takes(window, bare, sum);
+    let kept = v.kept;
+    miss(g, v, scan, again, after, with_pass(kept, bare, 0, sum))
 }
 
 pub fn queue_take_read(g: Settings, v: View, window: u32, bare: u32, scan: u32, sum: u32) -> Effect
-    requires { ⌜ v .slot .index < g .width ⌝ }
+    requires { ⌜ v .worker .index < g .width ⌝ }
     ensures { λ r. ⌜ r ≡ queueTakeRead g v window bare scan sum ⌝ }
 {
-    let total = plus(sum, v.first);
-    if window <= v.second {
+    let q = queue_view(v);
+    let side = Side::Taking;
+    let seen = q.items_taken;
+    let total = plus(sum, q.items_put);
+    if window <= seen {
         return queue_take_miss(g, v, window, bare, scan, total);
     }
-    if v.first == v.second {
+    if q.items_put == seen {
         return queue_take_miss(g, v, window, plus(bare, 1), scan, total);
     }
-    let slot = v.slot;
-    moved(
-        v,
-        v.slot.index,
-        Phase::QueueCommit {
-            side: Side::Taking,
-            seen: v.second,
-        },
-        with_pass(slot, bare, scan, total),
-    )
+    let kept = v.kept;
+    let pass = with_pass(kept, bare, scan, total);
+    moved(v, v.worker.index, Phase::QueueCommit { side, seen }, pass)
 }
 
 fn stack_hit(g: Settings, v: View, side: Side, window: u32) -> bool
     ensures { λ r. ⌜ r ≡ stackHit g v side window ⌝ }
 {
+    let s = stack_view(v);
     match side {
-        Side::Putting => v.first < window,
-        Side::Taking => minus(window, g.depth) < v.first,
+        Side::Putting => s.items_held < window,
+        Side::Taking => minus(window, g.depth) < s.items_held,
     }
 }
 
@@ -138,48 +124,34 @@ pub fn stack_read(
     scan: u32,
     sum: u32,
 ) -> Effect
-    requires { ⌜ v .slot .index < g .width ⌝ }
+    requires { ⌜ v .worker .index < g .width ⌝ }
     ensures { λ r. ⌜ r ≡ stackRead g v side window version scan sum ⌝ }
 {
-    let slot = v.slot;
-    let total = plus(sum, v.second);
+    let s = stack_view(v);
+    let seen = s.sub_version;
+    let kept = v.kept;
+    let total = plus(sum, seen.0);
     if stack_hit(g, v, side, window) {
-        return moved(
-            v,
-            v.slot.index,
-            Phase::Check {
-                side,
-                version,
-                seen: Version(v.second),
-            },
-            with_pass(slot, version.0, scan, total),
-        );
-    }
-    let index = next(g, v.slot.index);
-    let missed = plus(scan, 1);
-    if missed < g.width {
-        return moved(
-            v,
-            index,
-            Phase::StackRead {
-                side,
-                window,
-                version,
-                scan: missed,
-                sum: total,
-            },
-            slot,
-        );
-    }
-    moved(
-        v,
-        index,
-        Phase::StackShift {
+        let check = Phase::Check {
             side,
             version,
-            scan: 0,
-            sum: total,
-        },
-        slot,
-    )
+            seen,
+        };
+        let pass = with_pass(kept, version.0, scan, total);
+        return moved(v, v.worker.index, check, pass);
+    }
+    let again = Phase::StackRead {
+        side,
+        window,
+        version,
+        scan: plus(scan, 1),
+        sum: total,
+    };
+    let after = Phase::StackShift {
+        side,
+        version,
+        scan: 0,
+        sum: total,
+    };
+    miss(g, v, scan, again, after, kept)
 }

@@ -3,32 +3,32 @@ use crate::check::check;
 use crate::commit::queue_commit;
 use crate::commit::stack_commit;
 use crate::confirm::confirm;
-use crate::effects::refused;
 use crate::read::queue_put_read;
 use crate::read::queue_take_read;
 use crate::read::stack_read;
 use crate::shift::queue_shift;
 use crate::shift::stack_shift;
 use crate::window::window;
-use crate::worker::worker_of;
+use effects::refused;
 use rules::Effect;
 use rules::Phase;
 use rules::Settings;
 use rules::View;
+use rules::numbers::WORKER_IDLE;
 ghost use mathlib.Core.Path.{_≡_};
 ghost use Prim.Native.Nat.{_≤_, _<_};
+ghost use Rattle.rules.specs.Limits.{deepest};
 ghost use Rattle.rules.specs.Step.{ruleOf};
 
 pub fn rule(g: Settings, v: View) -> Effect
-    requires { ⌜ g .depth ≤ 64 ⌝ }
-    requires { ⌜ v .slot .index < g .width ⌝ }
+    requires { ⌜ g .depth ≤ deepest ⌝ }
+    requires { ⌜ v .worker .index < g .width ⌝ }
     ensures { λ r. ⌜ r ≡ ruleOf g v ⌝ }
 {
-    let slot = v.slot;
-    let worker = worker_of(g.kind, slot);
+    let worker = v.worker;
     let phase = worker.phase;
     match phase {
-        Phase::Idle => refused(v, 26),
+        Phase::Idle => refused(v, WORKER_IDLE),
         Phase::Window(side) => window(g, v, side),
         Phase::QueuePutRead { window, scan } => queue_put_read(g, v, window, scan),
         Phase::QueueTakeRead {

@@ -1,26 +1,27 @@
 // The window phase.
-use crate::effects::keep;
-use crate::worker::fresh_slot;
+use crate::views::queue_view;
+use crate::views::stack_view;
+use effects::moved;
 use rules::Effect;
-use rules::Outcome;
 use rules::Phase;
 use rules::Settings;
 use rules::Side;
-use rules::Version;
 use rules::View;
+use worker::zero_slot;
 ghost use mathlib.Core.Path.{_≡_};
 ghost use Rattle.rules.specs.Window.{queueSeen, stackSeen, windowRule};
 
 fn queue_seen(v: View, side: Side) -> Phase
     ensures { λ r. ⌜ r ≡ queueSeen v side ⌝ }
 {
+    let q = queue_view(v);
     match side {
         Side::Putting => Phase::QueuePutRead {
-            window: v.top,
+            window: q.put_window,
             scan: 0,
         },
         Side::Taking => Phase::QueueTakeRead {
-            window: v.mark,
+            window: q.take_window,
             bare: 0,
             scan: 0,
             sum: 0,
@@ -31,10 +32,12 @@ fn queue_seen(v: View, side: Side) -> Phase
 fn stack_seen(v: View, side: Side) -> Phase
     ensures { λ r. ⌜ r ≡ stackSeen v side ⌝ }
 {
+    let s = stack_view(v);
+    let version = s.version;
     Phase::StackRead {
         side,
-        window: v.top,
-        version: Version(v.mark),
+        window: s.window,
+        version,
         scan: 0,
         sum: 0,
     }
@@ -43,18 +46,8 @@ fn stack_seen(v: View, side: Side) -> Phase
 pub fn window(g: Settings, v: View, side: Side) -> Effect
     ensures { λ r. ⌜ r ≡ windowRule g v side ⌝ }
 {
-    let value = v.slot.value;
-    let index = v.slot.index;
     if g.kind == 0 {
-        return keep(
-            v,
-            Outcome::Moving,
-            fresh_slot(value, index, queue_seen(v, side)),
-        );
+        return moved(v, v.worker.index, queue_seen(v, side), zero_slot());
     }
-    keep(
-        v,
-        Outcome::Moving,
-        fresh_slot(value, index, stack_seen(v, side)),
-    )
+    moved(v, v.worker.index, stack_seen(v, side), zero_slot())
 }

@@ -1,13 +1,19 @@
 // Begin put and begin take.
-use crate::slot::store;
 use fitness::refusal;
-use fitness::settings;
-use phases::worker::fresh_slot;
+use image::idle_at;
+use image::index_of;
+use image::out_of_steps;
+use image::settings;
+use image::store;
+use image::worker_at;
 use rules::Answer;
-use rules::Checked;
 use rules::Phase;
 use rules::Settings;
 use rules::Side;
+use rules::numbers::NO_SUCH_WORKER;
+use rules::numbers::STEPS_SPENT;
+use rules::numbers::WORKER_BUSY;
+use worker::fresh_slot;
 ghost use mathlib.Core.Path.{_≡_};
 ghost use Rattle.rules.specs.Answers.{out};
 ghost use Rattle.rules.specs.Fit.{FitPool};
@@ -19,16 +25,16 @@ fn slot_begin(words: &mut [u32], g: Settings, at: usize, side: Side, value: u32)
     requires { ⌜ Lent g (now words) at ⌝ }
     ensures { λ r. ⌜ out r (now (words .exit)) ≡ slotBegin (now (words .entry)) at side value ⌝ }
 {
-    if words[at] != 0 {
-        return Answer::Refused(25);
+    if idle_at(words, at) {
+        if out_of_steps(words) {
+            return Answer::Refused(STEPS_SPENT);
+        }
+        let index = index_of(words, at);
+        let slot = fresh_slot(value, index, Phase::Window(side));
+        store(words, at, slot);
+        return Answer::Moving;
     }
-    if 4000000000 <= words[6] {
-        return Answer::Refused(27);
-    }
-    let index = words[at + 2];
-    let slot = fresh_slot(value, index, Phase::Window(side));
-    store(words, at, slot);
-    Answer::Moving
+    Answer::Refused(WORKER_BUSY)
 }
 
 // Begins worker `i` of a fit pool.
@@ -37,10 +43,9 @@ fn fit_begin(words: &mut [u32], g: Settings, i: u32, side: Side, value: u32) -> 
     ensures { λ r. ⌜ out r (now (words .exit)) ≡ fitBegin (now (words .entry)) g i side value ⌝ }
 {
     if g.workers <= i {
-        return Answer::Refused(24);
+        return Answer::Refused(NO_SUCH_WORKER);
     }
-    let at = 12 + 2 * (g.width as usize) + 8 * (i as usize);
-    slot_begin(words, g, at, side, value)
+    slot_begin(words, g, worker_at(g, i), side, value)
 }
 
 fn begin(words: &mut [u32], i: u32, side: Side, value: u32) -> Answer

@@ -1,20 +1,20 @@
 // The functions that C calls: the answer's number is returned, and its five fields are written; of a dispatcher's result six.
-use crate::answers::answered;
-use crate::answers::fields;
-use crate::answers::number;
 use crate::begin::begin_put;
 use crate::begin::begin_take;
-use crate::dispatcher::dispatch;
 use crate::new::make;
-use crate::work::fit_answer;
+use dispatcher::dispatch;
 use fitness::refusal;
 use rules::Answer;
 use rules::Dispatched;
+use step::answers::answered;
+use step::answers::fields;
+use step::answers::number;
+use step::fit_answer;
 ghost use mathlib.Core.Path.{_≡_};
-ghost use Rattle.rules.specs.Answers.{numberOf, fieldsOf};
+ghost use Rattle.rules.specs.Answers.{returned, returnedOf};
 ghost use Rattle.rules.specs.Begin.{beginPutOf, beginTakeOf};
-ghost use Rattle.rules.specs.Dispatch.{dispatchOf, resultNumber, resultFields};
-ghost use Rattle.rules.specs.Make.{makeOf};
+ghost use Rattle.rules.specs.Dispatch.{dispatchOf, dispatchReturned, resultNumber, resultFields};
+ghost use Rattle.rules.specs.Make.{settingsFrom, makeOf};
 ghost use Rattle.rules.specs.Step.{stepOf};
 
 #[no_mangle]
@@ -28,9 +28,7 @@ pub extern "C" fn pool_make(
     workers: u32,
     fields: &mut [u32; 5],
 ) -> u32
-    ensures { λ r. ⌜ r ≡ numberOf ((makeOf (now (words .entry)) (record { kind = kind; width = width; depth = depth; shift = shift; rows = rows; workers = workers })) .answer) ⌝ }
-    ensures { λ _. ⌜ now (words .exit) ≡ (makeOf (now (words .entry)) (record { kind = kind; width = width; depth = depth; shift = shift; rows = rows; workers = workers })) .words ⌝ }
-    ensures { λ _. ⌜ now (fields .exit) ≡ fieldsOf ((makeOf (now (words .entry)) (record { kind = kind; width = width; depth = depth; shift = shift; rows = rows; workers = workers })) .answer) ⌝ }
+    ensures { λ r. ⌜ returned r (now (words .exit)) (now (fields .exit)) ≡ returnedOf (makeOf (now (words .entry)) (settingsFrom kind width depth shift rows workers)) ⌝ }
 {
     let a = make(words, kind, width, depth, shift, rows, workers);
     answered(a, fields)
@@ -43,9 +41,7 @@ pub extern "C" fn pool_begin_put(
     value: u32,
     fields: &mut [u32; 5],
 ) -> u32
-    ensures { λ r. ⌜ r ≡ numberOf ((beginPutOf (now (words .entry)) worker value) .answer) ⌝ }
-    ensures { λ _. ⌜ now (words .exit) ≡ (beginPutOf (now (words .entry)) worker value) .words ⌝ }
-    ensures { λ _. ⌜ now (fields .exit) ≡ fieldsOf ((beginPutOf (now (words .entry)) worker value) .answer) ⌝ }
+    ensures { λ r. ⌜ returned r (now (words .exit)) (now (fields .exit)) ≡ returnedOf (beginPutOf (now (words .entry)) worker value) ⌝ }
 {
     let a = begin_put(words, worker, value);
     answered(a, fields)
@@ -53,9 +49,7 @@ pub extern "C" fn pool_begin_put(
 
 #[no_mangle]
 pub extern "C" fn pool_begin_take(words: &mut [u32], worker: u32, fields: &mut [u32; 5]) -> u32
-    ensures { λ r. ⌜ r ≡ numberOf ((beginTakeOf (now (words .entry)) worker) .answer) ⌝ }
-    ensures { λ _. ⌜ now (words .exit) ≡ (beginTakeOf (now (words .entry)) worker) .words ⌝ }
-    ensures { λ _. ⌜ now (fields .exit) ≡ fieldsOf ((beginTakeOf (now (words .entry)) worker) .answer) ⌝ }
+    ensures { λ r. ⌜ returned r (now (words .exit)) (now (fields .exit)) ≡ returnedOf (beginTakeOf (now (words .entry)) worker) ⌝ }
 {
     let a = begin_take(words, worker);
     answered(a, fields)
@@ -64,9 +58,7 @@ pub extern "C" fn pool_begin_take(words: &mut [u32], worker: u32, fields: &mut [
 // As `step` and `answered` would give it; see `fit_answer`.
 #[no_mangle]
 pub extern "C" fn pool_step(words: &mut [u32], worker: u32, fields: &mut [u32; 5]) -> u32
-    ensures { λ r. ⌜ r ≡ numberOf ((stepOf (now (words .entry)) worker) .answer) ⌝ }
-    ensures { λ _. ⌜ now (words .exit) ≡ (stepOf (now (words .entry)) worker) .words ⌝ }
-    ensures { λ _. ⌜ now (fields .exit) ≡ fieldsOf ((stepOf (now (words .entry)) worker) .answer) ⌝ }
+    ensures { λ r. ⌜ returned r (now (words .exit)) (now (fields .exit)) ≡ returnedOf (stepOf (now (words .entry)) worker) ⌝ }
 {
     let n = refusal(words);
     if n != 0 {
@@ -107,9 +99,7 @@ pub extern "C" fn pool_dispatch(
     steps: u32,
     fields: &mut [u32; 6],
 ) -> u32
-    ensures { λ r. ⌜ r ≡ resultNumber ((dispatchOf (now (words .entry)) worker steps) .result) ⌝ }
-    ensures { λ _. ⌜ now (words .exit) ≡ (dispatchOf (now (words .entry)) worker steps) .words ⌝ }
-    ensures { λ _. ⌜ now (fields .exit) ≡ resultFields ((dispatchOf (now (words .entry)) worker steps) .result) ⌝ }
+    ensures { λ r. ⌜ returned r (now (words .exit)) (now (fields .exit)) ≡ dispatchReturned (dispatchOf (now (words .entry)) worker steps) ⌝ }
 {
     let r = dispatch(words, worker, steps);
     came_to(r, fields)

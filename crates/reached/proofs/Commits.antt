@@ -8,7 +8,7 @@ use native.Mathlib.Nat.{le-refl, le-trans}
 use native.Mathlib.Decide.{ℕ-discrete, decLe}
 use native.Mathlib.Omega.{arith}
 use borrow.Author.Tests.{lt-ltb, eq-eqb}
-use Rattle.rules.specs.Limits.{settingsFit}
+use Rattle.rules.specs.Limits.{settingsFit, stepLimit}
 use Rattle.rules.specs.Held.{Item}
 use Rattle.rules.specs.Worker.{fresh, encode, encodePhase}
 use Rattle.rules.specs.Run.{step}
@@ -99,7 +99,7 @@ module _ (g : Settings) (limits : settingsFit g ≡ true) (kind : g .kind ≡ 1)
   unfolding encode encodePhase
   idle-number x = (refl, refl)
 
-  module _ (s : State) (got : Got g limits kind s) (i : ℕ) (l : i < g .workers) (time : s .steps < 4000000000) (seen : Version) (live : seen .0 ≡ s .second (subIn s i)) where
+  module _ (s : State) (got : Got g limits kind s) (i : ℕ) (l : i < g .workers) (time : s .steps < stepLimit) (seen : Version) (live : seen .0 ≡ s .second (subIn s i)) where
     a : Stepping g s (got .live .list) i
     a = record { good = good g limits; kind = kind; common = got .live .common; inv = got .live .inv; time = time }
 
@@ -195,7 +195,7 @@ module _ (g : Settings) (limits : settingsFit g ≡ true) (kind : g .kind ≡ 1)
       }
 
   -- a worker that comes to sub j, where it hits, puts one there, or takes one
-  module _ (side : Side) (s : State) (i j : ℕ) (l : i < g .workers) (time : s .steps + 5 ≤ 4000000000) where
+  module _ (side : Side) (s : State) (i j : ℕ) (l : i < g .workers) (time : s .steps + 5 ≤ stepLimit) where
     finish : Walked g limits kind 4 s i j (StackCommit side (record { 0 = s .second j })) → BroughtOne 5 s i j (countAfter side (s .first j))
     finish a =
         let live : s .second j ≡ a .to .second (subIn (a .to) i) = rw (a .index-is, a .second) refl in

@@ -8,7 +8,7 @@ use Prim.Native.Nat.{ℕ, suc, _+_, _-_, _*_, _≤_, _<_}
 use native.Mathlib.Nat.{le-refl, eq-or-lt-of-le}
 use native.Mathlib.Decide.{decLe}
 use native.Mathlib.Omega.{arith}
-use Rattle.rules.specs.Limits.{settingsFit, Bounds}
+use Rattle.rules.specs.Limits.{settingsFit, Bounds, stepLimit}
 use Rattle.rules.specs.Effects.{nextOf}
 use Rattle.reached.proofs.Types.{Settings, Putting, Taking, StackCommit}
 use Rattle.rules.proofs.Fitness.{settings-bounds}
@@ -69,7 +69,7 @@ module _ (g : Settings) (limits : settingsFit g ≡ true) (kind : g .kind ≡ 1)
       low j l (yes y) = omega (arith, b .held j y (omega arith))
       low j l (no y) = omega (arith, b .held-off j (inl (omega arith)), o .full j (omega arith))
 
-  back : {x row top at n : ℕ} {s : State} → n + 81920 ≤ 4000000000 → Ready g limits kind last last-is two top at n s → On x row s
+  back : {x row top at n : ℕ} {s : State} → n + 81920 ≤ stepLimit → Ready g limits kind last last-is two top at n s → On x row s
       → (t : State) × About (ComesTo g last) Waits x row top top top (n + 81920) t
   back {x} {row} {top} {at} {n} {s} time o h = go (eq-or-lt-of-le (o .at-le))
     where
@@ -110,7 +110,7 @@ module _ (g : Settings) (limits : settingsFit g ≡ true) (kind : g .kind ≡ 1)
         few = omega (arith, b .later .steps, o .few);
       }
 
-  down : {x row top n : ℕ} {s : State} → n + 320 ≤ 4000000000 → row ≤ top → top < row + g .depth → About (ComesTo g last) Waits x row top top top n s
+  down : {x row top n : ℕ} {s : State} → n + 320 ≤ stepLimit → row ≤ top → top < row + g .depth → About (ComesTo g last) Waits x row top top top n s
       → (t : State) × About (ComesTo g last) Waits x row row top top (n + 320) t
   down {x} {row} {top} {n} {s} time l near o = go (eq-or-lt-of-le l)
     where
@@ -176,9 +176,9 @@ module _ (g : Settings) (limits : settingsFit g ≡ true) (kind : g .kind ≡ 1)
     pub full : (j : ℕ) → j < last → s .first j ≡ high
     pub waits : phaseIn g s mover ≡ StackCommit Taking (record { 0 = s .second last })
     pub index-is : subIn s mover ≡ last
-    pub few : s .steps < 4000000000
+    pub few : s .steps < stepLimit
 
-  filled : {x row top n : ℕ} {s : State} → n + 81920 < 4000000000 → About AtCommit Looks x row row top (top + g .shift) n s
+  filled : {x row top n : ℕ} {s : State} → n + 81920 < stepLimit → About AtCommit Looks x row row top (top + g .shift) n s
       → (b : Brought g limits kind (5120 * suc (last - 1)) s shifter 0 (last - 1) (top + g .shift) (last - 1)) → Last x row (top + g .shift) (b .to)
   filled {s = s} time o b =
       let alone : b .to .slot mover ≡ s .slot mover = b .off mover (λ z. omega arith) in
@@ -195,7 +195,7 @@ module _ (g : Settings) (limits : settingsFit g ≡ true) (kind : g .kind ≡ 1)
       }
 
   -- ---- from the take that comes to x on
-  module _ (x row top n : ℕ) (time : n + 90000 ≤ 4000000000) (near : top < row + g .depth) (able : top + g .shift ≤ g .rows) where
+  module _ (x row top n : ℕ) (time : n + 90000 ≤ stepLimit) (near : top < row + g .depth) (able : top + g .shift ≤ g .rows) where
     fills : (s : State) → About AtCommit Looks x row row top (top + g .shift) (n + 4 + 1) s → (t : State) × Last x row (top + g .shift) t
     fills s o =
         let b =
@@ -215,7 +215,7 @@ module _ (g : Settings) (limits : settingsFit g ≡ true) (kind : g .kind ≡ 1)
         let a = comes-to-commit g limits kind s mover last two Taking (o .got) (omega (arith, o .few)) (o .mover-is) (omega (arith, o .held-is, o .top-is)) in
         rises (a .to) (parked o a)
 
-  pub ends-ready : {x row top at n : ℕ} {s : State} → n + 180000 ≤ 4000000000 → row ≤ top → top < row + g .depth → top + g .shift ≤ g .rows
+  pub ends-ready : {x row top at n : ℕ} {s : State} → n + 180000 ≤ stepLimit → row ≤ top → top < row + g .depth → top + g .shift ≤ g .rows
       → Ready g limits kind last last-is two top at n s → On x row s → (t : State) × Last x row (top + g .shift) t
   ends-ready {x} {row} {top} {at} {n} time l near able o h =
       let a = back (omega arith) o h in

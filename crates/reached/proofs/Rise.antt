@@ -6,7 +6,7 @@ use Prim.Native.Nat.{ℕ, _+_, _≤_, _<_}
 use native.Mathlib.Omega.{arith}
 use borrow.Author.Tests.{le-leb, eq-eqb}
 use Rattle.laws.specs.Wrap.{add32}
-use Rattle.rules.specs.Limits.{settingsFit}
+use Rattle.rules.specs.Limits.{settingsFit, stepLimit}
 use Rattle.rules.specs.Worker.{encode}
 use Rattle.rules.specs.Run.{step}
 use Rattle.reached.proofs.Types.{Settings, Putting, Window, StackShift, Worker, Slot}
@@ -31,7 +31,7 @@ module _ (g : Settings) (limits : settingsFit g ≡ true) (kind : g .kind ≡ 1)
     pub phase : phaseIn g to i ≡ Window Putting
     pub index-is : subIn to i ≡ subIn s i
 
-  pub raise : (s : State) → Got g limits kind s → (i : ℕ) → i < g .workers → s .steps < 4000000000 → (scan sum : ℕ)
+  pub raise : (s : State) → Got g limits kind s → (i : ℕ) → i < g .workers → s .steps < stepLimit → (scan sum : ℕ)
       → phaseIn g s i ≡ StackShift Putting (record { 0 = s .mark }) scan sum → s .top + g .shift ≤ g .rows → Raised s i
   raise s got i l time scan sum e able =
       let k : Worker = worker (s .slot i .value) (subIn s i) (Window Putting) in

@@ -7,7 +7,7 @@ use Prim.Native.Nat.{ℕ, suc, _+_, _≤_, _<_}
 use native.Mathlib.Nat.{le-refl, le-trans}
 use native.Mathlib.Decide.{decLe}
 use native.Mathlib.Omega.{arith}
-use Rattle.rules.specs.Limits.{settingsFit, Bounds}
+use Rattle.rules.specs.Limits.{settingsFit, Bounds, stepLimit}
 use Rattle.rules.specs.Held.{Item}
 use Rattle.rules.specs.Worker.{phaseOf}
 use Rattle.reached.proofs.Types.{Settings, Putting, Taking, Window, StackShift, Slot}
@@ -130,7 +130,7 @@ module _ (g : Settings) (limits : settingsFit g ≡ true) (kind : g .kind ≡ 1)
         λ x row h. scene-later (b .later) (omega (arith, h .x-held, o .low last (le-refl _), b .held last (omega arith) (le-refl _), o .top-is)) h,
       )
 
-  fills : {top at n : ℕ} {s : State} → Low top at n s → n + 81920 ≤ 4000000000 → Fills g limits kind mover two last last-is at s
+  fills : {top at n : ℕ} {s : State} → Low top at n s → n + 81920 ≤ stepLimit → Fills g limits kind mover two last last-is at s
   fills {at = at} {s = s} o time =
       fill g limits kind mover two last last-is at s (o .at-le) (o .got) (omega (arith, o .few)) (o .rests) (o .index-is)
       (λ m l. omega (arith, o .low m l, o .top-is))
@@ -154,14 +154,14 @@ module _ (g : Settings) (limits : settingsFit g ≡ true) (kind : g .kind ≡ 1)
         λ x row h. scene-later (later-same g limits kind (a .got) (a .steps) (a .puts) (a .first) (a .item)) (rw (a .first) (h .x-held)) h,
       )
 
-  pub pass : {top at n : ℕ} {s : State} → Full Looks top at n s → n + 17 ≤ 4000000000 → (t : State) × Ready top at (n + 17) t × Keeps s t
+  pub pass : {top at n : ℕ} {s : State} → Full Looks top at n s → n + 17 ≤ stepLimit → (t : State) × Ready top at (n + 17) t × Keeps s t
   pass {s = s} o time =
       let p =
       passes g limits kind shifter (omega arith) s (o .got) (omega (arith, o .few)) (o .does .phase) (o .does .index-is)
       (λ j l. omega (arith, o .full j (omega arith), o .top-is)) in
       (p .1 .to, waiting o p .0, waiting o p .1)
 
-  pub ready : {top at n : ℕ} {s : State} → Low top at n s → n + 81937 ≤ 4000000000
+  pub ready : {top at n : ℕ} {s : State} → Low top at n s → n + 81937 ≤ stepLimit
       → (t : State) × (at′ : ℕ) × (at ≡ 1 → at′ ≡ 0) × Ready top at′ (n + 81920 + 17) t × Keeps s t
   ready {s = s} o time =
       let f = fills o (omega arith) in
@@ -170,7 +170,7 @@ module _ (g : Settings) (limits : settingsFit g ≡ true) (kind : g .kind ≡ 1)
       (p .0, f .0, f .2, p .1, λ x row h. p .2 x row (b .1 x row h))
 
   -- ---- the window rises
-  pub rises : {top at n : ℕ} {s : State} → Ready top at n s → n < 4000000000 → top + g .shift ≤ g .rows → Raised g limits kind s shifter
+  pub rises : {top at n : ℕ} {s : State} → Ready top at n s → n < stepLimit → top + g .shift ≤ g .rows → Raised g limits kind s shifter
   rises {s = s} o time able =
       raise g limits kind s (o .got) shifter (omega arith) (omega (arith, o .few)) 0 (o .does .sum) (o .does .phase) (omega (arith, o .top-is))
 

@@ -7,7 +7,7 @@ use Prim.Native.Nat.{ℕ, suc, _+_, _-_, _≤_, _<_}
 use native.Mathlib.Omega.{arith}
 use borrow.Author.Tests.{lt-ltb, le-ltb, eq-eqb}
 use Rattle.laws.specs.Wrap.{add32, sub32}
-use Rattle.rules.specs.Limits.{settingsFit, Bounds}
+use Rattle.rules.specs.Limits.{settingsFit, Bounds, stepLimit}
 use Rattle.rules.specs.Worker.{zeroSlot, encode}
 use Rattle.rules.specs.Effects.{movedOf, nextOf}
 use Rattle.rules.specs.Read.{stackHit}
@@ -115,12 +115,12 @@ module _ (g : Settings) (limits : settingsFit g ≡ true) (kind : g .kind ≡ 1)
       let o = got .live .inv .pool in
       sub32-is (s .top) (g .depth) (window-ge o) (omega (arith, window-le o, bounds .rows1024))
 
-  hits : (s : State) → Reaches s → (i : ℕ) (side : Side) → Hit g side (s .top) (s .first (subIn s i)) → stackHit g (viewIn s i) side (s .top) ≡ true
+  hits : (s : State) → Reaches s → (i : ℕ) (side : Side) → Hit g side (s .top) (s .first (subIn s i)) → stackHit g (viewIn g s i) side (s .top) ≡ true
   hits s got i Putting h = lt-ltb _ _ h
   hits s got i Taking h =
       lt-ltb (sub32 (s .top) (g .depth)) (s .first (subIn s i)) (omega (arith, depth-off s got, window-ge (got .live .inv .pool)))
 
-  misses : (s : State) → Reaches s → (i : ℕ) (side : Side) → Missed g side (s .top) (s .first (subIn s i)) → stackHit g (viewIn s i) side (s .top) ≡ false
+  misses : (s : State) → Reaches s → (i : ℕ) (side : Side) → Missed g side (s .top) (s .first (subIn s i)) → stackHit g (viewIn g s i) side (s .top) ≡ false
   misses s got i Putting h = le-ltb _ _ h
   misses s got i Taking h = le-ltb (sub32 (s .top) (g .depth)) (s .first (subIn s i)) (omega (arith, depth-off s got))
 
@@ -145,9 +145,9 @@ module _ (g : Settings) (limits : settingsFit g ≡ true) (kind : g .kind ≡ 1)
       }
 
   -- ---- one call
-  module _ (s : State) (got : Reaches s) (i : ℕ) (l : i < g .workers) (time : s .steps < 4000000000) where
+  module _ (s : State) (got : Reaches s) (i : ℕ) (l : i < g .workers) (time : s .steps < stepLimit) where
     moved : (p₀ : Phase) → phaseIn g s i ≡ p₀ → Busy p₀ → (index : ℕ) (p : Phase) (kept : Slot) → OfStack p
-        → ruleBy g (viewIn s i) p₀ ≡ movedOf (viewIn s i) index p kept → Walked 1 s i index p
+        → ruleBy g (viewIn g s i) p₀ ≡ movedOf (viewIn g s i) index p kept → Walked 1 s i index p
     moved p₀ e busy index p kept of rule =
         in-slot s i (suc (s .steps)) (worker (s .slot i .value) index p) kept of (omega arith)
         (got-call g limits kind got (step i) Moving _ (step-is g s i l time p₀ e busy ∙ ap (applyIn g s i) rule ∙ apply-moved g s i index p kept))

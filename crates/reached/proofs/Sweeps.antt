@@ -8,7 +8,7 @@ use Prim.Native.Nat.{ℕ, zero, suc, _+_, _-_, _*_, _≤_, _<_}
 use native.Mathlib.Nat.{le-refl}
 use native.Mathlib.Decide.{ℕ-discrete, decLe}
 use native.Mathlib.Omega.{arith}
-use Rattle.rules.specs.Limits.{settingsFit, Bounds}
+use Rattle.rules.specs.Limits.{settingsFit, Bounds, stepLimit}
 use Rattle.rules.specs.Effects.{nextOf}
 use Rattle.reached.proofs.Types.{Settings, Side, Putting, Taking}
 use Rattle.rules.proofs.Fitness.{settings-bounds}
@@ -137,7 +137,7 @@ module _ (g : Settings) (limits : settingsFit g ≡ true) (kind : g .kind ≡ 1)
             rw e (omega (arith, by-between side k (s .first j) c r by x′ (omega (arith, b .held j (le-refl _) (le-refl _))), a .held j (le-refl _) (le-refl _)))
         between m r x y (no ne) = omega (arith, a .held-off m (outside-one j m ne))
 
-    pub operations : (k : ℕ) (s : State) → Got g limits kind s → s .steps + 5 * suc k ≤ 4000000000 → Comes g side s i j → By side (suc k) (s .first j) c
+    pub operations : (k : ℕ) (s : State) → Got g limits kind s → s .steps + 5 * suc k ≤ stepLimit → Comes g side s i j → By side (suc k) (s .first j) c
         → Upto g side (s .top) c → Brings (5 * suc k) s i j j c j
     operations zero s got time comes by upto =
         subst (λ (x : ℕ). Brings (5 * suc zero) s i j j x j) (by-none side _ c (by-rest side 0 (s .first j) c by))
@@ -181,14 +181,14 @@ module _ (g : Settings) (limits : settingsFit g ≡ true) (kind : g .kind ≡ 1)
 
   -- an operation takes 5 steps at most, and a sub 1,024 of them: 5,120 steps for each sub, and 81,920 for all, are enough
   module _ (side : Side) (i c : ℕ) (l : i < g .workers) where
-    sub : (j : ℕ) (s : State) → Got g limits kind s → j < g .width → s .steps + 5120 ≤ 4000000000 → Comes g side s i j → Target g side (s .top) c
+    sub : (j : ℕ) (s : State) → Got g limits kind s → j < g .width → s .steps + 5120 ≤ stepLimit → Comes g side s i j → Target g side (s .top) c
         → Short side (s .first j) c → Brings 5120 s i j j c j
     sub j s got lj time comes target short =
         let o = got .live .inv .pool in
         let k = few g side (s .top) (s .first j) c target short (omega (arith, window-le o, bounds .rows1024)) (omega (arith, held-le o j lj, bounds .rows1024)) in
         in-steps (omega (arith, k .1)) (operations side i j c l (k .0) s got (omega (arith, k .1)) comes (k .2) (target-upto g side (s .top) c target))
 
-    pub sweep : (k low last : ℕ) (s : State) → low + k ≡ last → last < g .width → Got g limits kind s → s .steps + 5120 * suc k ≤ 4000000000
+    pub sweep : (k low last : ℕ) (s : State) → low + k ≡ last → last < g .width → Got g limits kind s → s .steps + 5120 * suc k ≤ stepLimit
         → Comes g side s i low → Target g side (s .top) c → ((m : ℕ) → low ≤ m → m ≤ last → Short side (s .first m) c)
         → Brings (5120 * suc k) s i low last c last
     sweep zero low last s e w got time comes target short =
@@ -207,7 +207,7 @@ module _ (g : Settings) (limits : settingsFit g ≡ true) (kind : g .kind ≡ 1)
     abbrev pub Fills : ℕ → State → Type 0
     Fills from s = (at : ℕ) × (at ≤ last) × (from ≡ 1 → at ≡ 0) × Brings 81920 s i 0 last (s .top) at
 
-    fill-around : (n : ℕ) (s : State) → suc n ≤ last → s .steps + 81920 ≤ 4000000000 → ((m : ℕ) → m ≤ last → s .first m < s .top)
+    fill-around : (n : ℕ) (s : State) → suc n ≤ last → s .steps + 81920 ≤ stepLimit → ((m : ℕ) → m ≤ last → s .first m < s .top)
         → (a : Brings (5120 * suc (last - suc n)) s i (suc n) last (s .top) last) → Brings 81920 s i 0 last (s .top) n
     fill-around n s u time low a =
         let next : nextOf g (subIn (a .to) i) ≡ 0 = ap (nextOf g) (a .index-is) ∙ next-around g last last-is in
@@ -216,7 +216,7 @@ module _ (g : Settings) (limits : settingsFit g ≡ true) (kind : g .kind ≡ 1)
         (sweep Putting i (s .top) l n 0 n (a .to) (omega arith) (omega arith) (a .later .got) (omega (arith, a .later .steps, bounds .width16))
         (before (a .rests) next (omega arith) full) (sym (a .top)) (λ m x y. rw (a .held-off m (inl (omega arith))) (low m (omega arith))))
 
-    pub fill : (from : ℕ) (s : State) → from ≤ last → Got g limits kind s → s .steps + 81920 ≤ 4000000000 → s .slot i .number ≡ 0 → subIn s i ≡ from
+    pub fill : (from : ℕ) (s : State) → from ≤ last → Got g limits kind s → s .steps + 81920 ≤ stepLimit → s .slot i .number ≡ 0 → subIn s i ≡ from
         → ((m : ℕ) → m ≤ last → s .first m < s .top) → Fills from s
     fill zero s u got time z x low = (
       last,

@@ -11,7 +11,7 @@ use borrow.Author.Tests.{lt-ltb, eq-eqb}
 use Rattle.laws.specs.Choice.{cond-false}
 use Rattle.rules.specs.Answers.{numberOf}
 use Rattle.rules.specs.Held.{passedOver}
-use Rattle.rules.specs.Limits.{settingsFit}
+use Rattle.rules.specs.Limits.{settingsFit, stepLimit}
 use Rattle.rules.specs.Newer.{exactRows, exactBound}
 use Rattle.reached.specs.Reached.{Passes}
 use Rattle.rules.specs.Run.{Call, step, Event, distanceIn}
@@ -36,7 +36,7 @@ Found g = (cs : List Call) × Passes (events (nextIn g) (madeIn g) cs) (exactBou
 
 module _ (g : Settings) (limits : settingsFit g ≡ true) (kind : g .kind ≡ 1) where
   -- ---- a take that is about to land, and passes over at least so many
-  module _ (s : State) (got : Got g limits kind s) (i : ℕ) (l : i < g .workers) (time : s .steps < 4000000000)
+  module _ (s : State) (got : Got g limits kind s) (i : ℕ) (l : i < g .workers) (time : s .steps < stepLimit)
       (waits : phaseIn g s i ≡ StackCommit Taking (record { 0 = s .second (subIn s i) }))
       (at-least : exactBound g ≤ distanceAt g s (s .item (subIn s i) (s .first (subIn s i)) .stamp)) where
     abbrev seen : Version

@@ -5,7 +5,7 @@ use mathlib.Core.Logic.{_⊎_, inl, inr}
 use mathlib.Core.Bool.{true}
 use Prim.Native.Nat.{ℕ, zero, suc, _+_, _-_, _≤_, _<_}
 use native.Mathlib.Omega.{arith}
-use Rattle.rules.specs.Limits.{settingsFit, Bounds}
+use Rattle.rules.specs.Limits.{settingsFit, Bounds, stepLimit}
 use Rattle.rules.specs.Effects.{nextOf}
 use Rattle.reached.proofs.Types.{Settings, Side, Putting, Phase, Window, Check, StackCommit, StackShift}
 use Rattle.rules.proofs.Fitness.{settings-bounds}
@@ -48,13 +48,13 @@ module _ (g : Settings) (limits : settingsFit g ≡ true) (kind : g .kind ≡ 1)
     abbrev Arrives : Type 0
     Arrives = (scan : ℕ) × (sum : ℕ) × Walk 2 s i j (Reads s side scan sum)
 
-    to-read : {k : ℕ} → Walk 0 s i k (Window side) → s .steps < 4000000000 → Walk 1 s i k (Reads s side 0 0)
+    to-read : {k : ℕ} → Walk 0 s i k (Window side) → s .steps < stepLimit → Walk 1 s i k (Reads s side 0 0)
     to-read {k} a time =
         let b : Walk 1 (a .to) i k (Reads s side 0 0) =
         rw (← a .index-is, ← a .top, ← a .mark) (window g limits kind (a .to) (a .got) i l (omega (arith, a .steps)) side (a .phase)) in
         then g limits kind (omega arith) a b
 
-    arrive-next : Walk 1 s i (subIn s i) (Reads s side 0 0) → s .steps + 1 < 4000000000 → 2 ≤ g .width → nextOf g (subIn s i) ≡ j
+    arrive-next : Walk 1 s i (subIn s i) (Reads s side 0 0) → s .steps + 1 < stepLimit → 2 ≤ g .width → nextOf g (subIn s i) ≡ j
         → Missed g side (s .top) (s .first (subIn s i)) → Arrives
     arrive-next a time w x h =
         let h′ : Missed g side (a .to .top) (a .to .first (subIn (a .to) i)) = rw (a .top, a .first, a .index-is) h in
@@ -64,14 +64,14 @@ module _ (g : Settings) (limits : settingsFit g ≡ true) (kind : g .kind ≡ 1)
         rw (← x′, ← a .top, ← a .mark) (miss g limits kind (a .to) (a .got) i l (omega (arith, a .steps)) side 0 0 (still-reads g limits kind a) h′ (omega arith)) in
         (1, sum, then g limits kind (omega arith) a b)
 
-    pub arrive : Got g limits kind s → s .steps + 1 < 4000000000 → Comes g side s i j → Arrives
+    pub arrive : Got g limits kind s → s .steps + 1 < stepLimit → Comes g side s i j → Arrives
     arrive got time (there z x) =
         (0, 0, slower g limits kind (omega arith) (to-read (subst (λ (y : ℕ). Walk 0 s i y (Window side)) x (begin g limits kind s got i l (omega arith) side z)) (omega arith)))
     arrive got time (before z x w h) = arrive-next (to-read (begin g limits kind s got i l (omega arith) side z) (omega arith)) time w x h
     arrive got time (begun e x) = (0, 0, slower g limits kind (omega arith) (to-read (stay g limits kind got e x) (omega arith)))
 
     -- ---- to the commit
-    to-check : Arrives → s .steps + 2 < 4000000000 → Hit g side (s .top) (s .first j)
+    to-check : Arrives → s .steps + 2 < stepLimit → Hit g side (s .top) (s .first j)
         → Walk 3 s i j (Check side (record { 0 = s .mark }) (record { 0 = s .second j }))
     to-check (scan, sum, a) time h =
         let h′ : Hit g side (a .to .top) (a .to .first (subIn (a .to) i)) = rw (a .top, a .first, a .index-is) h in
@@ -80,7 +80,7 @@ module _ (g : Settings) (limits : settingsFit g ≡ true) (kind : g .kind ≡ 1)
         rw (← seen, ← a .mark, ← a .index-is) (hit g limits kind (a .to) (a .got) i l (omega (arith, a .steps)) side scan sum (still-reads g limits kind a) h′) in
         then g limits kind (omega arith) a b
 
-    to-commit : Walk 3 s i j (Check side (record { 0 = s .mark }) (record { 0 = s .second j })) → s .steps + 3 < 4000000000
+    to-commit : Walk 3 s i j (Check side (record { 0 = s .mark }) (record { 0 = s .second j })) → s .steps + 3 < stepLimit
         → Walk 4 s i j (StackCommit side (record { 0 = s .second j }))
     to-commit a time =
         let e : phaseIn g (a .to) i ≡ Check side (record { 0 = a .to .mark }) (record { 0 = s .second j }) = rw (a .mark) (a .phase) in
@@ -88,7 +88,7 @@ module _ (g : Settings) (limits : settingsFit g ≡ true) (kind : g .kind ≡ 1)
         (subst (λ (y : ℕ). Walk 1 (a .to) i y (StackCommit side (record { 0 = s .second j }))) (a .index-is)
         (check g limits kind (a .to) (a .got) i l (omega (arith, a .steps)) side (record { 0 = s .second j }) e))
 
-    pub comes-to-commit : Got g limits kind s → s .steps + 3 < 4000000000 → Comes g side s i j → Hit g side (s .top) (s .first j)
+    pub comes-to-commit : Got g limits kind s → s .steps + 3 < stepLimit → Comes g side s i j → Hit g side (s .top) (s .first j)
         → Walk 4 s i j (StackCommit side (record { 0 = s .second j }))
     comes-to-commit got time c h = to-commit (to-check (arrive got (omega arith) c) (omega arith) h) time
 
@@ -102,7 +102,7 @@ module _ (g : Settings) (limits : settingsFit g ≡ true) (kind : g .kind ≡ 1)
         let c : Walk n (a .to) i 0 (StackShift Putting (record { 0 = s .mark }) 0 (b .0)) = rw (← a .mark) (b .1) in
         (b .0, then g limits kind (omega arith) a c)
 
-    pass-from : (rest scan sum : ℕ) (s : State) → Got g limits kind s → scan + suc rest ≡ g .width → s .steps + suc rest ≤ 4000000000
+    pass-from : (rest scan sum : ℕ) (s : State) → Got g limits kind s → scan + suc rest ≡ g .width → s .steps + suc rest ≤ stepLimit
         → phaseIn g s i ≡ Reads s Putting scan sum → subIn s i ≡ scan → ((j : ℕ) → j < g .width → s .top ≤ s .first j) → Passed (suc rest) s
     pass-from zero scan sum s got w time e x full = (
       sumAfter s i sum,
@@ -115,7 +115,7 @@ module _ (g : Settings) (limits : settingsFit g ≡ true) (kind : g .kind ≡ 1)
         (pass-from rest (suc scan) (sumAfter s i sum) (a .to) (a .got) (omega arith) (omega (arith, a .steps)) (still-reads g limits kind a)
         (a .index-is ∙ ap (nextOf g) x ∙ next-up g scan (omega arith)) (λ j u. rw (a .first, a .top) (full j u)))
 
-    pub passes : (s : State) → Got g limits kind s → s .steps + 17 ≤ 4000000000 → phaseIn g s i ≡ Window Putting → subIn s i ≡ 0
+    pub passes : (s : State) → Got g limits kind s → s .steps + 17 ≤ stepLimit → phaseIn g s i ≡ Window Putting → subIn s i ≡ 0
         → ((j : ℕ) → j < g .width → s .top ≤ s .first j) → Passed 17 s
     passes s got time e x full =
         let a = window g limits kind s got i l (omega arith) Putting e in

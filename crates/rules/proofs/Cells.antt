@@ -10,10 +10,10 @@ use native.Mathlib.Omega.{arith}
 use lib.ListN.{getD, take, drop}
 use lib.Seq.{getD-drop, getD-take}
 use lib.Dec.{eqb}
-use borrow.Author.Tests.{eqb-true, eqb-false, lt-ltb, le-ltb}
+use borrow.Author.Tests.{eqb-true, eqb-false}
 use Rattle.laws.specs.Choice.{cond, cond-true, cond-false}
 use Rattle.laws.specs.Wrap.{sub32}
-use Rattle.rules.specs.Layout.{cellsAt, cellAt, firstOf, secondOf}
+use Rattle.rules.specs.Layout.{cellWords, cellAt, subCellsAt, stampAt, firstOf, secondOf}
 use Rattle.rules.specs.Limits.{Bounds}
 use Rattle.rules.specs.Fit.{SubFits}
 use Rattle.rules.specs.Held.{Item, rowsBelow, rowsHeld, itemsAbove, heldSub, heldBelow, cellItems, countItems, passedOver}
@@ -42,47 +42,20 @@ cells-none p ws at = refl
 
 pub cells-more : (p : Item → Bool) (ws : List ℕ) (at k : ℕ)
     → countItems p (cellItems ws at (k + 1))
-    ≡ countItems p (cellItems ws at k) + cond (p (record { value = getD ws (at + 2 * k) 0; stamp = getD ws (at + 2 * k + 1) 0 })) 1 0
+    ≡ countItems p (cellItems ws at k) + cond (p (record { value = getD ws (at + cellWords * k) 0; stamp = getD ws (stampAt (at + cellWords * k)) 0 })) 1 0
 unfolding cellItems countItems
 cells-more p ws at k = rw (add-one k) (count-append p (cellItems ws at k) _ ∙ omega arith)
 
--- whose item passes the test, or not
-module _ (p : Item → Bool) (ws : List ℕ) (at k : ℕ) where
-  abbrev next : Item
-  next = record { value = getD ws (at + 2 * k) 0; stamp = getD ws (at + 2 * k + 1) 0 }
-
-  pub cells-hit : p next ≡ true → countItems p (cellItems ws at (k + 1)) ≡ countItems p (cellItems ws at k) + 1
-  cells-hit e = cells-more p ws at k ∙ simp (e, cond-true)
-
-  pub cells-miss : p next ≡ false → countItems p (cellItems ws at (k + 1)) ≡ countItems p (cellItems ws at k)
-  cells-miss e = cells-more p ws at k ∙ simp (e, cond-false, add-zero)
-
--- one cell more from the first word on, older than s or not, newer or not
-module _ (ws : List ℕ) (k s : ℕ) where
-  abbrev counted : ℕ → ℕ → ℕ
-  counted kind n = countItems (passedOver kind s) (cellItems ws 0 n)
-
-  place : 0 + 2 * k + 1 ≡ 2 * k + 1
-  place = omega arith
-
-  pub older-cell : getD ws (2 * k + 1) 0 < s → counted 0 (k + 1) ≡ counted 0 k + 1
-  unfolding cond
-  older-cell h = cells-hit (passedOver 0 s) ws 0 k (lt-ltb (getD ws (0 + 2 * k + 1) 0) s (rw place h))
-
-  pub not-older-cell : s ≤ getD ws (2 * k + 1) 0 → counted 0 (k + 1) ≡ counted 0 k
-  unfolding cond
-  not-older-cell h = cells-miss (passedOver 0 s) ws 0 k (le-ltb (getD ws (0 + 2 * k + 1) 0) s (rw place h))
-
-  pub newer-cell : s < getD ws (2 * k + 1) 0 → counted 1 (k + 1) ≡ counted 1 k + 1
-  unfolding cond
-  newer-cell h = cells-hit (passedOver 1 s) ws 0 k (lt-ltb s (getD ws (0 + 2 * k + 1) 0) (rw place h))
-
-  pub not-newer-cell : getD ws (2 * k + 1) 0 ≤ s → counted 1 (k + 1) ≡ counted 1 k
-  unfolding cond
-  not-newer-cell h = cells-miss (passedOver 1 s) ws 0 k (le-ltb s (getD ws (0 + 2 * k + 1) 0) (rw place h))
+-- one cell more from the first word on, by its stamp x
+pub cells-passed : (kind s : ℕ) (ws : List ℕ) (k x : ℕ) → x ≡ getD ws (stampAt (cellWords * k)) 0
+    → countItems (passedOver kind s) (cellItems ws 0 (k + 1))
+    ≡ countItems (passedOver kind s) (cellItems ws 0 k) + cond (passedOver kind s (record { value = 0; stamp = x })) 1 0
+cells-passed kind s ws k x e =
+    let place : stampAt (0 + cellWords * k) ≡ stampAt (cellWords * k) = omega arith in
+    cells-more (passedOver kind s) ws 0 k ∙ rw (place, e) refl
 
 -- the cells of a part of the words, from its start
-pub cells-part : (ws : List ℕ) (n at k : ℕ) → 2 * k ≤ n → cellItems (take n (drop at ws)) 0 k ≡ cellItems ws at k
+pub cells-part : (ws : List ℕ) (n at k : ℕ) → cellWords * k ≤ n → cellItems (take n (drop at ws)) 0 k ≡ cellItems ws at k
 unfolding cellItems
 cells-part ws n at zero h = refl
 cells-part ws n at (suc k) h =
@@ -90,8 +63,8 @@ cells-part ws n at (suc k) h =
     λ i j l e. getD-take n (drop at ws) i 0 l ∙ getD-drop at ws i 0 ∙ ap (λ (x : ℕ). getD ws x 0) e in
     rw (
       cells-part ws n at k (omega arith),
-      word (0 + 2 * k) (at + 2 * k) (omega arith) (omega arith),
-      word (0 + 2 * k + 1) (at + 2 * k + 1) (omega arith) (omega arith),
+      word (0 + cellWords * k) (at + cellWords * k) (omega arith) (omega arith),
+      word (stampAt (0 + cellWords * k)) (stampAt (at + cellWords * k)) (omega arith) (omega arith),
     )
     refl
 
@@ -125,13 +98,13 @@ above-split ws g j t a (suc b) =
 
 -- rows whose remainders do not wrap lie in cells one after the other
 above-straight : (ws : List ℕ) (g : Settings) (j t k : ℕ) → t + k < 2 ^ 32 → t % g .rows + k ≤ g .rows
-    → itemsAbove ws g j t k ≡ cellItems ws (cellsAt g + 2 * (j * g .rows) + 2 * (t % g .rows)) k
+    → itemsAbove ws g j t k ≡ cellItems ws (subCellsAt g j + cellWords * (t % g .rows)) k
 unfolding itemsAbove cellItems
 above-straight ws g j t zero few h = refl
 above-straight ws g j t (suc k) few h =
     let row : sub32 (t + k + 1) 1 ≡ t + k = omega arith in
     let place : sub32 (t + k + 1) 1 % g .rows ≡ t % g .rows + k = ap (λ (x : ℕ). x % g .rows) row ∙ mod-grows t k (g .rows) (omega arith) in
-    let cell : cellAt g j (t + k + 1) ≡ cellsAt g + 2 * (j * g .rows) + 2 * (t % g .rows) + 2 * k = omega arith in
+    let cell : cellAt g j (t + k + 1) ≡ subCellsAt g j + cellWords * (t % g .rows) + cellWords * k = omega arith in
     rw (above-straight ws g j t k (omega arith) (omega arith), cell) refl
 
 -- ---- the held rows of a sub
@@ -144,32 +117,34 @@ held-fits g first second f = go (eqb (g .kind) 0) refl
     go true e = (f .queue-order (eqb-true _ _ e), omega (arith, f .queue-rows (eqb-true _ _ e)))
     go false e = (omega arith, let k = eqb-false (g .kind) 0 e in omega (arith, f .stack-rows (omega arith)))
 
-module _ (ws : List ℕ) (g : Settings) (j t : ℕ) (is : t ≡ rowsBelow g (secondOf ws j))
-    (few : firstOf ws j < 2 ^ 32) (low : t ≤ firstOf ws j) (start : t % g .rows < g .rows) where
-  abbrev held : ℕ
-  held = firstOf ws j - t
+module _ (ws : List ℕ) (g : Settings) (j : ℕ) (b : Bounds g) (few : firstOf ws j < 2 ^ 32) (f : SubFits g (firstOf ws j) (secondOf ws j))
+    (held start : ℕ) (is-held : held ≡ rowsHeld g (firstOf ws j) (secondOf ws j)) (is-start : start ≡ rowsBelow g (secondOf ws j) % g .rows) where
+  abbrev below : ℕ
+  below = rowsBelow g (secondOf ws j)
 
   abbrev room : ℕ
-  room = g .rows - t % g .rows
+  room = g .rows - start
 
-  abbrev base : ℕ
-  base = cellsAt g + 2 * (j * g .rows)
+  in-sub : (below + held ≡ firstOf ws j) × (held ≤ g .rows) × (start < g .rows)
+  in-sub =
+      let fits = held-fits g _ _ f in
+      (omega arith, omega arith, omega (arith, mod-lt below (rows-pos g b)))
 
-  pub held-one-run : held ≤ room → heldSub ws g j ≡ cellItems ws (base + 2 * (t % g .rows)) held
+  pub held-one-run : held ≤ room → heldSub ws g j ≡ cellItems ws (subCellsAt g j + cellWords * start) held
   unfolding heldSub
-  held-one-run h = rw (← is) (above-straight ws g j t held (omega arith) (omega arith))
+  held-one-run h = rw (← is-held, is-start) (above-straight ws g j below held (omega (arith, in-sub)) (omega (arith, in-sub)))
 
-  pub held-two-runs : room < held → held ≤ g .rows
-      → heldSub ws g j ≡ cellItems ws (base + 2 * (t % g .rows)) room ++ cellItems ws base (held - room)
+  pub held-two-runs : room < held → heldSub ws g j ≡ cellItems ws (subCellsAt g j + cellWords * start) room ++ cellItems ws (subCellsAt g j + cellWords * 0) (held - room)
   unfolding heldSub
-  held-two-runs h most =
-      let wraps : (t + room) % g .rows ≡ 0 = mod-wraps t room (g .rows) (omega arith) in
+  held-two-runs h =
+      let wraps : (below + room) % g .rows ≡ 0 = mod-wraps below room (g .rows) (omega (arith, in-sub)) in
       let whole : held ≡ room + (held - room) = omega arith in
-      let from : base + 2 * ((t + room) % g .rows) ≡ base = omega (arith, wraps) in
-      rw (← is)
-      (ap (itemsAbove ws g j t) whole
-      ∙ above-split ws g j t room (held - room)
-      ∙ rw (above-straight ws g j t room (omega arith) (omega arith), above-straight ws g j (t + room) (held - room) (omega arith) (omega (arith, wraps)), from) refl)
+      let first = above-straight ws g j below room (omega (arith, in-sub)) (omega (arith, in-sub)) in
+      let rest = above-straight ws g j (below + room) (held - room) (omega (arith, in-sub)) (omega (arith, wraps, in-sub)) in
+      rw (← is-held)
+      (ap (itemsAbove ws g j below) whole
+      ∙ above-split ws g j below room (held - room)
+      ∙ rw (first, rest, wraps, ← is-start) refl)
 
 -- ---- by kind
 pub queue-below : (g : Settings) → g .kind ≡ 0 → (x : ℕ) → rowsBelow g x ≡ x
@@ -177,13 +152,3 @@ queue-below g k x = rw k (cond-true x 0)
 
 pub stack-below : (g : Settings) → g .kind ≡ 1 → (x : ℕ) → rowsBelow g x ≡ 0
 stack-below g k x = rw k (cond-false x 0)
-
--- a stack's held rows are its first cells
-pub stack-one-run : (ws : List ℕ) (g : Settings) (j : ℕ) → Bounds g → 1 ≤ g .kind → firstOf ws j ≤ g .rows
-    → heldSub ws g j ≡ cellItems ws (cellsAt g + 2 * (j * g .rows)) (firstOf ws j)
-stack-one-run ws g j b k h =
-    let zero-start : 0 % g .rows ≡ 0 = mod-eq-of-lt {n = 0} (rows-pos g b) in
-    let from : cellsAt g + 2 * (j * g .rows) + 2 * (0 % g .rows) ≡ cellsAt g + 2 * (j * g .rows) = omega (arith, zero-start) in
-    let all : firstOf ws j - 0 ≡ firstOf ws j = omega arith in
-    held-one-run ws g j 0 (sym (stack-below g (omega (arith, b .kind1)) (secondOf ws j))) (omega (arith, b .rows1024)) (omega arith) (omega (arith, zero-start, rows-pos g b)) (omega (arith, zero-start))
-    ∙ rw (from, all) refl

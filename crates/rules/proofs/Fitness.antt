@@ -9,12 +9,11 @@ use lib.ListN.{getD, length}
 use lib.Dec.{ltb, leb, eqb, lit<}
 use borrow.Author.Tests.{ltb-true, ltb-false, leb-true, eq-eqb, ne-eqb, eqb-true}
 use Rattle.laws.specs.Choice.{cond, cases, both-true, all, all-holds, allBelow-at}
+use Rattle.rules.specs.Answers.{tooFewWords, notFit}
 use Rattle.rules.specs.Layout.{headWords, workerWords, workerAt, needed, settingsOf}
 use Rattle.rules.specs.Limits.{limits, queueLimits, settingsFit, Bounds}
-use Rattle.rules.specs.Fit.{headFit, subFit, subsFit, phaseFit, wordFit, workersFit, bodyChecked, checkedOf, refusalOf, SubFits, FitPool}
+use Rattle.rules.specs.Fit.{Checked, Unfit, Fit, headFit, subFit, subsFit, phaseFit, wordFit, workersFit, bodyChecked, checkedOf, refusalOf, SubFits, FitPool}
 use Rattle.rules.specs.declared.Settings.{Settings}
-use Rattle.rules.specs.declared.Checked.{Checked}
-use Rattle.rules.specs.declared.Checked.the-variants.{Unfit, Fit}
 
 -- ---- settings
 pub settings-bounds : (g : Settings) → settingsFit g ≡ true → Bounds g
@@ -83,9 +82,9 @@ worker-word ws g i k h l e = allBelow-at workerWords _ k l (allBelow-at (g .work
 body-fit : (ws : List ℕ) (h g : Settings) → settingsOf ws ≡ h → settingsFit h ≡ true → bodyChecked ws h ≡ Fit g → FitPool h ws × (h ≡ g)
 unfolding bodyChecked subsFit wordFit cond
 body-fit ws h g s limits e =
-    let long = passed-not (ltb (length ws) (needed h)) 21 _ g e in
-    let subs = passed (subsFit ws h) 23 _ g (long .1) in
-    let workers = passed (workersFit ws h) 23 _ g (subs .1) in (
+    let long = passed-not (ltb (length ws) (needed h)) tooFewWords _ g e in
+    let subs = passed (subsFit ws h) notFit _ g (long .1) in
+    let workers = passed (workersFit ws h) notFit _ g (subs .1) in (
       record {
         bounds = settings-bounds h limits;
         enough = ltb-false _ _ (long .0);
@@ -105,7 +104,7 @@ head-bounds ws e = settings-bounds (settingsOf ws) (both-true _ _ e .0)
 pub fit-pool : (ws : List ℕ) (g : Settings) → checkedOf ws ≡ Fit g → FitPool g ws
 unfolding checkedOf headFit
 fit-pool ws g e =
-    let head = passed (headFit ws) 23 _ g (passed-not (ltb (length ws) headWords) 21 _ g e .1) in
+    let head = passed (headFit ws) notFit _ g (passed-not (ltb (length ws) headWords) tooFewWords _ g e .1) in
     let p = body-fit ws (settingsOf ws) g refl (both-true _ _ (head .0) .0) (head .1) in
     subst (λ (h : Settings). FitPool h ws) (p .1) (p .0)
 
@@ -119,19 +118,19 @@ head-is ws e =
 pub fit-head : (ws : List ℕ) (g : Settings) → checkedOf ws ≡ Fit g → (settingsFit g ≡ true) × (getD ws 10 0 ≡ 0) × (getD ws 11 0 ≡ 0)
 unfolding checkedOf
 fit-head ws g e =
-    let h = head-is ws (passed (headFit ws) 23 _ g (passed-not (ltb (length ws) headWords) 21 _ g e .1) .0) in
+    let h = head-is ws (passed (headFit ws) notFit _ g (passed-not (ltb (length ws) headWords) tooFewWords _ g e .1) .0) in
     (subst (λ (x : Settings). settingsFit x ≡ true) (fit-pool ws g e .settings) (h .0), h .1, h .2)
 
 body-workers : (ws : List ℕ) (h g : Settings) → bodyChecked ws h ≡ Fit g → (workersFit ws h ≡ true) × (h ≡ g)
 unfolding bodyChecked
 body-workers ws h g e =
-    let workers = passed (workersFit ws h) 23 _ g (passed (subsFit ws h) 23 _ g (passed-not (ltb (length ws) (needed h)) 21 _ g e .1) .1) in
+    let workers = passed (workersFit ws h) notFit _ g (passed (subsFit ws h) notFit _ g (passed-not (ltb (length ws) (needed h)) tooFewWords _ g e .1) .1) in
     (workers .0, fit-settings h g (workers .1))
 
 pub fit-number : (ws : List ℕ) (g : Settings) → checkedOf ws ≡ Fit g → (i : ℕ) → i < g .workers → phaseFit (g .kind) (getD ws (workerAt g i) 0) ≡ true
 unfolding checkedOf wordFit cond
 fit-number ws g e i l =
-    let body = passed (headFit ws) 23 _ g (passed-not (ltb (length ws) headWords) 21 _ g e .1) .1 in
+    let body = passed (headFit ws) notFit _ g (passed-not (ltb (length ws) headWords) tooFewWords _ g e .1) .1 in
     let p = body-workers ws (settingsOf ws) g body in
     let workers : workersFit ws g ≡ true = subst (λ (h : Settings). workersFit ws h ≡ true) (p .1) (p .0) in
     let z : workerAt g i + 0 ≡ workerAt g i = omega arith in

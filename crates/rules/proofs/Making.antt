@@ -4,7 +4,7 @@ use mathlib.Core.List.{List}
 use mathlib.Core.Path.{_≡_, refl}
 use native.Mathlib.Numerals.{add-one}
 use lib.ListN.{set}
-use Rattle.rules.specs.Layout.{workerAt}
+use Rattle.rules.specs.Layout.{workerAt, indexAt}
 use Rattle.rules.specs.Make.{zeroed, indexed}
 use Rattle.rules.specs.declared.Settings.{Settings}
 
@@ -20,6 +20,6 @@ pub indexed-none : (ws : List ℕ) (g : Settings) → indexed ws g 0 ≡ ws
 unfolding indexed
 indexed-none ws g = refl
 
-pub indexed-more : (ws : List ℕ) (g : Settings) (i : ℕ) → indexed ws g (i + 1) ≡ set (indexed ws g i) (workerAt g i + 2) (i % g .width)
+pub indexed-more : (ws : List ℕ) (g : Settings) (i : ℕ) → indexed ws g (i + 1) ≡ set (indexed ws g i) (indexAt (workerAt g i)) (i % g .width)
 unfolding indexed
 indexed-more ws g i = rw add-one

@@ -9,7 +9,7 @@ use native.Mathlib.Decide.{ℕ-discrete}
 use native.Mathlib.Omega.{arith}
 use lib.Dec.{leb, eqb}
 use borrow.Author.Tests.{leb-true, leb-false, eqb-true}
-use Rattle.rules.specs.Answers.{numberOf}
+use Rattle.rules.specs.Answers.{numberOf, tooFewWords, notFit}
 use Rattle.rules.specs.Limits.{settingsFit}
 use Rattle.rules.specs.Held.{Item, heldItems, countItems}
 use Rattle.rules.specs.Step.{ruleOf}
@@ -109,7 +109,7 @@ module _ (g : Settings) (limits : settingsFit g ≡ true) (k : Kind g) where
         mark = rw (says .mark) (safe .mark);
         first = λ j l. rw (says .first j l) (safe .first j l);
         second = λ j l. rw (says .second j l) (safe .second j l);
-        rule = λ i l. rw (says .slot i l, view-same g ws s says i l (r .whole .common .slots i .index)) (safe .rule i);
+        rule = λ i l. rw (view-same g ws s says i l (r .whole .common .slots i .index)) (safe .rule i);
       }
 
   pub safe-after : {ws : List ℕ} {s : State} → Rel ws s → (cs : List Call) → NoSumWraps g (wordsAfter ws cs)
@@ -117,23 +117,23 @@ module _ (g : Settings) (limits : settingsFit g ≡ true) (k : Kind g) where
 
   -- ---- no call finds the pool unfit
   abbrev Fine : Next State → Type 0
-  Fine o = (numberOf (o .answer) ≢ 21) × (numberOf (o .answer) ≢ 23)
+  Fine o = (numberOf (o .answer) ≢ tooFewWords) × (numberOf (o .answer) ≢ notFit)
 
-  not-21 : (s : State) (i : ℕ) (e : Effect) (o : Outcome) → SharedAfter g (viewIn s i) e o → numberOf (applyInBy g s i e o .answer) ≢ 21
+  not-21 : (s : State) (i : ℕ) (e : Effect) (o : Outcome) → SharedAfter g (viewIn g s i) e o → numberOf (applyInBy g s i e o .answer) ≢ tooFewWords
   unfolding applyInBy
   not-21 s i e (Refused n) (inl h) u = omega arith
   not-21 s i e (Refused n) (inr h) u = omega arith
   not-21 s i e Moving h u = omega arith
   not-21 s i e Shifted h u = omega arith
-  not-21 s i e Landed h u = omega arith
-  not-21 s i e Removed h u = omega arith
+  not-21 s i e (Landed value row stamp) h u = omega arith
+  not-21 s i e (Removed row) h u = omega arith
   not-21 s i e Empty h u = omega arith
   not-21 s i e Full h u = omega arith
 
-  fine-rule : (s : State) (q : Contents) → Common g s → k .Inv s q → (i : ℕ) → Fine (applyIn g s i (ruleOf g (viewIn s i)))
+  fine-rule : (s : State) (q : Contents) → Common g s → k .Inv s q → (i : ℕ) → Fine (applyIn g s i (ruleOf g (viewIn g s i)))
   unfolding applyIn
   fine-rule s q common inv i = (
-    not-21 s i (ruleOf g (viewIn s i)) (ruleOf g (viewIn s i) .outcome)
+    not-21 s i (ruleOf g (viewIn g s i)) (ruleOf g (viewIn g s i) .outcome)
         (rule-in g (settings-bounds g limits) s common i .shared),
     k .safe s q common inv .able i,
   )
@@ -149,7 +149,7 @@ module _ (g : Settings) (limits : settingsFit g ≡ true) (k : Kind g) where
   fine-call s q common inv (step i) = fine-called (step-called g s i) (λ able. fine-rule s q common inv i)
 
   pub fine-at : {ws : List ℕ} {s : State} → Rel ws s → (cs : List Call) (f : ℕ)
-      → (numberOf (at (run ws cs) f .answer) ≢ 21) × (numberOf (at (run ws cs) f .answer) ≢ 23)
+      → (numberOf (at (run ws cs) f .answer) ≢ tooFewWords) × (numberOf (at (run ws cs) f .answer) ≢ notFit)
   unfolding run
   fine-at r [] f = ((λ u. omega arith), (λ u. omega arith))
   fine-at {s = s} r (c ∷ cs) zero =

@@ -6,6 +6,7 @@ pub use Rattle.rules.specs.declared.Phase.{Phase}
 pub use Rattle.rules.specs.declared.Phase.the-variants.{Idle, Window, QueuePutRead, QueueTakeRead, StackRead, Check, QueueCommit, StackCommit, QueueShift, StackShift, Confirm}
 pub use Rattle.rules.specs.declared.Version.{Version}
 pub use Rattle.rules.specs.declared.Row.{Row}
+pub use Rattle.rules.specs.declared.Stamp.{Stamp}
 pub use Rattle.rules.specs.declared.Worker.{Worker}
 pub use Rattle.rules.specs.declared.Slot.{Slot}
 pub use Rattle.rules.specs.declared.View.{View}

@@ -11,23 +11,23 @@ use borrow.Author.Tests.{leb-false}
 use Rattle.laws.specs.Choice.{cases}
 use Rattle.laws.specs.Wrap.{sub32}
 use Rattle.rules.specs.Answers.{Out}
-use Rattle.rules.specs.Layout.{needed, workerAt, settingsOf}
+use Rattle.rules.specs.Layout.{needed, workerAt, settingsOf, indexAt}
 use Rattle.rules.specs.Limits.{settingsFit}
 use Rattle.rules.specs.Worker.{putSlot, wordsOf}
-use Rattle.rules.specs.Fit.{checkedOf, FitPool}
+use Rattle.rules.specs.Fit.{Checked, Unfit, Fit, checkedOf, FitPool}
 use Rattle.rules.specs.Make.{zeroed, newHead, indexed, madeWords, makeOf}
-use Rattle.rules.specs.Begin.{stepsSpent, slotBegin, fitBegin, checkedBegin, beginOf}
+use Rattle.rules.specs.Begin.{outOfSteps, slotBegin, fitBegin, checkedBegin, beginOf}
 use Rattle.rules.specs.Apply.{putItem, putSub, putLanded, putShifted, putWorker, applyBy, applyOf}
 use Rattle.rules.specs.Step.{slotStep, fitStep, checkedStep, stepOf}
 use Rattle.rules.specs.Untouched.{Beyond, MakeKeeps, BeginKeeps, StepKeeps}
 use Rattle.rules.specs.declared.Settings.{Settings}
 use Rattle.rules.specs.declared.Side.{Side}
 use Rattle.rules.specs.declared.Slot.{Slot}
+use Rattle.rules.specs.declared.Row.{Row}
+use Rattle.rules.specs.declared.Stamp.{Stamp}
 use Rattle.rules.specs.declared.Effect.{Effect}
 use Rattle.rules.specs.declared.Outcome.{Outcome}
 use Rattle.rules.specs.declared.Outcome.the-variants.{Refused, Moving, Shifted, Landed, Removed, Empty, Full}
-use Rattle.rules.specs.declared.Checked.{Checked}
-use Rattle.rules.specs.declared.Checked.the-variants.{Unfit, Fit}
 use Rattle.rules.proofs.Cells.{cell-lt}
 use Rattle.rules.proofs.Fitness.{fit-pool}
 
@@ -56,7 +56,7 @@ indexed-keeps : (g : Settings) (i : ℕ) (ws after : List ℕ) → i ≤ g .work
 unfolding indexed
 indexed-keeps g zero ws after l b = b
 indexed-keeps g (suc i) ws after l b =
-    store-keeps (needed g) (workerAt g i + 2) (i % g .width) ws (indexed after g i) (omega arith) (indexed-keeps g i ws after (omega arith) b)
+    store-keeps (needed g) (indexAt (workerAt g i)) (i % g .width) ws (indexed after g i) (omega arith) (indexed-keeps g i ws after (omega arith) b)
 
 pub make-keeps : MakeKeeps
 unfolding makeOf madeWords
@@ -77,7 +77,7 @@ begin-slot-keeps : (g : Settings) (ws : List ℕ) (i : ℕ) (side : Side) (value
 unfolding slotBegin
 begin-slot-keeps g ws i side value l =
     cases (λ (o : Out). Beyond (needed g) ws (o .words)) (eqb (getD ws (workerAt g i) 0) 0) _ _
-    (λ e. cases (λ (o : Out). Beyond (needed g) ws (o .words)) (stepsSpent ws) _ _
+    (λ e. cases (λ (o : Out). Beyond (needed g) ws (o .words)) (outOfSteps ws) _ _
     (λ f. unchanged _ ws)
     (λ f. slot-keeps g i _ ws ws l (unchanged _ ws)))
     (λ e. unchanged _ ws)
@@ -112,23 +112,23 @@ module _ (g : Settings) (ws : List ℕ) (fit : FitPool g ws) (i j : ℕ) (li : i
   unfolding putWorker
   worker-keeps e after b = slot-keeps g i (e .slot) ws _ li (store-keeps _ _ _ ws after (omega arith) b)
 
-  item-keeps : (e : Effect) → Beyond (needed g) ws (putItem ws g j (e .value) (e .row) (record { 0 = e .puts }))
+  item-keeps : (value : ℕ) (row : Row) (stamp : Stamp) → Beyond (needed g) ws (putItem ws g j value row stamp)
   unfolding putItem
-  item-keeps e =
-      let low = cell-lt g j (sub32 (e .row .0) 1) (fit .bounds) lj in
+  item-keeps value row stamp =
+      let low = cell-lt g j (sub32 (row .0) 1) (fit .bounds) lj in
       store-keeps _ _ _ ws _ (omega arith) (store-keeps _ _ _ ws ws (omega arith) (unchanged _ ws))
 
-  landed-keeps : (e : Effect) → Beyond (needed g) ws (putLanded ws g j e)
+  landed-keeps : (value : ℕ) (row : Row) (stamp : Stamp) (e : Effect) → Beyond (needed g) ws (putLanded ws g j value row stamp e)
   unfolding putLanded
-  landed-keeps e = sub-keeps e _ (store-keeps _ _ _ ws _ (omega arith) (item-keeps e))
+  landed-keeps value row stamp e = sub-keeps e _ (store-keeps _ _ _ ws _ (omega arith) (item-keeps value row stamp))
 
   apply-keeps : (e : Effect) (o : Outcome) → Beyond (needed g) ws (applyBy ws g (workerAt g i) j e o .words)
   unfolding applyBy
   apply-keeps e (Refused n) = unchanged _ ws
   apply-keeps e Moving = worker-keeps e ws (unchanged _ ws)
   apply-keeps e Shifted = worker-keeps e _ (shifted-keeps e)
-  apply-keeps e Landed = worker-keeps e _ (landed-keeps e)
-  apply-keeps e Removed = worker-keeps e _ (sub-keeps e ws (unchanged _ ws))
+  apply-keeps e (Landed value row stamp) = worker-keeps e _ (landed-keeps value row stamp e)
+  apply-keeps e (Removed row) = worker-keeps e _ (sub-keeps e ws (unchanged _ ws))
   apply-keeps e Empty = worker-keeps e ws (unchanged _ ws)
   apply-keeps e Full = worker-keeps e ws (unchanged _ ws)
 
@@ -139,7 +139,7 @@ step-fit-keeps g ws fit i =
     (λ e. unchanged _ ws)
     (λ e. cases (λ (o : Out). Beyond (needed g) ws (o .words)) (eqb (getD ws (workerAt g i) 0) 0) _ _
     (λ f. unchanged _ ws)
-    (λ f. cases (λ (o : Out). Beyond (needed g) ws (o .words)) (stepsSpent ws) _ _
+    (λ f. cases (λ (o : Out). Beyond (needed g) ws (o .words)) (outOfSteps ws) _ _
     (λ h. unchanged _ ws)
     (λ h. apply-keeps g ws fit i _ (leb-false _ _ e) (fit .index i (leb-false _ _ e)) _ _)))
 

@@ -7,6 +7,48 @@ use Rattle.laws.specs.Choice.{cond}
 use Rattle.rules.specs.declared.Answer.{Answer}
 use Rattle.rules.specs.declared.Answer.the-variants.{Moving, Put, Taken, Empty, Full, Refused}
 
+-- ---- the refusals
+-- fewer words than needed, or fewer than 12
+abbrev pub tooFewWords : ℕ
+tooFewWords = 21
+
+-- make: a setting off limits
+abbrev pub offLimits : ℕ
+offLimits = 22
+
+-- not fit; or a commit that matches with no free cell or no item
+abbrev pub notFit : ℕ
+notFit = 23
+
+-- worker number n or more
+abbrev pub noSuchWorker : ℕ
+noSuchWorker = 24
+
+-- begin on a busy worker
+abbrev pub workerBusy : ℕ
+workerBusy = 25
+
+-- step on an idle worker
+abbrev pub workerIdle : ℕ
+workerIdle = 26
+
+-- begin or step: step count is 4,000,000,000 or more
+abbrev pub stepsSpent : ℕ
+stepsSpent = 27
+
+-- run file: cut in a word or before its end word
+abbrev pub fileCut : ℕ
+fileCut = 28
+
+-- run file: a kind out of place, a nonzero spare bit, bytes after the end
+abbrev pub badWord : ℕ
+badWord = 29
+
+-- run lister: distance above demand 3's bound
+abbrev pub overBound : ℕ
+overBound = 30
+
+-- ---- the answers
 abbrev pub numberOf : Answer → ℕ
 numberOf Moving = 0
 numberOf (Put value sub row stamp) = 1
@@ -34,6 +76,7 @@ finalOf n fields =
     (cond (eqb n 2) (Taken (getD fields 0 0) (getD fields 1 0) (record { 0 = getD fields 2 0 }) (record { 0 = getD fields 3 0 }) (getD fields 4 0))
     (cond (eqb n 3) Empty Full))
 
+-- ---- an answer, and the words after it
 pub record Out : Type 0 where
   pub answer : Answer
   pub words : List ℕ
@@ -44,3 +87,15 @@ out a ws = record { answer = a; words = ws }
 -- a refusal leaves all lent words unchanged
 abbrev pub refuse : ℕ → List ℕ → Out
 refuse n ws = out (Refused n) ws
+
+-- ---- what C is handed: the number returned, the words, and the fields written
+pub record Returned : Type 0 where
+  pub number : ℕ
+  pub words : List ℕ
+  pub fields : List ℕ
+
+abbrev pub returned : ℕ → List ℕ → List ℕ → Returned
+returned n ws fields = record { number = n; words = ws; fields = fields }
+
+abbrev pub returnedOf : Out → Returned
+returnedOf o = returned (numberOf (o .answer)) (o .words) (fieldsOf (o .answer))

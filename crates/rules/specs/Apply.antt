@@ -1,10 +1,10 @@
 -- What an effect does to the words, and what it answers. A step not refused adds 1 to the step count.
-use Prim.Native.Nat.{ℕ, _+_}
+use Prim.Native.Nat.{ℕ}
 use mathlib.Core.List.{List}
 use lib.ListN.{getD, set}
 use Rattle.laws.specs.Wrap.{add32}
 use Rattle.rules.specs.Answers.{Out, out, refuse}
-use Rattle.rules.specs.Layout.{stepsAt, putsAt, topAt, markAt, subAt, cellAt}
+use Rattle.rules.specs.Layout.{stepsAt, putsAt, topAt, markAt, firstAt, secondAt, cellAt, stampAt}
 use Rattle.rules.specs.Worker.{putSlot}
 use Rattle.rules.specs.Held.{itemAt, distanceOf}
 use Rattle.rules.specs.declared.Settings.{Settings}
@@ -18,18 +18,15 @@ use Rattle.rules.specs.declared.Answer.the-variants.{Moving, Put, Taken,
 
 -- an item in the cell of its row
 unfoldable pub putItem : List ℕ → Settings → ℕ → ℕ → Row → Stamp → List ℕ
-putItem ws g j value row stamp = set (set ws (cellAt g j (row .0)) value) (cellAt g j (row .0) + 1) (stamp .0)
-
-abbrev pub stampOf : Effect → Stamp
-stampOf e = record { 0 = e .puts }
+putItem ws g j value row stamp = set (set ws (cellAt g j (row .0)) value) (stampAt (cellAt g j (row .0))) (stamp .0)
 
 -- the two words of sub j
 unfoldable pub putSub : List ℕ → ℕ → Effect → List ℕ
-putSub ws j e = set (set ws (subAt j) (e .first)) (subAt j + 1) (e .second)
+putSub ws j e = set (set ws (firstAt j) (e .first)) (secondAt j) (e .second)
 
 -- the item, the count of puts, and sub j
-unfoldable pub putLanded : List ℕ → Settings → ℕ → Effect → List ℕ
-putLanded ws g j e = putSub (set (putItem ws g j (e .value) (e .row) (stampOf e)) putsAt (e .puts)) j e
+unfoldable pub putLanded : List ℕ → Settings → ℕ → ℕ → Row → Stamp → Effect → List ℕ
+putLanded ws g j value row stamp e = putSub (set (putItem ws g j value row stamp) putsAt (e .puts)) j e
 
 -- the window's two words
 unfoldable pub putShifted : List ℕ → Effect → List ℕ
@@ -39,18 +36,21 @@ putShifted ws e = set (set ws topAt (e .top)) markAt (e .mark)
 unfoldable pub putWorker : List ℕ → ℕ → Effect → List ℕ
 putWorker ws at e = putSlot (set ws stepsAt (add32 (getD ws stepsAt 0) 1)) at (e .slot)
 
+-- the stamp in the cell of a row
+abbrev pub stampInCell : List ℕ → Settings → ℕ → Row → Stamp
+stampInCell ws g j row = record { 0 = itemAt ws g j (row .0) .stamp }
+
 -- 2: the row's item, and the distance just before
 unfoldable pub takenOf : List ℕ → Settings → ℕ → Row → Answer
 takenOf ws g j row =
-    Taken (itemAt ws g j (row .0) .value) j row (record { 0 = itemAt ws g j (row .0) .stamp })
-    (distanceOf ws g (itemAt ws g j (row .0) .stamp))
+    Taken (itemAt ws g j (row .0) .value) j row (stampInCell ws g j row) (distanceOf ws g (stampInCell ws g j row))
 
 unfoldable pub applyBy : List ℕ → Settings → ℕ → ℕ → Effect → Outcome → Out
 applyBy ws g at j e (Stays n) = refuse n ws
 applyBy ws g at j e Moves = out Moving (putWorker ws at e)
 applyBy ws g at j e Shifted = out Moving (putWorker (putShifted ws e) at e)
-applyBy ws g at j e Landed = out (Put (e .value) j (e .row) (stampOf e)) (putWorker (putLanded ws g j e) at e)
-applyBy ws g at j e Removed = out (takenOf ws g j (e .row)) (putWorker (putSub ws j e) at e)
+applyBy ws g at j e (Landed value row stamp) = out (Put value j row stamp) (putWorker (putLanded ws g j value row stamp e) at e)
+applyBy ws g at j e (Removed row) = out (takenOf ws g j row) (putWorker (putSub ws j e) at e)
 applyBy ws g at j e NoItem = out Empty (putWorker ws at e)
 applyBy ws g at j e NoRoom = out Full (putWorker ws at e)
 

@@ -1,37 +1,39 @@
 -- "Begin" sets the value (0 for a take), phase 1 or 9, other words zero, index kept.
-use Prim.Native.Nat.{ℕ, _+_}
+use Prim.Native.Nat.{ℕ}
 use mathlib.Core.List.{List}
 use mathlib.Core.Bool.{Bool}
 use lib.ListN.{getD}
 use lib.Dec.{leb, eqb}
 use Rattle.laws.specs.Choice.{cond}
-use Rattle.rules.specs.Answers.{Out, out, refuse}
-use Rattle.rules.specs.Layout.{stepsAt, workerAt}
+use Rattle.rules.specs.Answers.{Out, out, refuse, noSuchWorker, workerBusy, stepsSpent}
+use Rattle.rules.specs.Layout.{stepsAt, workerAt, phaseAt, indexAt}
 use Rattle.rules.specs.Limits.{stepLimit}
-use Rattle.rules.specs.Worker.{putSlot, fresh}
-use Rattle.rules.specs.Fit.{checkedOf}
+use Rattle.rules.specs.Worker.{putSlot, fresh, idlePhase}
+use Rattle.rules.specs.Fit.{Checked, Unfit, Fit, checkedOf}
 use Rattle.rules.specs.declared.Settings.{Settings}
 use Rattle.rules.specs.declared.Side.{Side}
 use Rattle.rules.specs.declared.Side.the-variants.{Putting, Taking}
 use Rattle.rules.specs.declared.Phase.the-variants.{Window}
-use Rattle.rules.specs.declared.Checked.{Checked}
-use Rattle.rules.specs.declared.Checked.the-variants.{Unfit, Fit}
 use Rattle.rules.specs.declared.Answer.the-variants.{Moving}
 
--- 27: the step count is at its limit, or above
-abbrev pub stepsSpent : List ℕ → Bool
-stepsSpent ws = leb stepLimit (getD ws stepsAt 0)
+-- the phase of the worker whose words start at `at` is idle
+abbrev pub idleAt : List ℕ → ℕ → Bool
+idleAt ws at = eqb (getD ws (phaseAt at) 0) idlePhase
+
+-- the step count is at its limit, or above
+abbrev pub outOfSteps : List ℕ → Bool
+outOfSteps ws = leb stepLimit (getD ws stepsAt 0)
 
 -- 25, 27, then the worker whose words start at `at` is begun
 unfoldable pub slotBegin : List ℕ → ℕ → Side → ℕ → Out
 slotBegin ws at side value =
-    cond (eqb (getD ws at 0) 0)
-    (cond (stepsSpent ws) (refuse 27 ws) (out Moving (putSlot ws at (fresh value (getD ws (at + 2) 0) (Window side)))))
-    (refuse 25 ws)
+    cond (idleAt ws at)
+    (cond (outOfSteps ws) (refuse stepsSpent ws) (out Moving (putSlot ws at (fresh value (getD ws (indexAt at) 0) (Window side)))))
+    (refuse workerBusy ws)
 
 -- 24 first
 unfoldable pub fitBegin : List ℕ → Settings → ℕ → Side → ℕ → Out
-fitBegin ws g i side value = cond (leb (g .workers) i) (refuse 24 ws) (slotBegin ws (workerAt g i) side value)
+fitBegin ws g i side value = cond (leb (g .workers) i) (refuse noSuchWorker ws) (slotBegin ws (workerAt g i) side value)
 
 unfoldable pub checkedBegin : List ℕ → Checked → ℕ → Side → ℕ → Out
 checkedBegin ws (Unfit n) i side value = refuse n ws

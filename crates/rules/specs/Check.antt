@@ -10,6 +10,6 @@ use Rattle.rules.specs.declared.Effect.{Effect}
 
 unfoldable pub checkRule : View → Side → Version → Version → Effect
 checkRule v side version seen =
-    cond (eqb (windowVersion v) (version .0))
-    (movedOf v (v .slot .index) (StackCommit side seen) (v .slot))
-    (restartOf v (v .slot .index) side)
+    cond (eqb (windowVersion v .0) (version .0))
+    (movedOf v (v .worker .index) (StackCommit side seen) (v .kept))
+    (restartOf v (v .worker .index) side)

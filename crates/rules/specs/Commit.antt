@@ -6,64 +6,71 @@ use mathlib.Core.Bool.{Bool}
 use lib.Dec.{ltb, eqb}
 use Rattle.laws.specs.Choice.{cond}
 use Rattle.laws.specs.Wrap.{add32, sub32}
+use Rattle.rules.specs.Answers.{notFit}
 use Rattle.rules.specs.Worker.{fresh}
 use Rattle.rules.specs.Effects.{refusedOf, restartOf, hopOf, itemsPut, itemsTaken, itemsHeld, subVersion}
 use Rattle.rules.specs.declared.Settings.{Settings}
 use Rattle.rules.specs.declared.Side.{Side}
 use Rattle.rules.specs.declared.Side.the-variants.{Putting, Taking}
 use Rattle.rules.specs.declared.Phase.the-variants.{Idle}
+use Rattle.rules.specs.declared.Row.{Row}
+use Rattle.rules.specs.declared.Stamp.{Stamp}
 use Rattle.rules.specs.declared.Version.{Version}
 use Rattle.rules.specs.declared.View.{View}
 use Rattle.rules.specs.declared.Effect.{Effect}
 use Rattle.rules.specs.declared.Outcome.the-variants.{Landed, Removed}
 
--- an item lands in a row, with puts made, and so its stamp, one more; the sub's words are then `first` and `second`
-abbrev pub landedOf : View → ℕ → ℕ → ℕ → Effect
+-- the stamp of an item that lands: "the number of the put"
+abbrev pub stampNext : View → Stamp
+stampNext v = record { 0 = add32 (v .puts) 1 }
+
+-- the row above so many
+abbrev pub rowAbove : ℕ → Row
+rowAbove count = record { 0 = add32 count 1 }
+
+-- an item lands in a row, and puts made is one more; the sub's words are then `first` and `second`
+abbrev pub landedOf : View → ℕ → ℕ → Row → Effect
 landedOf v first second row =
     record {
-      outcome = Landed;
-      slot = fresh 0 (v .slot .index) Idle;
+      outcome = Landed (v .worker .value) row (stampNext v);
+      slot = fresh 0 (v .worker .index) Idle;
       top = v .top;
       mark = v .mark;
       puts = add32 (v .puts) 1;
       first = first;
       second = second;
-      row = record { 0 = row };
-      value = v .slot .value;
     }
 
 -- the item of a row is taken
-abbrev pub removedOf : View → ℕ → ℕ → ℕ → Effect
+abbrev pub removedOf : View → ℕ → ℕ → Row → Effect
 removedOf v first second row =
     record {
-      outcome = Removed;
-      slot = fresh 0 (v .slot .index) Idle;
+      outcome = Removed row;
+      slot = fresh 0 (v .worker .index) Idle;
       top = v .top;
       mark = v .mark;
       puts = v .puts;
       first = first;
       second = second;
-      row = record { 0 = row };
-      value = 0;
     }
 
 -- what a commit does that matches, if it is able to; a lost one hops
 unfoldable pub commitBy : Settings → View → Side → Bool → Bool → Effect → Effect
 commitBy g v side matches able done =
-    cond matches (cond able done (refusedOf v 23)) (restartOf v (hopOf g (v .slot .index)) side)
+    cond matches (cond able done (refusedOf v notFit)) (restartOf v (hopOf g (v .worker .index)) side)
 
 unfoldable pub queueCommit : Settings → View → Side → ℕ → Effect
 queueCommit g v Putting seen =
     commitBy g v Putting (eqb (itemsPut v) seen) (ltb (sub32 (itemsPut v) (itemsTaken v)) (g .rows))
-    (landedOf v (add32 (itemsPut v) 1) (itemsTaken v) (add32 (itemsPut v) 1))
+    (landedOf v (add32 (itemsPut v) 1) (itemsTaken v) (rowAbove (itemsPut v)))
 queueCommit g v Taking seen =
     commitBy g v Taking (eqb (itemsTaken v) seen) (ltb (itemsTaken v) (itemsPut v))
-    (removedOf v (itemsPut v) (add32 (itemsTaken v) 1) (add32 (itemsTaken v) 1))
+    (removedOf v (itemsPut v) (add32 (itemsTaken v) 1) (rowAbove (itemsTaken v)))
 
 unfoldable pub stackCommit : Settings → View → Side → Version → Effect
 stackCommit g v Putting seen =
-    commitBy g v Putting (eqb (subVersion v) (seen .0)) (ltb (itemsHeld v) (g .rows))
-    (landedOf v (add32 (itemsHeld v) 1) (add32 (subVersion v) 1) (add32 (itemsHeld v) 1))
+    commitBy g v Putting (eqb (subVersion v .0) (seen .0)) (ltb (itemsHeld v) (g .rows))
+    (landedOf v (add32 (itemsHeld v) 1) (add32 (subVersion v .0) 1) (rowAbove (itemsHeld v)))
 stackCommit g v Taking seen =
-    commitBy g v Taking (eqb (subVersion v) (seen .0)) (ltb 0 (itemsHeld v))
-    (removedOf v (sub32 (itemsHeld v) 1) (add32 (subVersion v) 1) (itemsHeld v))
+    commitBy g v Taking (eqb (subVersion v .0) (seen .0)) (ltb 0 (itemsHeld v))
+    (removedOf v (sub32 (itemsHeld v) 1) (add32 (subVersion v .0) 1) (record { 0 = itemsHeld v }))

@@ -7,9 +7,8 @@ use mathlib.Core.List.{List, [], _∷_, _++_, List·Memᴰ}
 use lib.ListN.{getD}
 use lib.Dec.{eqb}
 use Rattle.laws.specs.Choice.{cond}
-use Rattle.rules.specs.Answers.{numberOf}
+use Rattle.rules.specs.Answers.{tooFewWords, notFit, numberOf}
 use Rattle.rules.specs.Layout.{stepsAt, putsAt, topAt, markAt, firstOf, secondOf, workerAt}
-use Rattle.rules.specs.Worker.{slotAt, phaseOf}
 use Rattle.rules.specs.Effects.{viewOf, putWindow, takeWindow, stackWindow, windowVersion, itemsPut, itemsTaken, itemsHeld, subVersion}
 use Rattle.rules.specs.Held.{Item, heldItems, countItems}
 use Rattle.rules.specs.Make.{makeOf}
@@ -76,19 +75,19 @@ NoWrap g v (Window side) = Unit {0}
 -- read: what is read joins the sum, and a miss is counted; a queue's take counts a bare sub, a stack's looks above the seen window - d
 NoWrap g v (QueuePutRead window scan) = scan + 1 < 2 ^ 32
 NoWrap g v (QueueTakeRead window bare scan sum) = (sum + itemsPut v < 2 ^ 32) × (bare + 1 < 2 ^ 32) × (scan + 1 < 2 ^ 32)
-NoWrap g v (StackRead side window version scan sum) = (sum + subVersion v < 2 ^ 32) × (scan + 1 < 2 ^ 32) × (g .depth ≤ window)
+NoWrap g v (StackRead side window version scan sum) = (sum + subVersion v .0 < 2 ^ 32) × (scan + 1 < 2 ^ 32) × (g .depth ≤ window)
 -- check: nothing is added up
 NoWrap g v (Check side version seen) = Unit {0}
 -- commit: the counts change by one, and a put's stamp is the next; a queue's put looks at put - taken, a stack's take leaves held - 1
 NoWrap g v (QueueCommit Putting seen) = (itemsTaken v ≤ itemsPut v) × (itemsPut v + 1 < 2 ^ 32) × (v .puts + 1 < 2 ^ 32)
 NoWrap g v (QueueCommit Taking seen) = itemsTaken v + 1 < 2 ^ 32
-NoWrap g v (StackCommit Putting seen) = (itemsHeld v + 1 < 2 ^ 32) × (subVersion v + 1 < 2 ^ 32) × (v .puts + 1 < 2 ^ 32)
-NoWrap g v (StackCommit Taking seen) = (subVersion v ≡ seen .0 → 1 ≤ itemsHeld v) × (subVersion v + 1 < 2 ^ 32)
+NoWrap g v (StackCommit Putting seen) = (itemsHeld v + 1 < 2 ^ 32) × (subVersion v .0 + 1 < 2 ^ 32) × (v .puts + 1 < 2 ^ 32)
+NoWrap g v (StackCommit Taking seen) = (subVersion v .0 ≡ seen .0 → 1 ≤ itemsHeld v) × (subVersion v .0 + 1 < 2 ^ 32)
 -- shift: a queue's put looks at P + 2d - T; P and T grow by d; G grows or falls by s, and its version grows
 NoWrap g v (QueueShift Putting window) = (putWindow v + 2 * g .depth < 2 ^ 32) × (takeWindow v ≤ putWindow v + 2 * g .depth)
 NoWrap g v (QueueShift Taking window) = takeWindow v + g .depth < 2 ^ 32
-NoWrap g v (StackShift Putting version scan sum) = (stackWindow v + g .shift < 2 ^ 32) × (windowVersion v + 1 < 2 ^ 32)
-NoWrap g v (StackShift Taking version scan sum) = (g .shift ≤ stackWindow v) × (windowVersion v + 1 < 2 ^ 32)
+NoWrap g v (StackShift Putting version scan sum) = (stackWindow v + g .shift < 2 ^ 32) × (windowVersion v .0 + 1 < 2 ^ 32)
+NoWrap g v (StackShift Taking version scan sum) = (g .shift ≤ stackWindow v) × (windowVersion v .0 + 1 < 2 ^ 32)
 -- confirm: a sub is counted; what is left of the sum may pass below 0
 NoWrap g v (Confirm side scan sum) = scan + 1 < 2 ^ 32
 
@@ -103,9 +102,9 @@ pub record NoSumWraps (g : Settings) (ws : List ℕ) : Type 0 where
   pub top : getD ws topAt 0 + 2 * g .depth < 2 ^ 32
   pub mark : getD ws markAt 0 + g .depth < 2 ^ 32
   -- what each worker's next step adds up or takes away
-  pub rule : (i : ℕ) → i < g .workers → NoWrap g (viewOf ws (workerAt g i)) (phaseOf (g .kind) (slotAt ws (workerAt g i)))
+  pub rule : (i : ℕ) → i < g .workers → NoWrap g (viewOf ws g (workerAt g i)) (viewOf ws g (workerAt g i) .worker .phase)
 
 -- ---- no call finds the pool unfit, and no commit that matches is refused
 abbrev pub NeverUnfit : Settings → List ℕ → List Call → Type 0
 NeverUnfit g ws cs =
-    (f : ℕ) → (numberOf (at (run ws cs) f .answer) ≢ 21) × (numberOf (at (run ws cs) f .answer) ≢ 23)
+    (f : ℕ) → (numberOf (at (run ws cs) f .answer) ≢ tooFewWords) × (numberOf (at (run ws cs) f .answer) ≢ notFit)

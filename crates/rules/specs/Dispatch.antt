@@ -7,13 +7,13 @@ use mathlib.Core.List.{List, [], _∷_, _++_}
 use lib.ListN.{getD}
 use lib.Dec.{leb, eqb}
 use Rattle.laws.specs.Choice.{cond}
-use Rattle.rules.specs.Answers.{Out, numberOf, fieldsOf, noFields, finalOf}
-use Rattle.rules.specs.Layout.{workerAt}
-use Rattle.rules.specs.Fit.{checkedOf}
+use Rattle.rules.specs.Answers.{Out, noSuchWorker, numberOf, fieldsOf, noFields, finalOf, Returned, returned}
+use Rattle.rules.specs.Layout.{workerAt, phaseAt}
+use Rattle.rules.specs.Worker.{idlePhase}
+use Rattle.rules.specs.Fit.{Checked, Unfit, Fit, checkedOf}
+use Rattle.rules.specs.Begin.{idleAt}
 use Rattle.rules.specs.Step.{stepOf}
 use Rattle.rules.specs.declared.Settings.{Settings}
-use Rattle.rules.specs.declared.Checked.{Checked}
-use Rattle.rules.specs.declared.Checked.the-variants.{Unfit, Fit}
 use Rattle.rules.specs.declared.Answer.{Answer}
 use Rattle.rules.specs.declared.Turn.{Turn}
 use Rattle.rules.specs.declared.Turn.the-variants.{NoneBusy as Nobody, Worker}
@@ -41,10 +41,13 @@ resultFields NoneBusy = noFields ++ (0 ∷ [])
 resultFields (RanOut next) = noFields ++ (next ∷ [])
 resultFields (Refused n) = noFields ++ (0 ∷ [])
 
+abbrev pub dispatchReturned : DispatchOut → Returned
+dispatchReturned o = returned (resultNumber (o .result)) (o .words) (resultFields (o .result))
+
 -- ---- whose turn it is
--- some worker is busy: its phase is not 0
+-- some worker is busy: its phase is not idle
 abbrev pub Busy : Settings → List ℕ → Type 0
-Busy g ws = (i : ℕ) × (i < g .workers) × (getD ws (workerAt g i) 0 ≢ 0)
+Busy g ws = (i : ℕ) × (i < g .workers) × (getD ws (phaseAt (workerAt g i)) 0 ≢ idlePhase)
 
 -- the worker after i, "round and round by number"
 abbrev pub workerAfter : Settings → ℕ → ℕ
@@ -53,7 +56,7 @@ workerAfter g i = (i + 1) % g .workers
 -- the first busy one of the m workers from i on
 unfoldable pub busyFrom : List ℕ → Settings → ℕ → ℕ → Turn
 busyFrom ws g i zero = Nobody
-busyFrom ws g i (suc m) = cond (eqb (getD ws (workerAt g i) 0) 0) (busyFrom ws g (workerAfter g i) m) (Worker i)
+busyFrom ws g i (suc m) = cond (idleAt ws (workerAt g i)) (busyFrom ws g (workerAfter g i) m) (Worker i)
 
 abbrev pub turnFrom : List ℕ → Settings → ℕ → Turn
 turnFrom ws g i = busyFrom ws g i (g .workers)
@@ -80,7 +83,7 @@ turnsOf ws g i (suc k) =
 
 -- ---- the call: fitness, then 24, whatever the count and whoever is busy
 unfoldable pub fitDispatch : List ℕ → Settings → ℕ → ℕ → DispatchOut
-fitDispatch ws g i steps = cond (leb (g .workers) i) (dispatched (Refused 24) ws) (turnsOf ws g i steps)
+fitDispatch ws g i steps = cond (leb (g .workers) i) (dispatched (Refused noSuchWorker) ws) (turnsOf ws g i steps)
 
 unfoldable pub checkedDispatch : List ℕ → Checked → ℕ → ℕ → DispatchOut
 checkedDispatch ws (Unfit n) i steps = dispatched (Refused n) ws

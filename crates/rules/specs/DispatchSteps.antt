@@ -7,13 +7,12 @@ use mathlib.Core.List.{List, [], _∷_, _++_}
 use lib.ListN.{length, getD}
 use Rattle.rules.specs.Answers.{numberOf}
 use Rattle.rules.specs.Layout.{workerAt}
-use Rattle.rules.specs.Fit.{checkedOf}
+use Rattle.rules.specs.Fit.{Fit, checkedOf}
 use Rattle.rules.specs.Step.{stepOf}
 use Rattle.rules.specs.Dispatch.{DispatchOut, dispatched, Busy, turnFrom, dispatchOf}
 use Rattle.rules.specs.Run.{Call, step, callOf, Final}
 use Rattle.rules.specs.Consequences.{wordsAfter}
 use Rattle.rules.specs.declared.Settings.{Settings}
-use Rattle.rules.specs.declared.Checked.the-variants.{Fit}
 use Rattle.rules.specs.declared.Turn.the-variants.{Worker}
 use Rattle.rules.specs.declared.Dispatched.the-variants.{Finished, NoneBusy, RanOut, Refused}
 

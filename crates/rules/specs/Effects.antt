@@ -2,29 +2,34 @@
 use Prim.Native.Nat.{ℕ, _+_, _%_}
 use mathlib.Core.List.{List}
 use lib.ListN.{getD}
-use Rattle.rules.specs.Layout.{putsAt, topAt, markAt, firstOf, secondOf}
-use Rattle.rules.specs.Worker.{slotAt, encode, fresh}
+use Rattle.rules.specs.Layout.{putsAt, topAt, markAt, indexAt, firstOf, secondOf}
+use Rattle.rules.specs.Worker.{slotAt, decode, encode, fresh}
 use Rattle.rules.specs.declared.Settings.{Settings}
 use Rattle.rules.specs.declared.Side.{Side}
 use Rattle.rules.specs.declared.Side.the-variants.{Putting, Taking}
 use Rattle.rules.specs.declared.Phase.{Phase}
 use Rattle.rules.specs.declared.Phase.the-variants.{Idle, Window}
+use Rattle.rules.specs.declared.Version.{Version}
+use Rattle.rules.specs.declared.Worker.{Worker}
 use Rattle.rules.specs.declared.Slot.{Slot}
 use Rattle.rules.specs.declared.View.{View}
+use Rattle.rules.specs.declared.QueueView.{QueueView}
+use Rattle.rules.specs.declared.StackView.{StackView}
 use Rattle.rules.specs.declared.Effect.{Effect}
 use Rattle.rules.specs.declared.Outcome.{Outcome}
 use Rattle.rules.specs.declared.Outcome.the-variants.{Refused, Moving, Empty, Full}
 
 -- what the worker whose words start at `at` reads
-unfoldable pub viewOf : List ℕ → ℕ → View
-viewOf ws at =
+unfoldable pub viewOf : List ℕ → Settings → ℕ → View
+viewOf ws g at =
     record {
       top = getD ws topAt 0;
       mark = getD ws markAt 0;
       puts = getD ws putsAt 0;
-      first = firstOf ws (getD ws (at + 2) 0);
-      second = secondOf ws (getD ws (at + 2) 0);
-      slot = slotAt ws at;
+      first = firstOf ws (getD ws (indexAt at) 0);
+      second = secondOf ws (getD ws (indexAt at) 0);
+      worker = decode (g .kind) (slotAt ws at);
+      kept = slotAt ws at;
     }
 
 -- ---- the words of a view, by their names in the paper
@@ -36,24 +41,31 @@ putWindow v = v .top
 abbrev pub takeWindow : View → ℕ
 takeWindow v = v .mark
 
--- G
-abbrev pub stackWindow : View → ℕ
-stackWindow v = v .top
-
-abbrev pub windowVersion : View → ℕ
-windowVersion v = v .mark
-
 abbrev pub itemsPut : View → ℕ
 itemsPut v = v .first
 
 abbrev pub itemsTaken : View → ℕ
 itemsTaken v = v .second
 
+-- G
+abbrev pub stackWindow : View → ℕ
+stackWindow v = v .top
+
+abbrev pub windowVersion : View → Version
+windowVersion v = record { 0 = v .mark }
+
 abbrev pub itemsHeld : View → ℕ
 itemsHeld v = v .first
 
-abbrev pub subVersion : View → ℕ
-subVersion v = v .second
+abbrev pub subVersion : View → Version
+subVersion v = record { 0 = v .second }
+
+-- as a rule of either kind reads them
+abbrev pub queueView : View → QueueView
+queueView v = record { «put_window» = putWindow v; «take_window» = takeWindow v; «items_put» = itemsPut v; «items_taken» = itemsTaken v }
+
+abbrev pub stackView : View → StackView
+stackView v = record { window = stackWindow v; version = windowVersion v; «items_held» = itemsHeld v; «sub_version» = subVersion v }
 
 -- ---- indices
 -- "Next" is index + 1 mod w
@@ -76,20 +88,22 @@ keepOf v outcome slot =
       puts = v .puts;
       first = v .first;
       second = v .second;
-      row = record { 0 = 0 };
-      value = 0;
     }
 
 abbrev pub refusedOf : View → ℕ → Effect
-refusedOf v n = keepOf v (Refused n) (v .slot)
+refusedOf v n = keepOf v (Refused n) (v .kept)
 
--- the worker at an index in a phase; its words that the phase does not hold are as in `kept`
+-- the worker at an index in a phase
+abbrev pub workerOf : View → ℕ → Phase → Worker
+workerOf v index phase = record { value = v .worker .value; index = index; phase = phase }
+
+-- it goes on so; its words that the phase does not hold are as in `kept`
 abbrev pub movedOf : View → ℕ → Phase → Slot → Effect
-movedOf v index phase kept = keepOf v Moving (encode (record { value = v .slot .value; index = index; phase = phase }) kept)
+movedOf v index phase kept = keepOf v Moving (encode (workerOf v index phase) kept)
 
 -- "Restart" is the window phase, the worker's other words kept
 abbrev pub restartOf : View → ℕ → Side → Effect
-restartOf v index side = movedOf v index (Window side) (v .slot)
+restartOf v index side = movedOf v index (Window side) (v .kept)
 
 -- a final answer: the worker is idle, all its words zero but the index
 abbrev pub finishedOf : View → Outcome → ℕ → Effect

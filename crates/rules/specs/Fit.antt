@@ -6,15 +6,16 @@ use mathlib.Core.Bool.{Bool, true, false}
 use lib.ListN.{getD, length}
 use lib.Dec.{ltb, leb, eqb}
 use Rattle.laws.specs.Choice.{cond, both, allBelow}
-use Rattle.rules.specs.Layout.{headWords, workerWords, workerAt, needed, settingsOf, firstOf, secondOf}
+use Rattle.rules.specs.Answers.{tooFewWords, notFit}
+use Rattle.rules.specs.Layout.{headWords, firstZeroAt, secondZeroAt, workerWords, workerAt, phaseWord, indexWord, scanWord, indexAt, scanAt, needed, settingsOf, firstOf, secondOf}
 use Rattle.rules.specs.Limits.{settingsFit, Bounds}
+use Rattle.rules.specs.Worker.{checkPhase, confirmPhase, sideBase, numberFor}
 use Rattle.rules.specs.declared.Settings.{Settings}
-use Rattle.rules.specs.declared.Checked.{Checked}
-use Rattle.rules.specs.declared.Checked.the-variants.{Unfit, Fit}
+use Rattle.rules.specs.declared.Side.the-variants.{Putting, Taking}
 
 -- settings within limits, words 10 and 11 zero
 unfoldable pub headFit : List ℕ → Bool
-headFit ws = both (settingsFit (settingsOf ws)) (both (eqb (getD ws 10 0) 0) (eqb (getD ws 11 0) 0))
+headFit ws = both (settingsFit (settingsOf ws)) (both (eqb (getD ws firstZeroAt 0) 0) (eqb (getD ws secondZeroAt 0) 0))
 
 -- items taken at most items put, and put minus taken at most R
 abbrev pub queueSubFit : ℕ → ℕ → ℕ → Bool
@@ -30,33 +31,43 @@ subsFit ws g = allBelow (g .width) (λ j. subFit g (firstOf ws j) (secondOf ws j
 -- a phase of the pool's kind: 0 to 6 and 9 to 14, and in a queue neither 3, 6 nor 11
 unfoldable pub phaseFit : ℕ → ℕ → Bool
 phaseFit kind x =
-    cond (ltb 14 x) false
-    (cond (eqb x 7) false
-    (cond (eqb x 8) false
-    (cond (eqb kind 0) (cond (eqb x 3) false (cond (eqb x 6) false (cond (eqb x 11) false true))) true)))
+    cond (ltb (numberFor Taking confirmPhase) x) false
+    (cond (both (ltb (numberFor Putting confirmPhase) x) (leb x (sideBase Taking))) false
+    (cond (eqb kind 0)
+    (cond (eqb x (numberFor Putting checkPhase)) false (cond (eqb x (numberFor Putting confirmPhase)) false (cond (eqb x (numberFor Taking checkPhase)) false true)))
+    true))
 
 -- word k of a worker's: a phase, an index below w, a scan below w; the others are free
 unfoldable pub wordFit : Settings → ℕ → ℕ → Bool
-wordFit g k x = cond (eqb k 0) (phaseFit (g .kind) x) (cond (eqb k 2) (ltb x (g .width)) (cond (eqb k 5) (ltb x (g .width)) true))
+wordFit g k x =
+    cond (eqb k phaseWord) (phaseFit (g .kind) x)
+    (cond (eqb k indexWord) (ltb x (g .width)) (cond (eqb k scanWord) (ltb x (g .width)) true))
 
 unfoldable pub workersFit : List ℕ → Settings → Bool
 workersFit ws g = allBelow (g .workers) (λ i. allBelow workerWords (λ k. wordFit g k (getD ws (workerAt g i + k) 0)))
 
+-- ---- the check
+-- a pool's settings where it is fit, or the refusal's number
+pub data Checked : Type 0 where
+  Unfit : ℕ → Checked
+  Fit : Settings → Checked
+
 -- 21 for the needed words, then the rest of fit for 23
 unfoldable pub bodyChecked : List ℕ → Settings → Checked
 bodyChecked ws g =
-    cond (ltb (length ws) (needed g)) (Unfit 21)
-    (cond (subsFit ws g) (cond (workersFit ws g) (Fit g) (Unfit 23)) (Unfit 23))
+    cond (ltb (length ws) (needed g)) (Unfit tooFewWords)
+    (cond (subsFit ws g) (cond (workersFit ws g) (Fit g) (Unfit notFit)) (Unfit notFit))
 
 -- 21 for 12 words, 23 for the settings and words 10, 11, then the above
 unfoldable pub checkedOf : List ℕ → Checked
-checkedOf ws = cond (ltb (length ws) headWords) (Unfit 21) (cond (headFit ws) (bodyChecked ws (settingsOf ws)) (Unfit 23))
+checkedOf ws = cond (ltb (length ws) headWords) (Unfit tooFewWords) (cond (headFit ws) (bodyChecked ws (settingsOf ws)) (Unfit notFit))
 
 -- the number of a refusal; 0 for a fit pool
 abbrev pub refusalOf : Checked → ℕ
 refusalOf (Unfit n) = n
 refusalOf (Fit g) = 0
 
+-- ---- what a test that passed has shown
 -- what a sub that fits has
 pub record SubFits (g : Settings) (first second : ℕ) : Type 0 where
   pub queue-order : g .kind ≡ 0 → second ≤ first
@@ -69,5 +80,5 @@ pub record FitPool (g : Settings) (ws : List ℕ) : Type 0 where
   pub enough : needed g ≤ length ws
   pub settings : settingsOf ws ≡ g
   pub sub : (j : ℕ) → j < g .width → SubFits g (firstOf ws j) (secondOf ws j)
-  pub index : (i : ℕ) → i < g .workers → getD ws (workerAt g i + 2) 0 < g .width
-  pub scan : (i : ℕ) → i < g .workers → getD ws (workerAt g i + 5) 0 < g .width
+  pub index : (i : ℕ) → i < g .workers → getD ws (indexAt (workerAt g i)) 0 < g .width
+  pub scan : (i : ℕ) → i < g .workers → getD ws (scanAt (workerAt g i)) 0 < g .width

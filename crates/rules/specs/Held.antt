@@ -2,11 +2,13 @@
 use Prim.Native.Nat.{ℕ, zero, suc, _+_, _*_, _-_}
 use mathlib.Core.List.{List, [], _∷_, _++_}
 use mathlib.Core.Bool.{Bool}
-use lib.ListN.{getD}
+use lib.ListN.{getD, length}
 use lib.Dec.{ltb, eqb}
 use Rattle.laws.specs.Choice.{cond}
-use Rattle.rules.specs.Layout.{cellAt, firstOf, secondOf}
+use Rattle.rules.specs.Layout.{cellWords, cellAt, stampAt, firstOf, secondOf}
+use Rattle.rules.specs.Fit.{Checked, Unfit, Fit, checkedOf}
 use Rattle.rules.specs.declared.Settings.{Settings}
+use Rattle.rules.specs.declared.Stamp.{Stamp}
 
 pub record Item : Type 0 where
   pub value : ℕ
@@ -14,7 +16,7 @@ pub record Item : Type 0 where
 
 -- the item in the cell of a row
 abbrev pub itemAt : List ℕ → Settings → ℕ → ℕ → Item
-itemAt ws g j row = record { value = getD ws (cellAt g j row) 0; stamp = getD ws (cellAt g j row + 1) 0 }
+itemAt ws g j row = record { value = getD ws (cellAt g j row) 0; stamp = getD ws (stampAt (cellAt g j row)) 0 }
 
 -- a sub's held rows are the `rowsHeld` ones above `rowsBelow`: in a queue those above the taken ones, in a stack all
 abbrev pub rowsBelow : Settings → ℕ → ℕ
@@ -39,6 +41,14 @@ heldBelow ws g (suc j) = heldBelow ws g j ++ heldSub ws g j
 abbrev pub heldItems : List ℕ → Settings → List Item
 heldItems ws g = heldBelow ws g (g .width)
 
+-- how many items a pool holds; words that are no fit pool hold none
+unfoldable pub heldBy : List ℕ → Checked → ℕ
+heldBy ws (Unfit n) = 0
+heldBy ws (Fit g) = length (heldItems ws g)
+
+unfoldable pub heldOf : List ℕ → ℕ
+heldOf ws = heldBy ws (checkedOf ws)
+
 -- how many items of a list pass a test
 unfoldable pub countItems : (Item → Bool) → List Item → ℕ
 countItems p [] = 0
@@ -48,10 +58,10 @@ countItems p (x ∷ xs) = cond (p x) 1 0 + countItems p xs
 abbrev pub passedOver : ℕ → ℕ → Item → Bool
 passedOver kind s x = cond (eqb kind 0) (ltb (x .stamp) s) (ltb s (x .stamp))
 
-unfoldable pub distanceOf : List ℕ → Settings → ℕ → ℕ
-distanceOf ws g s = countItems (passedOver (g .kind) s) (heldItems ws g)
+unfoldable pub distanceOf : List ℕ → Settings → Stamp → ℕ
+distanceOf ws g s = countItems (passedOver (g .kind) (s .0)) (heldItems ws g)
 
 -- the items in the k cells from word `at` on, one after the other
 unfoldable pub cellItems : List ℕ → ℕ → ℕ → List Item
 cellItems ws at zero = []
-cellItems ws at (suc k) = cellItems ws at k ++ (record { value = getD ws (at + 2 * k) 0; stamp = getD ws (at + 2 * k + 1) 0 } ∷ [])
+cellItems ws at (suc k) = cellItems ws at k ++ (record { value = getD ws (at + cellWords * k) 0; stamp = getD ws (stampAt (at + cellWords * k)) 0 } ∷ [])

@@ -1,68 +1,173 @@
--- "The pool's words": where each part lies. Nothing else knows a place.
+-- "The pool's words": where each word lies. Nothing else knows a place.
 use Prim.Native.Nat.{ℕ, _+_, _*_, _%_, _≤_}
 use mathlib.Core.List.{List}
 use lib.ListN.{getD, length}
 use Rattle.laws.specs.Wrap.{sub32}
+use Rattle.rules.specs.Limits.{widest, mostWorkers, mostCells}
 use Rattle.rules.specs.declared.Settings.{Settings}
 
--- words 6 to 9; word 8 is P or G, word 9 is T or G's version
+-- ---- the head
+-- words 0 to 5, the settings: kind, w, d, s, R, n
+abbrev pub kindAt : ℕ
+kindAt = 0
+
+abbrev pub widthAt : ℕ
+widthAt = 1
+
+abbrev pub depthAt : ℕ
+depthAt = 2
+
+abbrev pub shiftAt : ℕ
+shiftAt = 3
+
+abbrev pub rowsAt : ℕ
+rowsAt = 4
+
+abbrev pub workerCountAt : ℕ
+workerCountAt = 5
+
+-- steps counted, puts made
 abbrev pub stepsAt : ℕ
 stepsAt = 6
 
 abbrev pub putsAt : ℕ
 putsAt = 7
 
+-- P or G; T or G's version
 abbrev pub topAt : ℕ
 topAt = 8
 
 abbrev pub markAt : ℕ
 markAt = 9
 
--- the words before the subs
+-- "words 10 and 11 are zero"
+abbrev pub firstZeroAt : ℕ
+firstZeroAt = 10
+
+abbrev pub secondZeroAt : ℕ
+secondZeroAt = 11
+
 abbrev pub headWords : ℕ
 headWords = 12
-
-abbrev pub workerWords : ℕ
-workerWords = 8
-
--- two words per sub: items put and items taken, or items held and version
-abbrev pub subAt : ℕ → ℕ
-subAt j = headWords + 2 * j
-
-abbrev pub workersAt : Settings → ℕ
-workersAt g = headWords + 2 * g .width
-
-abbrev pub workerAt : Settings → ℕ → ℕ
-workerAt g i = workersAt g + workerWords * i
-
-abbrev pub cellsAt : Settings → ℕ
-cellsAt g = workersAt g + workerWords * g .workers
-
--- row r of sub j is cell j × R + (r - 1) mod R; two words each, value and stamp
-abbrev pub cellAt : Settings → ℕ → ℕ → ℕ
-cellAt g j row = cellsAt g + 2 * (j * g .rows + sub32 row 1 % g .rows)
-
-abbrev pub needed : Settings → ℕ
-needed g = cellsAt g + 2 * (g .width * g .rows)
 
 abbrev pub settingsOf : List ℕ → Settings
 settingsOf ws =
     record {
-      kind = getD ws 0 0;
-      width = getD ws 1 0;
-      depth = getD ws 2 0;
-      shift = getD ws 3 0;
-      rows = getD ws 4 0;
-      workers = getD ws 5 0;
+      kind = getD ws kindAt 0;
+      width = getD ws widthAt 0;
+      depth = getD ws depthAt 0;
+      shift = getD ws shiftAt 0;
+      rows = getD ws rowsAt 0;
+      workers = getD ws workerCountAt 0;
     }
 
+-- ---- the subs: items put and items taken, or items held and version
+abbrev pub subWords : ℕ
+subWords = 2
+
+abbrev pub subAt : ℕ → ℕ
+subAt j = headWords + subWords * j
+
+abbrev pub firstAt : ℕ → ℕ
+firstAt j = subAt j
+
+abbrev pub secondAt : ℕ → ℕ
+secondAt j = subAt j + 1
+
 abbrev pub firstOf : List ℕ → ℕ → ℕ
-firstOf ws j = getD ws (subAt j) 0
+firstOf ws j = getD ws (firstAt j) 0
 
 abbrev pub secondOf : List ℕ → ℕ → ℕ
-secondOf ws j = getD ws (subAt j + 1) 0
+secondOf ws j = getD ws (secondAt j) 0
 
--- the words are enough, and the eight of a worker start at `at`
+-- ---- the workers: phase, value, index, seen window, extra, scan, seen, sum
+abbrev pub workerWords : ℕ
+workerWords = 8
+
+abbrev pub workersAt : Settings → ℕ
+workersAt g = headWords + subWords * g .width
+
+abbrev pub workerAt : Settings → ℕ → ℕ
+workerAt g i = workersAt g + workerWords * i
+
+-- which of a worker's words is which; the fit check asks for three of them by number
+abbrev pub phaseWord : ℕ
+phaseWord = 0
+
+abbrev pub valueWord : ℕ
+valueWord = 1
+
+abbrev pub indexWord : ℕ
+indexWord = 2
+
+abbrev pub windowWord : ℕ
+windowWord = 3
+
+abbrev pub extraWord : ℕ
+extraWord = 4
+
+abbrev pub scanWord : ℕ
+scanWord = 5
+
+abbrev pub seenWord : ℕ
+seenWord = 6
+
+abbrev pub sumWord : ℕ
+sumWord = 7
+
+-- of the worker whose words start at `at`
+abbrev pub phaseAt : ℕ → ℕ
+phaseAt at = at
+
+abbrev pub valueAt : ℕ → ℕ
+valueAt at = at + valueWord
+
+abbrev pub indexAt : ℕ → ℕ
+indexAt at = at + indexWord
+
+abbrev pub windowAt : ℕ → ℕ
+windowAt at = at + windowWord
+
+abbrev pub extraAt : ℕ → ℕ
+extraAt at = at + extraWord
+
+abbrev pub scanAt : ℕ → ℕ
+scanAt at = at + scanWord
+
+abbrev pub seenAt : ℕ → ℕ
+seenAt at = at + seenWord
+
+abbrev pub sumAt : ℕ → ℕ
+sumAt at = at + sumWord
+
+-- ---- the cells: value, stamp
+abbrev pub cellWords : ℕ
+cellWords = 2
+
+abbrev pub cellsAt : Settings → ℕ
+cellsAt g = workersAt g + workerWords * g .workers
+
+-- row r of sub j is cell j × R + (r - 1) mod R
+abbrev pub cellAt : Settings → ℕ → ℕ → ℕ
+cellAt g j row = cellsAt g + cellWords * (j * g .rows + sub32 row 1 % g .rows)
+
+-- the first cell of sub j
+abbrev pub subCellsAt : Settings → ℕ → ℕ
+subCellsAt g j = cellsAt g + cellWords * (j * g .rows)
+
+-- of the cell at a place; its value is its first word
+abbrev pub stampAt : ℕ → ℕ
+stampAt cell = cell + 1
+
+-- ---- how many words
+abbrev pub needed : Settings → ℕ
+needed g = cellsAt g + cellWords * (g .width * g .rows)
+
+-- enough for every pool
+abbrev pub mostWords : ℕ
+mostWords = headWords + subWords * widest + workerWords * mostWorkers + cellWords * mostCells
+
+-- the words are enough, and those of a worker start at `at`
 pub record Lent (g : Settings) (ws : List ℕ) (at : ℕ) : Type 0 where
   pub enough : needed g ≤ length ws
   pub low : workersAt g ≤ at

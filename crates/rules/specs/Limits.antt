@@ -6,15 +6,31 @@ use lib.Dec.{leb, eqb}
 use Rattle.laws.specs.Choice.{cond, both, all}
 use Rattle.rules.specs.declared.Settings.{Settings}
 
+abbrev pub widest : ℕ
+widest = 16
+
+abbrev pub deepest : ℕ
+deepest = 64
+
+abbrev pub mostRows : ℕ
+mostRows = 1024
+
+abbrev pub mostWorkers : ℕ
+mostWorkers = 32
+
+abbrev pub mostCells : ℕ
+mostCells = 4096
+
+-- kind 0 or 1, w 1 to 16, d 1 to 64, s 1 to d, R from 2 × d to 1,024, n 1 to 32, w × R at most 4,096
 abbrev pub limits : Settings → List Bool
 limits g =
     leb (g .kind) 1 ∷
-    leb 1 (g .width) ∷ leb (g .width) 16 ∷
-    leb 1 (g .depth) ∷ leb (g .depth) 64 ∷
+    leb 1 (g .width) ∷ leb (g .width) widest ∷
+    leb 1 (g .depth) ∷ leb (g .depth) deepest ∷
     leb 1 (g .shift) ∷ leb (g .shift) (g .depth) ∷
-    leb (2 * g .depth) (g .rows) ∷ leb (g .rows) 1024 ∷
-    leb 1 (g .workers) ∷ leb (g .workers) 32 ∷
-    leb (g .width * g .rows) 4096 ∷ []
+    leb (2 * g .depth) (g .rows) ∷ leb (g .rows) mostRows ∷
+    leb 1 (g .workers) ∷ leb (g .workers) mostWorkers ∷
+    leb (g .width * g .rows) mostCells ∷ []
 
 -- a queue has s = d, and R is a multiple of d
 abbrev pub queueLimits : Settings → List Bool
@@ -31,13 +47,13 @@ stepLimit = 4000000000
 pub record Bounds (g : Settings) : Type 0 where
   pub kind1 : g .kind ≤ 1
   pub width1 : 1 ≤ g .width
-  pub width16 : g .width ≤ 16
+  pub width16 : g .width ≤ widest
   pub depth1 : 1 ≤ g .depth
-  pub depth64 : g .depth ≤ 64
+  pub depth64 : g .depth ≤ deepest
   pub shift1 : 1 ≤ g .shift
   pub shift-depth : g .shift ≤ g .depth
   pub rows2 : 2 * g .depth ≤ g .rows
-  pub rows1024 : g .rows ≤ 1024
+  pub rows1024 : g .rows ≤ mostRows
   pub workers1 : 1 ≤ g .workers
-  pub workers32 : g .workers ≤ 32
-  pub cells : g .width * g .rows ≤ 4096
+  pub workers32 : g .workers ≤ mostWorkers
+  pub cells : g .width * g .rows ≤ mostCells

@@ -1,15 +1,20 @@
 -- "Make": P = T = d, or G = d; worker i has index i mod w; all other needed words but the settings are zero.
-use Prim.Native.Nat.{ℕ, zero, suc, _+_, _%_}
+use Prim.Native.Nat.{ℕ, zero, suc, _%_}
 use mathlib.Core.List.{List, [], _∷_}
 use lib.ListN.{set, length}
 use lib.Seq.{sets}
 use lib.Dec.{ltb, eqb}
 use Rattle.laws.specs.Choice.{cond}
-use Rattle.rules.specs.Answers.{Out, out, refuse}
-use Rattle.rules.specs.Layout.{workerAt, needed}
+use Rattle.rules.specs.Answers.{Out, out, refuse, tooFewWords, offLimits}
+use Rattle.rules.specs.Layout.{workerAt, indexAt, needed}
 use Rattle.rules.specs.Limits.{settingsFit}
 use Rattle.rules.specs.declared.Settings.{Settings}
 use Rattle.rules.specs.declared.Answer.the-variants.{Moving}
+
+-- the settings that a call of make names, in its order
+abbrev pub settingsFrom : ℕ → ℕ → ℕ → ℕ → ℕ → ℕ → Settings
+settingsFrom kind width depth shift rows workers =
+    record { kind = kind; width = width; depth = depth; shift = shift; rows = rows; workers = workers }
 
 -- the first n words zero
 unfoldable pub zeroed : List ℕ → ℕ → List ℕ
@@ -20,7 +25,7 @@ zeroed ws (suc i) = set (zeroed ws i) i 0
 abbrev pub newMark : Settings → ℕ
 newMark g = cond (eqb (g .kind) 0) (g .depth) 0
 
--- words 0 to 9 of a new pool
+-- the first words of a new pool, in their order, up to T or the version
 abbrev pub newHead : Settings → List ℕ
 newHead g =
     g .kind ∷ g .width ∷ g .depth ∷ g .shift ∷ g .rows ∷ g .workers ∷ 0 ∷ 0 ∷ g .depth ∷ newMark g ∷ []
@@ -28,11 +33,11 @@ newHead g =
 -- each worker below n has its index
 unfoldable pub indexed : List ℕ → Settings → ℕ → List ℕ
 indexed ws g zero = ws
-indexed ws g (suc i) = set (indexed ws g i) (workerAt g i + 2) (i % g .width)
+indexed ws g (suc i) = set (indexed ws g i) (indexAt (workerAt g i)) (i % g .width)
 
 unfoldable pub madeWords : List ℕ → Settings → List ℕ
 madeWords ws g = indexed (sets (zeroed ws (needed g)) 0 (newHead g)) g (g .workers)
 
 -- 22, then 21
 unfoldable pub makeOf : List ℕ → Settings → Out
-makeOf ws g = cond (settingsFit g) (cond (ltb (length ws) (needed g)) (refuse 21 ws) (out Moving (madeWords ws g))) (refuse 22 ws)
+makeOf ws g = cond (settingsFit g) (cond (ltb (length ws) (needed g)) (refuse tooFewWords ws) (out Moving (madeWords ws g))) (refuse offLimits ws)

@@ -3,7 +3,7 @@ use Prim.Native.Nat.{ℕ, _≤_, _<_}
 use mathlib.Core.Path.{_≡_}
 use mathlib.Core.List.{List, [], _∷_}
 use lib.ListN.{getD}
-use Rattle.rules.specs.Answers.{Out, numberOf, fieldsOf}
+use Rattle.rules.specs.Answers.{Out, workerIdle, numberOf, fieldsOf}
 use Rattle.rules.specs.Begin.{beginPutOf, beginTakeOf}
 use Rattle.rules.specs.Step.{stepOf}
 use Rattle.rules.specs.Sequential.{Operation, putting, taking}
@@ -38,7 +38,7 @@ run ws (c ∷ cs) = record { call = c; answer = callOf ws c .answer } ∷ run (c
 
 -- the event at a position; past the end, a call that was refused
 abbrev pub nothing : Event
-nothing = record { call = step 0; answer = Refused 26 }
+nothing = record { call = step 0; answer = Refused workerIdle }
 
 abbrev pub at : List Event → ℕ → Event
 at es p = getD es p nothing

@@ -1,14 +1,13 @@
 -- "One step": which rule a phase takes, and the order of a step's refusals.
-use Prim.Native.Nat.{ℕ, _+_}
+use Prim.Native.Nat.{ℕ}
 use mathlib.Core.List.{List}
 use lib.ListN.{getD}
-use lib.Dec.{leb, eqb}
+use lib.Dec.{leb}
 use Rattle.laws.specs.Choice.{cond}
-use Rattle.rules.specs.Answers.{Out, refuse}
-use Rattle.rules.specs.Layout.{workerAt}
-use Rattle.rules.specs.Worker.{phaseOf}
-use Rattle.rules.specs.Fit.{checkedOf}
-use Rattle.rules.specs.Begin.{stepsSpent}
+use Rattle.rules.specs.Answers.{Out, refuse, noSuchWorker, workerIdle, stepsSpent}
+use Rattle.rules.specs.Layout.{workerAt, indexAt}
+use Rattle.rules.specs.Fit.{Checked, Unfit, Fit, checkedOf}
+use Rattle.rules.specs.Begin.{idleAt, outOfSteps}
 use Rattle.rules.specs.Effects.{viewOf, refusedOf}
 use Rattle.rules.specs.Window.{windowRule}
 use Rattle.rules.specs.Read.{queuePutRead, queueTakeRead, stackRead}
@@ -22,11 +21,9 @@ use Rattle.rules.specs.declared.Phase.{Phase}
 use Rattle.rules.specs.declared.Phase.the-variants.{Idle, Window, QueuePutRead, QueueTakeRead, StackRead, Check, QueueCommit, StackCommit, QueueShift, StackShift, Confirm}
 use Rattle.rules.specs.declared.View.{View}
 use Rattle.rules.specs.declared.Effect.{Effect}
-use Rattle.rules.specs.declared.Checked.{Checked}
-use Rattle.rules.specs.declared.Checked.the-variants.{Unfit, Fit}
 
 unfoldable pub ruleBy : Settings → View → Phase → Effect
-ruleBy g v Idle = refusedOf v 26
+ruleBy g v Idle = refusedOf v workerIdle
 ruleBy g v (Window side) = windowRule g v side
 ruleBy g v (QueuePutRead window scan) = queuePutRead g v window scan
 ruleBy g v (QueueTakeRead window bare scan sum) = queueTakeRead g v window bare scan sum
@@ -39,18 +36,18 @@ ruleBy g v (StackShift side version scan sum) = stackShift g v side version scan
 ruleBy g v (Confirm side scan sum) = confirmRule g v side scan sum
 
 unfoldable pub ruleOf : Settings → View → Effect
-ruleOf g v = ruleBy g v (phaseOf (g .kind) (v .slot))
+ruleOf g v = ruleBy g v (v .worker .phase)
 
 -- 26, 27, then the rule, the commit's 23 among its effects
 unfoldable pub slotStep : List ℕ → Settings → ℕ → Out
 slotStep ws g at =
-    cond (eqb (getD ws at 0) 0) (refuse 26 ws)
-    (cond (stepsSpent ws) (refuse 27 ws)
-    (applyOf ws g at (getD ws (at + 2) 0) (ruleOf g (viewOf ws at))))
+    cond (idleAt ws at) (refuse workerIdle ws)
+    (cond (outOfSteps ws) (refuse stepsSpent ws)
+    (applyOf ws g at (getD ws (indexAt at) 0) (ruleOf g (viewOf ws g at))))
 
 -- 24 first
 unfoldable pub fitStep : List ℕ → Settings → ℕ → Out
-fitStep ws g i = cond (leb (g .workers) i) (refuse 24 ws) (slotStep ws g (workerAt g i))
+fitStep ws g i = cond (leb (g .workers) i) (refuse noSuchWorker ws) (slotStep ws g (workerAt g i))
 
 unfoldable pub checkedStep : List ℕ → Checked → ℕ → Out
 checkedStep ws (Unfit n) i = refuse n ws

@@ -1,4 +1,5 @@
-// The declared types of the pool. The rules over them are in specs/, in paper 01's order.
+// The declared types of the pool, and its numbers that have a meaning. The rules over them are in specs/, in paper 01's order.
+pub mod numbers;
 
 // A row of a sub, from 1.
 pub struct Row(pub u32);
@@ -91,7 +92,7 @@ pub struct Worker {
     pub phase: Phase,
 }
 
-// A worker's eight words as they lie; `number` is the phase's.
+// A worker's words as they lie; `number` is the phase's.
 pub struct Slot {
     pub number: u32,
     pub value: u32,
@@ -105,14 +106,32 @@ pub struct Slot {
 
 // What a step may read. `top` is word 8, a queue's put window or a stack's window; `mark` is word 9, a queue's take
 // window or the version of a stack's window. `first` and `second` are the two words of the sub at the worker's index:
-// items put and items taken, or items held and version.
+// items put and items taken, or items held and version. `worker` is what the worker's words hold; `kept` are those words
+// as they lie, for the ones that its next phase does not hold.
 pub struct View {
     pub top: u32,
     pub mark: u32,
     pub puts: u32,
     pub first: u32,
     pub second: u32,
-    pub slot: Slot,
+    pub worker: Worker,
+    pub kept: Slot,
+}
+
+// The shared words of a view, as a queue's rules read them.
+pub struct QueueView {
+    pub put_window: u32,
+    pub take_window: u32,
+    pub items_put: u32,
+    pub items_taken: u32,
+}
+
+// The shared words of a view, as a stack's rules read them.
+pub struct StackView {
+    pub window: u32,
+    pub version: Version,
+    pub items_held: u32,
+    pub sub_version: Version,
 }
 
 // How a step ends, and so which words it writes: the worker's and the step count, where the window moved its two words,
@@ -121,14 +140,13 @@ pub enum Outcome {
     Refused(u32),
     Moving,
     Shifted,
-    Landed,
-    Removed,
+    Landed { value: u32, row: Row, stamp: Stamp },
+    Removed { row: Row },
     Empty,
     Full,
 }
 
-// What a step does: all that it read, as it is afterwards. Where an item lands or is removed, `row` is its row; where
-// it lands, `value` is its value and `puts` its stamp.
+// What a step does: all that it read, as it is afterwards.
 pub struct Effect {
     pub outcome: Outcome,
     pub slot: Slot,
@@ -137,8 +155,6 @@ pub struct Effect {
     pub puts: u32,
     pub first: u32,
     pub second: u32,
-    pub row: Row,
-    pub value: u32,
 }
 
 // What a call answers. `Moving` is paper 01's 0: moving, made or begun.
@@ -160,12 +176,6 @@ pub enum Answer {
     Empty,
     Full,
     Refused(u32),
-}
-
-// A pool's settings where it is fit, or the refusal's number.
-pub enum Checked {
-    Unfit(u32),
-    Fit(Settings),
 }
 
 // Whose turn it is: the worker's number.

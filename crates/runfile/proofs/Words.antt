@@ -6,14 +6,14 @@ use mathlib.Core.Path.{_≡_, refl}
 use native.Mathlib.Numerals.{towards-suc}
 use native.Mathlib.Omega.{arith}
 use lib.ListN.{length, getD}
-use Rattle.runfile.specs.Words.{wordOf, readsOf, readAt}
+use Rattle.runfile.specs.Words.{wordBytes, wordOf, readsOf, readAt}
 use Rattle.runfile.specs.declared.word.Read.the-variants.{Word, Cut, End}
 
 -- the word of the four bytes from i
 abbrev pub wordFrom : List ℕ → ℕ → ℕ
 wordFrom bytes i = wordOf (getD bytes i 0) (getD bytes (i + 1) 0) (getD bytes (i + 2) 0) (getD bytes (i + 3) 0)
 
-pub whole-word : (bytes : List ℕ) (at : ℕ) → 4 * at + 4 ≤ length bytes → readAt bytes at ≡ Word (wordFrom bytes (4 * at))
+pub whole-word : (bytes : List ℕ) (at : ℕ) → wordBytes * at + wordBytes ≤ length bytes → readAt bytes at ≡ Word (wordFrom bytes (wordBytes * at))
 unfolding readAt readsOf
 whole-word [] at h = absurd (omega arith)
 whole-word (a ∷ []) at h = absurd (omega arith)
@@ -21,10 +21,10 @@ whole-word (a ∷ b ∷ []) at h = absurd (omega arith)
 whole-word (a ∷ b ∷ c ∷ []) at h = absurd (omega arith)
 whole-word (a ∷ b ∷ c ∷ d ∷ rest) zero h = refl
 whole-word (a ∷ b ∷ c ∷ d ∷ rest) (suc at) h =
-    let e : 4 * suc at ≡ suc (suc (suc (suc (4 * at)))) = omega arith in
+    let e : wordBytes * suc at ≡ suc (suc (suc (suc (wordBytes * at)))) = omega arith in
     simp (e, towards-suc) (simp towards-suc at (whole-word rest at (omega arith)))
 
-pub cut-word : (bytes : List ℕ) (at : ℕ) → 4 * at < length bytes → length bytes < 4 * at + 4 → readAt bytes at ≡ Cut
+pub cut-word : (bytes : List ℕ) (at : ℕ) → wordBytes * at < length bytes → length bytes < wordBytes * at + wordBytes → readAt bytes at ≡ Cut
 unfolding readAt readsOf
 cut-word [] at l h = absurd (omega arith)
 cut-word (a ∷ []) zero l h = refl
@@ -36,7 +36,7 @@ cut-word (a ∷ b ∷ c ∷ []) (suc at) l h = absurd (omega arith)
 cut-word (a ∷ b ∷ c ∷ d ∷ rest) zero l h = absurd (omega arith)
 cut-word (a ∷ b ∷ c ∷ d ∷ rest) (suc at) l h = cut-word rest at (omega arith) (omega arith)
 
-pub past-words : (bytes : List ℕ) (at : ℕ) → length bytes ≤ 4 * at → readAt bytes at ≡ End
+pub past-words : (bytes : List ℕ) (at : ℕ) → length bytes ≤ wordBytes * at → readAt bytes at ≡ End
 unfolding readAt readsOf
 past-words [] at h = refl
 past-words (a ∷ bytes) zero h = absurd (omega arith)

@@ -2,6 +2,7 @@
 -- Every good word is one item, so item k stands at word position k, and a fault at the position after the last item.
 use Prim.Native.Nat.{ℕ}
 use mathlib.Core.List.{List, [], _∷_}
+use Rattle.rules.specs.Answers.{fileCut, badWord}
 use Rattle.runfile.specs.Words.{readsOf}
 use Rattle.runfile.specs.Items.{itemOf}
 use Rattle.runfile.specs.declared.word.Read.{Read}
@@ -21,18 +22,21 @@ placeAfter (Step worker) = Later
 placeAfter End = Past
 placeAfter Bad = Past
 
--- the number of the fault where a reader yields no word: 28 for a file that ends, or ends in a word, before its end word;
--- after it none (0) for a file that ends, and 29 for bytes after the end
+abbrev pub noFault : ℕ
+noFault = 0
+
+-- the number of the fault where a reader yields no word: cut for a file that ends, or ends in a word, before its end word;
+-- after it none for a file that ends, and a bad word for bytes after the end
 abbrev pub faultOf : Place → Read → ℕ
-faultOf place (Word word) = 0
-faultOf First Cut = 28
-faultOf (Second opening) Cut = 28
-faultOf Later Cut = 28
-faultOf Past Cut = 29
-faultOf First NoMore = 28
-faultOf (Second opening) NoMore = 28
-faultOf Later NoMore = 28
-faultOf Past NoMore = 0
+faultOf place (Word word) = noFault
+faultOf First Cut = fileCut
+faultOf (Second opening) Cut = fileCut
+faultOf Later Cut = fileCut
+faultOf Past Cut = badWord
+faultOf First NoMore = fileCut
+faultOf (Second opening) NoMore = fileCut
+faultOf Later NoMore = fileCut
+faultOf Past NoMore = noFault
 
 pub record File : Type 0 where
   pub items : List Item
@@ -52,7 +56,7 @@ joins (BeginPut worker value) rest = goesOn (BeginPut worker value) rest
 joins (BeginTake worker) rest = goesOn (BeginTake worker) rest
 joins (Step worker) rest = goesOn (Step worker) rest
 joins End rest = goesOn End rest
-joins Bad rest = ends 29
+joins Bad rest = ends badWord
 
 -- what is left of a file says at a place
 unfoldable pub fileFrom : Place → List Read → File

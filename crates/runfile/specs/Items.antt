@@ -8,16 +8,67 @@ use Rattle.runfile.specs.declared.item.Place.the-variants.{First, Second
 use Rattle.runfile.specs.declared.item.Item.{Item}
 use Rattle.runfile.specs.declared.item.Item.the-variants.{Open, Make, BeginPut, BeginTake, Step, End, Bad}
 
--- the number in `count` bits of a word from bit `low`
-abbrev pub bits : ℕ → ℕ → ℕ → ℕ
-bits low count word = word / 2 ^ low % 2 ^ count
+-- ---- the kinds of words
+-- "Kind 1, first", "Kind 2, second"
+abbrev pub openKind : ℕ
+openKind = 1
 
+abbrev pub makeKind : ℕ
+makeKind = 2
+
+-- "Then kind 3 begin put, 4 begin take and 5 step, and 6 the end"
+abbrev pub beginPutKind : ℕ
+beginPutKind = 3
+
+abbrev pub beginTakeKind : ℕ
+beginTakeKind = 4
+
+abbrev pub stepKind : ℕ
+stepKind = 5
+
+abbrev pub endKind : ℕ
+endKind = 6
+
+-- ---- the bits where the fields of a word begin; a field ends where the next begins
+-- "the top four bits are the kind"
+abbrev pub kindBit : ℕ
+kindBit = 28
+
+-- the first word: "bits 0-4 w, 5-11 d, 12-18 s, 19 pile"
+abbrev pub depthBit : ℕ
+depthBit = 5
+
+abbrev pub shiftBit : ℕ
+shiftBit = 12
+
+abbrev pub stackBit : ℕ
+stackBit = 19
+
+abbrev pub firstSpareBit : ℕ
+firstSpareBit = 20
+
+-- the second: "bits 0-10 R, 11-16 n"
+abbrev pub workersBit : ℕ
+workersBit = 11
+
+abbrev pub secondSpareBit : ℕ
+secondSpareBit = 17
+
+-- the later ones: "bits 22-27 worker, 0-21 value"
+abbrev pub workerBit : ℕ
+workerBit = 22
+
+-- ---- what a word says
 abbrev pub kindOf : ℕ → ℕ
-kindOf word = word / 2 ^ 28
+kindOf word = word / 2 ^ kindBit
 
--- the item where the spare bits, `count` of them from bit `low`, are zero
+-- the number in the bits of a word from `low` to before `high`
+abbrev pub bits : ℕ → ℕ → ℕ → ℕ
+bits low high word = word % 2 ^ high / 2 ^ low
+
+-- the item where the spare bits, from `low` to before `high`, are zero
 abbrev pub spare : ℕ → ℕ → ℕ → Item → Item
-spare low count word item = cond (eqb (bits low count word) 0) item Bad
+spare low high word item = cond (eqb (bits low high word) 0) item Bad
 
 -- the item where the word is of this kind
 abbrev pub ofKind : ℕ → ℕ → Item → Item → Item
@@ -25,22 +76,39 @@ ofKind kind word item other = cond (eqb (kindOf word) kind) item other
 
 unfoldable pub firstOf : ℕ → Item
 firstOf word =
-    ofKind 1 word (spare 20 8 word
-    (Open record { kind = bits 19 1 word; width = bits 0 5 word; depth = bits 5 7 word; shift = bits 12 7 word }))
+    ofKind openKind word (spare firstSpareBit kindBit word
+    (Open
+    record {
+      kind = bits stackBit firstSpareBit word;
+      width = bits 0 depthBit word;
+      depth = bits depthBit shiftBit word;
+      shift = bits shiftBit stackBit word;
+    }))
     Bad
 
 unfoldable pub secondOf : Opening → ℕ → Item
 secondOf o word =
-    ofKind 2 word (spare 17 11 word
-    (Make record { kind = o .kind; width = o .width; depth = o .depth; shift = o .shift; rows = bits 0 11 word; workers = bits 11 6 word }))
+    ofKind makeKind word (spare secondSpareBit kindBit word
+    (Make
+    record {
+      kind = o .kind;
+      width = o .width;
+      depth = o .depth;
+      shift = o .shift;
+      rows = bits 0 workersBit word;
+      workers = bits workersBit secondSpareBit word;
+    }))
     Bad
+
+abbrev pub workerIn : ℕ → ℕ
+workerIn word = bits workerBit kindBit word
 
 unfoldable pub laterOf : ℕ → Item
 laterOf word =
-    ofKind 3 word (BeginPut (bits 22 6 word) (bits 0 22 word))
-    (ofKind 4 word (spare 0 22 word (BeginTake (bits 22 6 word)))
-    (ofKind 5 word (spare 0 22 word (Step (bits 22 6 word)))
-    (ofKind 6 word (spare 0 28 word End)
+    ofKind beginPutKind word (BeginPut (workerIn word) (bits 0 workerBit word))
+    (ofKind beginTakeKind word (spare 0 workerBit word (BeginTake (workerIn word)))
+    (ofKind stepKind word (spare 0 workerBit word (Step (workerIn word)))
+    (ofKind endKind word (spare 0 kindBit word End)
     Bad)))
 
 -- nothing may stand after the end word

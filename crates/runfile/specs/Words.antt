@@ -1,13 +1,21 @@
 -- The words of a run file's bytes: 32 bits each, low byte first.
-use Prim.Native.Nat.{ℕ, _+_, _*_}
+use Prim.Native.Nat.{ℕ, _+_, _*_, _^_}
 use mathlib.Core.List.{List, [], _∷_}
 use lib.ListN.{getD}
 use Rattle.runfile.specs.declared.word.Read.{Read}
 use Rattle.runfile.specs.declared.word.Read.the-variants.{Word, Cut, End}
 
--- the word of four bytes
+-- the bytes of a word
+abbrev pub wordBytes : ℕ
+wordBytes = 4
+
+-- the bits where a word's bytes begin
+abbrev pub byteBit : ℕ → ℕ
+byteBit k = 8 * k
+
+-- the word of its bytes
 abbrev pub wordOf : ℕ → ℕ → ℕ → ℕ → ℕ
-wordOf a b c d = a + 256 * b + 65536 * c + 16777216 * d
+wordOf a b c d = a + 2 ^ byteBit 1 * b + 2 ^ byteBit 2 * c + 2 ^ byteBit 3 * d
 
 -- what a reader finds, word after word: the whole words, and a cut one where one to three bytes are left
 unfoldable pub readsOf : List ℕ → List Read

@@ -1,34 +1,47 @@
 // What a word of a run file says at its place.
 use crate::word::Read;
 use rules::Settings;
+use rules::numbers::BAD_WORD;
+use rules::numbers::FILE_CUT;
 ghost use mathlib.Core.Path.{_≡_};
 ghost use Rattle.runfile.specs.Items.{firstOf, secondOf, laterOf, itemOf};
 ghost use Rattle.runfile.specs.File.{faultOf};
 
-// Bit k as a number: dividing by it drops the k bits below, and the remainder keeps them.
-const BIT_1: u32 = 1 << 1;
+// The kinds of words, in the top four bits.
+const OPEN: u32 = 1;
 
-const BIT_5: u32 = 1 << 5;
+const MAKE: u32 = 2;
 
-const BIT_6: u32 = 1 << 6;
+const BEGIN_PUT: u32 = 3;
 
-const BIT_7: u32 = 1 << 7;
+const BEGIN_TAKE: u32 = 4;
 
-const BIT_8: u32 = 1 << 8;
+const STEP: u32 = 5;
 
-const BIT_11: u32 = 1 << 11;
+const END: u32 = 6;
 
-const BIT_12: u32 = 1 << 12;
+// The bits where the fields of a word begin: the remainder by one drops it and the bits above, the quotient the bits below.
+const KIND_BIT: u32 = 1 << 28;
 
-const BIT_17: u32 = 1 << 17;
+// Of the first word, after the width from bit 0.
+const DEPTH_BIT: u32 = 1 << 5;
 
-const BIT_19: u32 = 1 << 19;
+const SHIFT_BIT: u32 = 1 << 12;
 
-const BIT_20: u32 = 1 << 20;
+const STACK_BIT: u32 = 1 << 19;
 
-const BIT_22: u32 = 1 << 22;
+const FIRST_SPARE_BIT: u32 = 1 << 20;
 
-const BIT_28: u32 = 1 << 28;
+// Of the second word, after the rows.
+const WORKERS_BIT: u32 = 1 << 11;
+
+const SECOND_SPARE_BIT: u32 = 1 << 17;
+
+// Of a later word, after the value.
+const WORKER_BIT: u32 = 1 << 22;
+
+// No fault.
+pub const NO_FAULT: u32 = 0;
 
 // The settings that the first word holds; kind 1 is a stack (paper 01's pile).
 pub struct Opening {
@@ -47,7 +60,7 @@ pub enum Place {
     Past,
 }
 
-// What a word says. `Bad` is paper 01's 29: a kind out of place, a nonzero spare bit, bytes after the end.
+// What a word says. `Bad` is the refusal `BAD_WORD`: a kind out of place, a nonzero spare bit, bytes after the end.
 pub enum Item {
     Open(Opening),
     Make(Settings),
@@ -58,32 +71,32 @@ pub enum Item {
     Bad,
 }
 
-// The first word, kind 1: bits 0-4 width, 5-11 depth, 12-18 shift, 19 a stack.
+// The first word.
 fn first(word: u32) -> Item
     ensures { λ r. ⌜ r ≡ firstOf word ⌝ }
 {
-    if word / BIT_28 != 1 {
+    if word / KIND_BIT != OPEN {
         return Item::Bad;
     }
-    if word / BIT_20 % BIT_8 != 0 {
+    if word % KIND_BIT / FIRST_SPARE_BIT != 0 {
         return Item::Bad;
     }
     Item::Open(Opening {
-        kind: word / BIT_19 % BIT_1,
-        width: word % BIT_5,
-        depth: word / BIT_5 % BIT_7,
-        shift: word / BIT_12 % BIT_7,
+        kind: word % FIRST_SPARE_BIT / STACK_BIT,
+        width: word % DEPTH_BIT,
+        depth: word % SHIFT_BIT / DEPTH_BIT,
+        shift: word % STACK_BIT / SHIFT_BIT,
     })
 }
 
-// The second word, kind 2: bits 0-10 rows, 11-16 workers.
+// The second word.
 fn second(opening: Opening, word: u32) -> Item
     ensures { λ r. ⌜ r ≡ secondOf opening word ⌝ }
 {
-    if word / BIT_28 != 2 {
+    if word / KIND_BIT != MAKE {
         return Item::Bad;
     }
-    if word / BIT_17 % BIT_11 != 0 {
+    if word % KIND_BIT / SECOND_SPARE_BIT != 0 {
         return Item::Bad;
     }
     Item::Make(Settings {
@@ -91,35 +104,35 @@ fn second(opening: Opening, word: u32) -> Item
         width: opening.width,
         depth: opening.depth,
         shift: opening.shift,
-        rows: word % BIT_11,
-        workers: word / BIT_11 % BIT_6,
+        rows: word % WORKERS_BIT,
+        workers: word % SECOND_SPARE_BIT / WORKERS_BIT,
     })
 }
 
-// A later word: kind 3 begin put, 4 begin take, 5 step, 6 the end; bits 22-27 worker, 0-21 value.
+// A later word. Only a begin put has a value, and the end word no worker either.
 fn later(word: u32) -> Item
     ensures { λ r. ⌜ r ≡ laterOf word ⌝ }
 {
-    let kind = word / BIT_28;
-    let worker = (word / BIT_22 % BIT_6) as u8;
-    let value = word % BIT_22;
-    if kind == 3 {
+    let kind = word / KIND_BIT;
+    let worker = (word % KIND_BIT / WORKER_BIT) as u8;
+    let value = word % WORKER_BIT;
+    if kind == BEGIN_PUT {
         return Item::BeginPut { worker, value };
     }
-    if kind == 4 {
+    if kind == BEGIN_TAKE {
         if value != 0 {
             return Item::Bad;
         }
         return Item::BeginTake { worker };
     }
-    if kind == 5 {
+    if kind == STEP {
         if value != 0 {
             return Item::Bad;
         }
         return Item::Step { worker };
     }
-    if kind == 6 {
-        if word % BIT_28 != 0 {
+    if kind == END {
+        if word % KIND_BIT != 0 {
             return Item::Bad;
         }
         return Item::End;
@@ -139,23 +152,23 @@ pub fn decode(place: Place, word: u32) -> Item
     }
 }
 
-// The fault where the reader yields no word: paper 01's 28 or 29, or 0 where the file ends after its end word.
+// The fault where the reader yields no word: none where the file ends after its end word.
 pub fn fault(place: Place, read: Read) -> u32
     ensures { λ r. ⌜ r ≡ faultOf place read ⌝ }
 {
     match read {
-        Read::Word(_) => 0,
+        Read::Word(_) => NO_FAULT,
         Read::Cut => match place {
-            Place::First => 28,
-            Place::Second(_) => 28,
-            Place::Later => 28,
-            Place::Past => 29,
+            Place::First => FILE_CUT,
+            Place::Second(_) => FILE_CUT,
+            Place::Later => FILE_CUT,
+            Place::Past => BAD_WORD,
         },
         Read::End => match place {
-            Place::First => 28,
-            Place::Second(_) => 28,
-            Place::Later => 28,
-            Place::Past => 0,
+            Place::First => FILE_CUT,
+            Place::Second(_) => FILE_CUT,
+            Place::Later => FILE_CUT,
+            Place::Past => NO_FAULT,
         },
     }
 }

@@ -12,7 +12,7 @@ use Rattle.laws.specs.Choice.{cond, allBelow, both-true, all, all-holds, Holds 
 use Rattle.rules.specs.Answers.{numberOf, out, refuse}
 use Rattle.rules.specs.Layout.{needed}
 use Rattle.rules.specs.Limits.{settingsFit}
-use Rattle.rules.specs.Worker.{slotAt, putSlot, queuePhase, stackPhase, phaseOf, decode, encode, encodePhase}
+use Rattle.rules.specs.Worker.{slotAt, putSlot, queuePhase, stackPhase, phaseOf, encode, encodePhase}
 use Rattle.rules.specs.Fit.{headFit, subFit, subsFit, phaseFit, wordFit, workersFit, bodyChecked, checkedOf}
 use Rattle.rules.specs.Make.{zeroed, indexed, madeWords, makeOf}
 use Rattle.rules.specs.Begin.{slotBegin, fitBegin, checkedBegin, beginOf}
@@ -100,7 +100,7 @@ stretch-unanswered s t =
 
 -- ---- the tables
 tables-pass : (every holds table ≡ true) × (every reaches extremes ≡ true) × (every reaches solos ≡ true) × (every unanswered stretches ≡ true)
-unfolding table extremes solos stretches mostPassed leastFull frameworkBound exactBound thesisBound k14Bound countedSteps eventsOf runOf linesOf makeNumber settingsFit run callOf cond allBelow slotAt putSlot queuePhase stackPhase phaseOf decode encode encodePhase headFit subFit subsFit phaseFit wordFit workersFit bodyChecked checkedOf zeroed indexed madeWords makeOf slotBegin fitBegin checkedBegin beginOf viewOf nextOf windowRule missOf queuePutRead queueTakeRead stackRead checkRule commitBy queueCommit stackCommit shiftBy queueShift stackShift confirmedOf confirmRule itemsAbove heldSub heldBelow countItems distanceOf putItem putSub putLanded putShifted putWorker takenOf applyBy applyOf ruleBy ruleOf slotStep fitStep checkedStep stepOf
+unfolding table extremes solos stretches mostPassed leastFull frameworkBound exactBound thesisBound k14Bound countedSteps eventsOf runOf linesOf makeNumber settingsFit run callOf cond allBelow slotAt putSlot queuePhase stackPhase phaseOf encode encodePhase headFit subFit subsFit phaseFit wordFit workersFit bodyChecked checkedOf zeroed indexed madeWords makeOf slotBegin fitBegin checkedBegin beginOf viewOf nextOf windowRule missOf queuePutRead queueTakeRead stackRead checkRule commitBy queueCommit stackCommit shiftBy queueShift stackShift confirmedOf confirmRule itemsAbove heldSub heldBelow countItems distanceOf putItem putSub putLanded putShifted putWorker takenOf applyBy applyOf ruleBy ruleOf slotStep fitStep checkedStep stepOf
 tables-pass = (refl, refl, refl, refl)
 
 pub runs-hold : AllHold table × All Reaches extremes × All Reaches solos × All Unanswered stretches

@@ -6,6 +6,7 @@ use Prim.Native.Nat.{ℕ, _*_, _<_}
 use native.Mathlib.Decide.{ℕ-discrete}
 use native.Mathlib.Nat.{le-refl}
 use native.Mathlib.Omega.{arith}
+use Rattle.rules.specs.Limits.{stepLimit}
 use Rattle.rules.specs.Answers.{numberOf}
 use Rattle.rules.specs.Worker.{phaseOf, fresh, zeroSlot}
 use Rattle.rules.specs.Step.{ruleOf}
@@ -75,10 +76,10 @@ module _ (g : Settings) (good : Good g) (kind : g .kind ≡ 0) (s : State) (q : 
   -- ---- a step
   module _ (i : ℕ) where
     abbrev o : Next State
-    o = applyIn g s i (ruleOf g (viewIn s i))
+    o = applyIn g s i (ruleOf g (viewIn g s i))
 
     put-other : (j : ℕ) → j ≢ i → putIn g (o .state) j ≡ putIn g s j
-    put-other j n = ap (slotPut g) (apply-other g s i (ruleOf g (viewIn s i)) j n)
+    put-other j n = ap (slotPut g) (apply-other g s i (ruleOf g (viewIn g s i)) j n)
 
     -- a busy worker's step
     busy-result : s .slot i .number ≢ 0 → QueueResult g (2 * g .width) s i (mostOwed g (2 * g .width)) o
@@ -89,7 +90,7 @@ module _ (g : Settings) (good : Good g) (kind : g .kind ≡ 0) (s : State) (q : 
         by (inr x) = queue-step g good kind (2 * g .width) (twice g good kind) s q common inv (λ l. inl (le-refl _)) i (mostOwed g (2 * g .width)) x
 
     -- is final, or answers 0 and is counted
-    pub busy-step : i < g .workers → s .slot i .number ≢ 0 → s .steps < 4000000000
+    pub busy-step : i < g .workers → s .slot i .number ≢ 0 → s .steps < stepLimit
         → Result g (queueLeft g (2 * g .width)) s i (mostOwed g (2 * g .width)) (nextIn g s (step i))
     unfolding nextIn
     busy-step l busy time = rw (able-does (record { worker = l; busy = busy; time = time }) (step-called g s i)) (result (busy-result busy))

@@ -91,10 +91,10 @@ module _ (g : Settings) (good : Good g) (kind : g .kind ≡ 0) (L : ℕ) (enough
   -- ---- a step
   module _ (i : ℕ) (l : i < g .workers) where
     abbrev o : Next State
-    o = applyIn g s i (ruleOf g (viewIn s i))
+    o = applyIn g s i (ruleOf g (viewIn g s i))
 
     slot-other : (j : ℕ) → j ≢ i → o .state .slot j ≡ s .slot j
-    slot-other j n = apply-other g s i (ruleOf g (viewIn s i)) j n
+    slot-other j n = apply-other g s i (ruleOf g (viewIn g s i)) j n
 
     abbrev after : ℕ → ℕ
     after = upd debt i (debt i - 1)
@@ -127,11 +127,11 @@ module _ (g : Settings) (good : Good g) (kind : g .kind ≡ 0) (L : ℕ) (enough
     by-result (moves x m) =
         pays (record { after = after; owed = each x m; less = less x m; idle = still-idle x m; paid = omega (arith, total x m, counted-le i (o .answer)) })
 
-  by-step : (i : ℕ) {o′ : Next State} → Called s (Steps g s i) (applyIn g s i (ruleOf g (viewIn s i))) o′ → Account g L s debt (step i) o′
+  by-step : (i : ℕ) {o′ : Next State} → Called s (Steps g s i) (applyIn g s i (ruleOf g (viewIn g s i))) o′ → Account g L s debt (step i) o′
   by-step i (refuses n l unable e) = rw e (unchanged (step i) (next (Refused n) s) refl (counted-none i (Refused n) (omega arith)))
   by-step i (does able e) = rw e (by (owed i (able .worker)))
     where
-      by : OwesIn g L s (debt i) i → Account g L s debt (step i) (applyIn g s i (ruleOf g (viewIn s i)))
+      by : OwesIn g L s (debt i) i → Account g L s debt (step i) (applyIn g s i (ruleOf g (viewIn g s i)))
       by (inl r) = absurd (not-idle g (good .bounds .kind1) (s .slot i) (common .slots i) (able .busy) (r .idle))
       by (inr x) = by-result i (able .worker) (queue-step g good kind L enough s q common inv ready i (debt i) x)
 

@@ -14,13 +14,12 @@ use Rattle.laws.specs.Choice.{cond}
 use Rattle.rules.specs.Answers.{numberOf}
 use Rattle.rules.specs.Layout.{stepsAt}
 use Rattle.rules.specs.Limits.{settingsFit, stepLimit}
-use Rattle.rules.specs.Fit.{checkedOf}
+use Rattle.rules.specs.Fit.{Fit, checkedOf}
 use Rattle.rules.specs.Step.{stepOf}
 use Rattle.rules.specs.Run.{Call, step, callOf, run, at, Final}
 use Rattle.rules.specs.Dispatch.{DispatchOut, Busy, workerAfter, turnFrom, endedBy, turnsOf, dispatchOf}
 use Rattle.stretch.specs.Stretch.{exactStretch, countedSteps, FinishesIn, DispatchFinishes, DispatchK7}
 use Rattle.stretch.proofs.Types.{Settings}
-use Rattle.rules.specs.declared.Checked.the-variants.{Fit}
 use Rattle.rules.specs.declared.Turn.the-variants.{Worker}
 use Rattle.rules.proofs.machine.Machine.{State, nextIn}
 use Rattle.rules.proofs.machine.Good.{Good, good}

@@ -4,7 +4,7 @@ use mathlib.Core.Path.{_≡_, sym, ap}
 use native.Mathlib.Omega.{arith}
 use lib.ListN.{length}
 use lib.Seq.{length-take-le}
-use Rattle.listing.specs.declared.stretch.Stretch.{Stretch}
+use Rattle.pieces.specs.declared.stretch.Stretch.{Stretch}
 use borrow.Author.Needs.{needs}
 use Rattle.lister_cases.proofs.show.Statement.{statement}
 use Rattle.lister_cases.proofs.show.Tie as tie

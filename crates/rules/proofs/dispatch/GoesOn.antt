@@ -12,14 +12,12 @@ use native.Mathlib.Omega.{arith}
 use lib.Dec.{leb}
 use borrow.Author.Tests.{le-leb}
 use Rattle.laws.specs.Choice.{cond, cases}
-use Rattle.rules.specs.Answers.{numberOf}
-use Rattle.rules.specs.Fit.{checkedOf}
+use Rattle.rules.specs.Answers.{numberOf, noSuchWorker}
+use Rattle.rules.specs.Fit.{Checked, Unfit, Fit, checkedOf}
 use Rattle.rules.specs.Step.{stepOf}
 use Rattle.rules.specs.Dispatch.{DispatchOut, dispatched, workerAfter, turnFrom, endedBy, turnsOf, fitDispatch, checkedDispatch, dispatchOf}
 use Rattle.rules.specs.DispatchSteps.{DispatchGoesOn}
 use Rattle.rules.proofs.Types.{Settings, Answer}
-use Rattle.rules.specs.declared.Checked.{Checked}
-use Rattle.rules.specs.declared.Checked.the-variants.{Unfit, Fit}
 use Rattle.rules.specs.declared.Turn.{Turn}
 use Rattle.rules.specs.declared.Turn.the-variants.{NoneBusy as Nobody, Worker}
 use Rattle.rules.specs.declared.Dispatched.{Dispatched}
@@ -114,7 +112,7 @@ module _ (ws : List ℕ) (i steps next : ℕ) (e : dispatchOf ws i steps .result
       by (Unfit n) fit u = absurd (not-refused n u)
       by (Fit g) fit u = elim (decLt i (g .workers)) [
         | yes l ↦ record { settings = g; fit = fit; among = l }
-        | no l ↦ absurd (not-refused 24 ((ap (λ (b : Bool). cond b (dispatched (Refused 24) ws) (turnsOf ws g i steps) .result) (sym (le-leb (g .workers) i (omega arith)))) ∙ u))
+        | no l ↦ absurd (not-refused noSuchWorker ((ap (λ (b : Bool). cond b (dispatched (Refused noSuchWorker) ws) (turnsOf ws g i steps) .result) (sym (le-leb (g .workers) i (omega arith)))) ∙ u))
       ]
 
 pub dispatch-goes-on : DispatchGoesOn

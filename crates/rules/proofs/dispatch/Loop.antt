@@ -9,13 +9,12 @@ use native.Mathlib.Omega.{arith}
 use lib.ListN.{getD}
 use borrow.Author.Tests.{le-leb, lt-leb}
 use Rattle.laws.specs.Choice.{cond}
-use Rattle.rules.specs.Answers.{Out, numberOf, fieldsOf, finalOf}
+use Rattle.rules.specs.Answers.{numberOf, fieldsOf, finalOf, Returned, returned, returnedOf}
 use Rattle.rules.specs.Layout.{settingsOf}
-use Rattle.rules.specs.Fit.{checkedOf}
+use Rattle.rules.specs.Fit.{Fit, checkedOf}
 use Rattle.rules.specs.Step.{fitStep}
 use Rattle.rules.specs.Dispatch.{dispatched, workerAfter, turnFrom, endedBy, endedOf, turnsOf}
 use Rattle.rules.specs.declared.Settings.{Settings}
-use Rattle.rules.specs.declared.Checked.the-variants.{Fit}
 use Rattle.rules.specs.declared.Answer.{Answer}
 use Rattle.rules.specs.declared.Answer.the-variants.{Moving, Put, Taken, Empty, Full, Refused}
 use Rattle.rules.specs.declared.Turn.the-variants.{Worker}
@@ -51,17 +50,17 @@ ended-same j a k n = elim (decLe (numberOf a) 4) [
   | no l ↦ rw (lt-leb (numberOf a) 4 (omega arith)) refl
 ]
 
--- ---- one turn: worker j's step, with its answer's number n and the words vs that it leaves
+-- ---- one turn: worker j's step, with its answer's number n and five fields, and the words vs that it leaves
 module _ (ws : List ℕ) (g : Settings) (fit : checkedOf ws ≡ Fit g) (i j k : ℕ) (some : 0 < k) (turn : turnFrom ws g i ≡ Worker j)
-    {n : ℕ} {vs : List ℕ} (number : n ≡ numberOf (fitStep ws (settingsOf ws) j .answer)) (words : vs ≡ fitStep ws (settingsOf ws) j .words) where
-  step-is : fitStep ws (settingsOf ws) j ≡ fitStep ws g j
-  step-is = ap (λ (h : Settings). fitStep ws h j) (fit-pool ws g fit .settings)
+    {n : ℕ} {vs five : List ℕ} (step : returned n vs five ≡ returnedOf (fitStep ws (settingsOf ws) j)) where
+  is : returned n vs five ≡ returnedOf (fitStep ws g j)
+  is = step ∙ ap (λ (h : Settings). returnedOf (fitStep ws h j)) (fit-pool ws g fit .settings)
 
   number-is : n ≡ numberOf (fitStep ws g j .answer)
-  number-is = number ∙ ap (λ (o : Out). numberOf (o .answer)) step-is
+  number-is = ap (λ (r : Returned). r .number) is
 
   words-is : vs ≡ fitStep ws g j .words
-  words-is = words ∙ ap (λ (o : Out). o .words) step-is
+  words-is = ap (λ (r : Returned). r .words) is
 
   pub stays-fit : n ≡ 0 → checkedOf vs ≡ Fit g
   stays-fit z = rw words-is (step-stays ws g fit j (sym number-is ∙ z) .fit)
@@ -69,9 +68,9 @@ module _ (ws : List ℕ) (g : Settings) (fit : checkedOf ws ≡ Fit g) (i j k : 
   pub turns-left : n ≡ 0 → turnsOf vs g (workerAfter g j) (k - 1) ≡ turnsOf ws g i k
   turns-left z = rw words-is (sym (turns-on ws g i j k some turn (fitStep ws g j) (fit-step ws g fit j) (sym number-is ∙ z)))
 
-  pub turns-over : n ≢ 0 → {five : List ℕ} → five ≡ fieldsOf (fitStep ws (settingsOf ws) j .answer) → dispatched (endedOf j n five) vs ≡ turnsOf ws g i k
-  turns-over m {five} fields =
-      let five-is : five ≡ fieldsOf (fitStep ws g j .answer) = fields ∙ ap (λ (o : Out). fieldsOf (o .answer)) step-is in
+  pub turns-over : n ≢ 0 → dispatched (endedOf j n five) vs ≡ turnsOf ws g i k
+  turns-over m =
+      let five-is : five ≡ fieldsOf (fitStep ws g j .answer) = ap (λ (r : Returned). r .fields) is in
       let not-zero : numberOf (fitStep ws g j .answer) ≢ 0 = λ z. m (number-is ∙ z) in
       rw (number-is, five-is, words-is)
       (ap (λ r. dispatched r (fitStep ws g j .words)) (ended-same j (fitStep ws g j .answer) (step-numbered ws g fit j) not-zero)

@@ -11,8 +11,8 @@ use borrow.Author.Tests.{leb-true, leb-false, eqb-true, eqb-false}
 use Rattle.laws.specs.Choice.{cases}
 use Rattle.rules.specs.Answers.{Out, numberOf}
 use Rattle.rules.specs.Layout.{workerAt}
-use Rattle.rules.specs.Fit.{checkedOf}
-use Rattle.rules.specs.Begin.{stepsSpent}
+use Rattle.rules.specs.Fit.{Checked, Unfit, Fit, checkedOf}
+use Rattle.rules.specs.Begin.{outOfSteps}
 use Rattle.rules.specs.Apply.{takenOf, applyBy, applyOf}
 use Rattle.rules.specs.Step.{slotStep, fitStep, checkedStep, stepOf}
 use Rattle.rules.specs.Run.{Call, step, callOf}
@@ -21,8 +21,6 @@ use Rattle.rules.specs.Dispatch.{DispatchOut, dispatched, workerAfter, t
 use Rattle.rules.specs.DispatchSteps.{Made, nobody, ran-out, refused, finished, moved, DispatchBySteps, call, dispatch, wordsAsked, end, called, dispatched-to, AskedByCalls}
 use Rattle.rules.proofs.Types.{Settings, Effect, Outcome}
 use Rattle.rules.specs.declared.Outcome.the-variants.{Refused as Stopped, Moving, Shifted, Landed, Removed, Empty, Full}
-use Rattle.rules.specs.declared.Checked.{Checked}
-use Rattle.rules.specs.declared.Checked.the-variants.{Unfit, Fit}
 use Rattle.rules.specs.declared.Turn.{Turn}
 use Rattle.rules.specs.declared.Turn.the-variants.{NoneBusy as Nobody, Worker}
 use Rattle.rules.specs.declared.Dispatched.{Dispatched}
@@ -38,8 +36,8 @@ module _ (ws : List ℕ) where
   applied-kept g at j e (Stopped n) l = refl
   applied-kept g at j e Moving l = absurd (omega arith)
   applied-kept g at j e Shifted l = absurd (omega arith)
-  applied-kept g at j e Landed l = absurd (omega arith)
-  applied-kept g at j e Removed l = absurd (omega arith)
+  applied-kept g at j e (Landed value row stamp) l = absurd (omega arith)
+  applied-kept g at j e (Removed row) l = absurd (omega arith)
   applied-kept g at j e Empty l = absurd (omega arith)
   applied-kept g at j e Full l = absurd (omega arith)
 
@@ -48,7 +46,7 @@ module _ (ws : List ℕ) where
   fit-kept g i =
       cases Kept (leb (g .workers) i) _ _ (λ a l. refl)
       (λ a. cases Kept (eqb (getD ws (workerAt g i) 0) 0) _ _ (λ b l. refl)
-      (λ b. cases Kept (stepsSpent ws) _ _ (λ c l. refl) (λ c. applied-kept g _ _ _ _)))
+      (λ b. cases Kept (outOfSteps ws) _ _ (λ c l. refl) (λ c. applied-kept g _ _ _ _)))
 
   pub refused-kept : (i : ℕ) → Kept (stepOf ws i)
   unfolding stepOf checkedStep

@@ -13,12 +13,11 @@ use borrow.Author.Tests.{lt-leb, eq-eqb, ne-eqb, eqb-true, eqb-false}
 use Rattle.laws.specs.Choice.{cond, cases}
 use Rattle.rules.specs.Answers.{Out, numberOf}
 use Rattle.rules.specs.Layout.{workerAt}
-use Rattle.rules.specs.Fit.{checkedOf}
+use Rattle.rules.specs.Fit.{Fit, checkedOf}
 use Rattle.rules.specs.Step.{fitStep, checkedStep, stepOf}
 use Rattle.rules.specs.Dispatch.{dispatched, workerAfter, busyFrom, turnFrom, endedBy, afterStep, turnsOf, fitDispatch, checkedDispatch, dispatchOf}
 use Rattle.rules.specs.DispatchSteps.{NamedFirst}
 use Rattle.rules.specs.declared.Settings.{Settings}
-use Rattle.rules.specs.declared.Checked.the-variants.{Fit}
 use Rattle.rules.specs.declared.Turn.{Turn}
 use Rattle.rules.specs.declared.Turn.the-variants.{NoneBusy as Nobody, Worker}
 use Rattle.rules.specs.declared.Dispatched.the-variants.{NoneBusy, RanOut}

@@ -8,13 +8,11 @@ use borrow.Author.Tests.{eqb-true}
 use Rattle.laws.specs.Choice.{cases}
 use Rattle.rules.specs.Answers.{numberOf}
 use Rattle.rules.specs.Layout.{needed, settingsOf}
-use Rattle.rules.specs.Fit.{checkedOf}
+use Rattle.rules.specs.Fit.{Checked, Unfit, Fit, checkedOf}
 use Rattle.rules.specs.Step.{stepOf}
 use Rattle.rules.specs.Dispatch.{DispatchOut, dispatched, workerAfter, turnFrom, afterStep, ifBusy, turnsOf, fitDispatch, checkedDispatch, dispatchOf}
 use Rattle.rules.specs.Untouched.{Beyond, DispatchKeeps}
 use Rattle.rules.specs.declared.Settings.{Settings}
-use Rattle.rules.specs.declared.Checked.{Checked}
-use Rattle.rules.specs.declared.Checked.the-variants.{Unfit, Fit}
 use Rattle.rules.specs.declared.Turn.{Turn}
 use Rattle.rules.specs.declared.Turn.the-variants.{NoneBusy as Nobody, Worker}
 use Rattle.rules.specs.declared.Dispatched.the-variants.{RanOut}

@@ -7,7 +7,9 @@ use native.Mathlib.Omega.{arith}
 use lib.Dec.{leb, eqb}
 use borrow.Author.Tests.{leb-true, leb-false, eqb-true, eqb-false}
 use Rattle.laws.specs.Choice.{cases}
-use Rattle.rules.specs.Worker.{fresh}
+use Rattle.rules.specs.Answers.{noSuchWorker, workerBusy, workerIdle, stepsSpent}
+use Rattle.rules.specs.Limits.{stepLimit}
+use Rattle.rules.specs.Worker.{fresh, idlePhase}
 use Rattle.rules.specs.Step.{ruleOf}
 use Rattle.rules.proofs.Types.{Settings, Side, Window}
 use Rattle.rules.specs.declared.Answer.the-variants.{Moving, Refused}
@@ -16,7 +18,7 @@ use Rattle.rules.proofs.machine.Machine.{State, next, subIn, viewIn, ap
 
 -- a call that may be made, with what is then made; or that is refused, and nothing changes
 pub data Called (s : State) (Able : Type 0) (made o : Next State) : Type 0 where
-  refuses : (n : ℕ) → 24 ≤ n → ¬ Able → o ≡ next (Refused n) s → Called s Able made o
+  refuses : (n : ℕ) → noSuchWorker ≤ n → ¬ Able → o ≡ next (Refused n) s → Called s Able made o
   does : Able → o ≡ made → Called s Able made o
 
 -- a call that is able to is made
@@ -33,32 +35,32 @@ module _ (g : Settings) (s : State) (i : ℕ) where
   pub record Steps : Type 0 where
     pub worker : i < g .workers
     pub busy : s .slot i .number ≢ 0
-    pub time : s .steps < 4000000000
+    pub time : s .steps < stepLimit
 
   pub record Begins : Type 0 where
     pub worker : i < g .workers
     pub idle : s .slot i .number ≡ 0
-    pub time : s .steps < 4000000000
+    pub time : s .steps < stepLimit
 
-  pub step-called : Called s Steps (applyIn g s i (ruleOf g (viewIn s i))) (stepIn g s i)
+  pub step-called : Called s Steps (applyIn g s i (ruleOf g (viewIn g s i))) (stepIn g s i)
   unfolding stepIn
   step-called =
-      cases Of (leb (g .workers) i) _ _ (λ a. refuses 24 (omega arith) (λ able. omega (arith, able .worker, leb-true (g .workers) i a)) refl)
-      (λ a. cases Of (eqb (s .slot i .number) 0) _ _ (λ b. refuses 26 (omega arith) (λ able. able .busy (eqb-true _ _ b)) refl)
-      (λ b. cases Of (leb 4000000000 (s .steps)) _ _ (λ c. refuses 27 (omega arith) (λ able. omega (arith, able .time, leb-true 4000000000 (s .steps) c)) refl)
+      cases Of (leb (g .workers) i) _ _ (λ a. refuses noSuchWorker (omega arith) (λ able. omega (arith, able .worker, leb-true (g .workers) i a)) refl)
+      (λ a. cases Of (eqb (s .slot i .number) idlePhase) _ _ (λ b. refuses workerIdle (omega arith) (λ able. able .busy (eqb-true _ _ b)) refl)
+      (λ b. cases Of (leb stepLimit (s .steps)) _ _ (λ c. refuses stepsSpent (omega arith) (λ able. omega (arith, able .time, leb-true stepLimit (s .steps) c)) refl)
       (λ c. does (record { worker = leb-false _ _ a; busy = eqb-false _ _ b; time = leb-false _ _ c }) refl)))
     where
       Of : Next State → Type 0
-      Of o = Called s Steps (applyIn g s i (ruleOf g (viewIn s i))) o
+      Of o = Called s Steps (applyIn g s i (ruleOf g (viewIn g s i))) o
 
   pub begin-called : (side : Side) (v : ℕ) → Called s Begins (next Moving (begun s i side v)) (beginIn g s i side v)
   unfolding beginIn
   begin-called side v =
-      cases Of (leb (g .workers) i) _ _ (λ a. refuses 24 (omega arith) (λ able. omega (arith, able .worker, leb-true (g .workers) i a)) refl)
-      (λ a. cases Of (eqb (s .slot i .number) 0) _ _
-      (λ b. cases Of (leb 4000000000 (s .steps)) _ _ (λ c. refuses 27 (omega arith) (λ able. omega (arith, able .time, leb-true 4000000000 (s .steps) c)) refl)
+      cases Of (leb (g .workers) i) _ _ (λ a. refuses noSuchWorker (omega arith) (λ able. omega (arith, able .worker, leb-true (g .workers) i a)) refl)
+      (λ a. cases Of (eqb (s .slot i .number) idlePhase) _ _
+      (λ b. cases Of (leb stepLimit (s .steps)) _ _ (λ c. refuses stepsSpent (omega arith) (λ able. omega (arith, able .time, leb-true stepLimit (s .steps) c)) refl)
       (λ c. does (record { worker = leb-false _ _ a; idle = eqb-true _ _ b; time = leb-false _ _ c }) refl))
-      (λ b. refuses 25 (omega arith) (λ able. eqb-false _ _ b (able .idle)) refl))
+      (λ b. refuses workerBusy (omega arith) (λ able. eqb-false _ _ b (able .idle)) refl))
     where
       Of : Next State → Type 0
       Of o = Called s Begins (next Moving (begun s i side v)) o

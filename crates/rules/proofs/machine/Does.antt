@@ -2,7 +2,7 @@
 -- a phase of its kind. By how it ends, a put adds the row above to its sub, where a cell is free, a take removes a held row, a shift
 -- moves the window, and each leaves the other shared words as they were; any other step leaves all of them. A refusal is a 23 or a
 -- 26. So every pool from make has `Common`.
-use mathlib.Core.Path.{_≡_, refl, sym, _∙_}
+use mathlib.Core.Path.{_≡_, refl, sym, subst, _∙_}
 use mathlib.Core.Logic.{_≢_, _⊎_, inl, inr}
 use mathlib.Core.Bool.{Bool, true}
 use Prim.Native.Nat.{ℕ, suc, _+_, _-_, _≤_, _<_}
@@ -13,7 +13,8 @@ use lib.Dec.{ltb, leb, eqb}
 use borrow.Author.Tests.{ltb-true, leb-false, eqb-true, eqb-false}
 use Rattle.laws.specs.Choice.{cond, cases}
 use Rattle.laws.specs.Wrap.{add32, sub32}
-use Rattle.rules.specs.Limits.{Bounds}
+use Rattle.rules.specs.Answers.{notFit, workerIdle}
+use Rattle.rules.specs.Limits.{Bounds, stepLimit}
 use Rattle.rules.specs.Fit.{phaseFit, SubFits}
 use Rattle.rules.specs.Held.{rowsBelow}
 use Rattle.rules.specs.Worker.{phaseOf, fresh, zeroSlot}
@@ -26,7 +27,7 @@ use Rattle.rules.specs.Shift.{shiftBy, shiftedOf, queueShift, stackShift
 use Rattle.rules.specs.Confirm.{counted, confirmRule, confirmedOf}
 use Rattle.rules.specs.Step.{ruleBy, ruleOf}
 use Rattle.rules.specs.Run.{Call, beginPut, beginTake, step}
-use Rattle.rules.proofs.Types.{Settings, Side, Putting, Taking, Phase, Idle, Window, QueuePutRead, QueueTakeRead, StackRead, Check, QueueCommit, StackCommit, QueueShift, StackShift, Confirm, Version, Slot, View, Effect, Outcome}
+use Rattle.rules.proofs.Types.{Settings, Side, Putting, Taking, Phase, Idle, Window, QueuePutRead, QueueTakeRead, StackRead, Check, QueueCommit, StackCommit, QueueShift, StackShift, Confirm, Version, Row, Slot, View, Effect, Outcome}
 use Rattle.rules.proofs.Cells.{queue-below, stack-below}
 use Rattle.rules.specs.declared.Outcome.the-variants.{Refused, Moving, Shifted, Landed, Removed, Empty, Full}
 use Rattle.rules.proofs.counts.Sums.{upd, upd-all}
@@ -57,33 +58,33 @@ pub same-keeps : (g : Settings) (v : View) (e : Effect) → SameItems v e → Ke
 same-keeps g v e h = record { below = rw (h .second) (le-refl _); first = rw (h .first) (le-refl _) }
 
 -- the row above is held as well
-pub record Lands (g : Settings) (v : View) (e : Effect) : Type 0 where
+pub record Lands (g : Settings) (v : View) (e : Effect) (r : Row) : Type 0 where
   pub window : SameWindow v e
   pub below : rowsBelow g (e .second) ≡ rowsBelow g (v .second)
   pub first : e .first ≡ suc (v .first)
-  pub row : e .row .0 ≡ suc (v .first)
+  pub row : r .0 ≡ suc (v .first)
   pub free : suc (v .first) ≤ rowsBelow g (v .second) + g .rows
 
 -- the removed row was held
-pub record Removes (g : Settings) (v : View) (e : Effect) : Type 0 where
+pub record Removes (g : Settings) (v : View) (e : Effect) (r : Row) : Type 0 where
   pub window : SameWindow v e
   pub puts : e .puts ≡ v .puts
   pub keeps : Keeps g v e
-  pub low : rowsBelow g (v .second) < e .row .0
-  pub high : e .row .0 ≤ v .first
+  pub low : rowsBelow g (v .second) < r .0
+  pub high : r .0 ≤ v .first
 
 -- a sub that is fit, and whose counts are so few that one more does not wrap
 pub record Counted (g : Settings) (v : View) : Type 0 where
   pub sub : SubFits g (v .first) (v .second)
-  pub first-few : v .first ≤ 4000000000
-  pub second-few : v .second ≤ 4000000000
+  pub first-few : v .first ≤ stepLimit
+  pub second-few : v .second ≤ stepLimit
 
 abbrev pub SharedAfter : Settings → View → Effect → Outcome → Type 0
-SharedAfter g v e (Refused n) = (n ≡ 23) ⊎ (n ≡ 26)
+SharedAfter g v e (Refused n) = (n ≡ notFit) ⊎ (n ≡ workerIdle)
 SharedAfter g v e Moving = SameItems v e × SameWindow v e
 SharedAfter g v e Shifted = SameItems v e
-SharedAfter g v e Landed = Counted g v → Lands g v e
-SharedAfter g v e Removed = Counted g v → Removes g v e
+SharedAfter g v e (Landed value row stamp) = Counted g v → Lands g v e row
+SharedAfter g v e (Removed row) = Counted g v → Removes g v e row
 SharedAfter g v e Empty = SameItems v e × SameWindow v e
 SharedAfter g v e Full = SameItems v e × SameWindow v e
 
@@ -92,8 +93,8 @@ abbrev pub BusyAfter : Slot → Outcome → Type 0
 BusyAfter x (Refused n) = Unit {0}
 BusyAfter x Moving = x .number ≢ 0
 BusyAfter x Shifted = x .number ≢ 0
-BusyAfter x Landed = Unit {0}
-BusyAfter x Removed = Unit {0}
+BusyAfter x (Landed value row stamp) = Unit {0}
+BusyAfter x (Removed row) = Unit {0}
 BusyAfter x Empty = Unit {0}
 BusyAfter x Full = Unit {0}
 
@@ -102,7 +103,7 @@ pub record Does (g : Settings) (v : View) (e : Effect) : Type 0 where
   pub shared : SharedAfter g v e (e .outcome)
   pub busy : BusyAfter (e .slot) (e .outcome)
 
-module _ (g : Settings) (b : Bounds g) (v : View) (fits : SlotFits g (v .slot)) where
+module _ (g : Settings) (b : Bounds g) (v : View) (at : v .worker .index < g .width) (fits : SlotFits g (v .kept)) where
   abbrev D : Effect → Type 0
   D e = Does g v e
 
@@ -113,13 +114,13 @@ module _ (g : Settings) (b : Bounds g) (v : View) (fits : SlotFits g (v .slot)) 
   -- ---- the ways in which a rule ends
   moved : (x : ℕ) (p : Phase) (o : Slot) → x < g .width → scanIn p (o .scan) < g .width → OfKind (g .kind) p → Working p → D (movedOf v x p o)
   moved x p o l m t w =
-      record { slot = encode-fits g (v .slot .value) x p o l m t; shared = still _ _; busy = encode-busy (v .slot .value) x p o w }
+      record { slot = encode-fits g (v .worker .value) x p o l m t; shared = still _ _; busy = encode-busy (v .worker .value) x p o w }
 
-  here : (p : Phase) (o : Slot) → scanIn p (o .scan) < g .width → OfKind (g .kind) p → Working p → D (movedOf v (v .slot .index) p o)
-  here p o m t w = moved (v .slot .index) p o (fits .index) m t w
+  here : (p : Phase) (o : Slot) → scanIn p (o .scan) < g .width → OfKind (g .kind) p → Working p → D (movedOf v (v .worker .index) p o)
+  here p o m t w = moved (v .worker .index) p o at m t w
 
-  on : nextOf g (v .slot .index) < g .width
-  on = next-lt g (v .slot .index) (b .width1)
+  on : nextOf g (v .worker .index) < g .width
+  on = next-lt g (v .worker .index) (b .width1)
 
   again : (x : ℕ) → x < g .width → (side : Side) (o : Slot) → o .scan < g .width → D (movedOf v x (Window side) o)
   again x l side o m = moved x (Window side) o l m ((λ k. tt), (λ n. tt)) tt
@@ -146,10 +147,10 @@ module _ (g : Settings) (b : Bounds g) (v : View) (fits : SlotFits g (v .slot)) 
   looks : (side : Side) → D (windowRule g v side)
   unfolding windowRule
   looks side =
-      cases (λ (p : Phase). D (movedOf v (v .slot .index) p zeroSlot)) (eqb (g .kind) 0) _ _
+      cases (λ (p : Phase). D (movedOf v (v .worker .index) p zeroSlot)) (eqb (g .kind) 0) _ _
       (λ e. queue side (λ n. n (eqb-true _ _ e))) (λ e. here _ _ (b .width1) ((λ k. absurd (eqb-false _ _ e k)), (λ n. tt)) tt)
     where
-      queue : (side : Side) → (g .kind ≢ 0 → ⊥) → D (movedOf v (v .slot .index) (queueSeen v side) zeroSlot)
+      queue : (side : Side) → (g .kind ≢ 0 → ⊥) → D (movedOf v (v .worker .index) (queueSeen v side) zeroSlot)
       queue Putting q = here _ _ (b .width1) ((λ k. tt), (λ n. absurd (q n))) tt
       queue Taking q = here _ _ (b .width1) ((λ k. tt), (λ n. absurd (q n))) tt
 
@@ -158,9 +159,9 @@ module _ (g : Settings) (b : Bounds g) (v : View) (fits : SlotFits g (v .slot)) 
   shift-by side same able top mark stuck d =
       cases D same _ _
       (λ e. cases D able _ _ (λ e.
-      let x = again _ (fits .index) side _ (fits .scan) in
+      let x = again _ at side _ (fits .scan) in
       record { slot = x .slot; shared = record { puts = refl; first = refl; second = refl }; busy = x .busy }) (λ e. d))
-      (λ e. again _ (fits .index) side _ (fits .scan))
+      (λ e. again _ at side _ (fits .scan))
 
   -- ---- commits
   commit-by : (side : Side) (matches able : Bool) (done : Effect) → SlotFits g (done .slot) → BusyAfter (done .slot) (done .outcome) → (able ≡ true → SharedAfter g v done (done .outcome))
@@ -172,7 +173,7 @@ module _ (g : Settings) (b : Bounds g) (v : View) (fits : SlotFits g (v .slot)) 
 
   queue-does : g .kind ≡ 0 → (side : Side) (seen : ℕ) → D (queueCommit g v side seen)
   unfolding queueCommit
-  queue-does k Putting seen = commit-by Putting _ _ _ (rested _ (fits .index)) tt (λ e c.
+  queue-does k Putting seen = commit-by Putting _ _ _ (rested _ at) tt (λ e c.
       let free : sub32 (v .first) (v .second) < g .rows = ltb-true _ _ e in
       record {
         window = record { top = refl; mark = refl };
@@ -181,7 +182,7 @@ module _ (g : Settings) (b : Bounds g) (v : View) (fits : SlotFits g (v .slot)) 
         row = add32-suc (v .first) (omega (arith, c .first-few));
         free = rw (queue-below g k (v .second)) (omega (arith, c .sub .queue-order k, sub32-is (v .first) (v .second) (c .sub .queue-order k) (omega (arith, c .first-few))));
       })
-  queue-does k Taking seen = commit-by Taking _ _ _ (rested _ (fits .index)) tt (λ e c.
+  queue-does k Taking seen = commit-by Taking _ _ _ (rested _ at) tt (λ e c.
       let more : add32 (v .second) 1 ≡ suc (v .second) = add32-suc (v .second) (omega (arith, c .second-few)) in
       let some : v .second < v .first = ltb-true _ _ e in
       record {
@@ -194,7 +195,7 @@ module _ (g : Settings) (b : Bounds g) (v : View) (fits : SlotFits g (v .slot)) 
 
   stack-does : g .kind ≡ 1 → (side : Side) (seen : Version) → D (stackCommit g v side seen)
   unfolding stackCommit
-  stack-does k Putting seen = commit-by Putting _ _ _ (rested _ (fits .index)) tt (λ e c.
+  stack-does k Putting seen = commit-by Putting _ _ _ (rested _ at) tt (λ e c.
       let free : v .first < g .rows = ltb-true _ _ e in
       record {
         window = record { top = refl; mark = refl };
@@ -203,7 +204,7 @@ module _ (g : Settings) (b : Bounds g) (v : View) (fits : SlotFits g (v .slot)) 
         row = add32-suc (v .first) (omega (arith, c .first-few));
         free = rw (stack-below g k (v .second)) (omega arith);
       })
-  stack-does k Taking seen = commit-by Taking _ _ _ (rested _ (fits .index)) tt (λ e c.
+  stack-does k Taking seen = commit-by Taking _ _ _ (rested _ at) tt (λ e c.
       let some : 0 < v .first = ltb-true _ _ e in
       let less : sub32 (v .first) 1 ≡ v .first - 1 = sub32-is (v .first) 1 some (omega (arith, c .first-few)) in
       record {
@@ -226,7 +227,7 @@ module _ (g : Settings) (b : Bounds g) (v : View) (fits : SlotFits g (v .slot)) 
   confirms Putting scan sum t = t
   confirms Taking scan sum t = t
 
-  rule-by-does : (p : Phase) → OfKind (g .kind) p → scanIn p (v .slot .scan) ≡ v .slot .scan → D (ruleBy g v p)
+  rule-by-does : (p : Phase) → OfKind (g .kind) p → scanIn p (v .kept .scan) ≡ v .kept .scan → D (ruleBy g v p)
   unfolding ruleBy queuePutRead queueTakeRead stackRead checkRule queueShift stackShift confirmRule confirmedOf
   rule-by-does Idle t s = record { slot = fits; shared = inr refl; busy = tt }
   rule-by-does (Window side) t s = looks side
@@ -240,27 +241,29 @@ module _ (g : Settings) (b : Bounds g) (v : View) (fits : SlotFits g (v .slot)) 
       cases D _ _ _ (λ e. here _ _ (rw s (fits .scan)) ((λ k. absurd (t .0 k)), (λ n. tt)) tt)
       (λ e. miss scan _ _ _ ((λ k. absurd (t .0 k)), (λ n. tt)) ((λ k. absurd (t .0 k)), (λ n. tt)) tt tt (λ l. l) (b .width1))
   rule-by-does (Check side version seen) t s =
-      cases D _ _ _ (λ e. here _ _ (fits .scan) ((λ k. absurd (t .0 k)), (λ n. tt)) tt) (λ e. again _ (fits .index) side _ (fits .scan))
+      cases D _ _ _ (λ e. here _ _ (fits .scan) ((λ k. absurd (t .0 k)), (λ n. tt)) tt) (λ e. again _ at side _ (fits .scan))
   rule-by-does (QueueCommit side seen) t s = queue-does (queue-kind (t .1)) side seen
   rule-by-does (StackCommit side seen) t s = stack-does (stack-kind (t .0)) side seen
-  rule-by-does (QueueShift Putting window) t s = shift-by Putting _ _ _ _ _ (finished Putting _ (fits .index))
-  rule-by-does (QueueShift Taking window) t s = shift-by Taking _ _ _ _ _ (finished Taking _ (fits .index))
+  rule-by-does (QueueShift Putting window) t s = shift-by Putting _ _ _ _ _ (finished Putting _ at)
+  rule-by-does (QueueShift Taking window) t s = shift-by Taking _ _ _ _ _ (finished Taking _ at)
   rule-by-does (StackShift Putting version scan sum) t s = shift-by Putting _ _ _ _ _ (here _ _ (rw s (fits .scan)) ((λ k. absurd (t .0 k)), (λ n. tt)) tt)
   rule-by-does (StackShift Taking version scan sum) t s = shift-by Taking _ _ _ _ _ (here _ _ (rw s (fits .scan)) ((λ k. absurd (t .0 k)), (λ n. tt)) tt)
   rule-by-does (Confirm side scan sum) t s =
       cases D _ _ _ (λ e. moved _ (Confirm side (add32 scan 1) _) _ on (ltb-true _ _ e) (confirms side scan sum t) tt)
       (λ e. cases D _ _ _ (λ e. finished side _ on) (λ e. again _ on side _ (b .width1)))
 
-  rule-does : D (ruleOf g v)
+  rule-does : v .worker .phase ≡ phaseOf (g .kind) (v .kept) → D (ruleOf g v)
   unfolding ruleOf
-  rule-does = let t = phase-from (g .kind) (v .slot) in rule-by-does (phaseOf (g .kind) (v .slot)) (t .0) (t .1)
+  rule-does e =
+      let t = phase-from (g .kind) (v .kept) in
+      subst (λ (p : Phase). D (ruleBy g v p)) (sym e) (rule-by-does (phaseOf (g .kind) (v .kept)) (t .0) (t .1))
 
 -- ---- each call
 module _ (g : Settings) (b : Bounds g) (s : State) (common : Common g s) where
-  pub rule-in : (i : ℕ) → Does g (viewIn s i) (ruleOf g (viewIn s i))
-  rule-in i = rule-does g b (viewIn s i) (common .slots i)
+  pub rule-in : (i : ℕ) → Does g (viewIn g s i) (ruleOf g (viewIn g s i))
+  rule-in i = rule-does g b (viewIn g s i) (common .slots i .index) (common .slots i) refl
 
-  pub counted-in : Counts g s → (i : ℕ) → Counted g (viewIn s i)
+  pub counted-in : Counts g s → (i : ℕ) → Counted g (viewIn g s i)
   counted-in counts i =
       let lj : subIn s i < g .width = common .slots i .index in
       record { sub = counts .sub _ lj; first-few = counts .first-few _ lj; second-few = counts .second-few _ lj }
@@ -271,21 +274,21 @@ module _ (g : Settings) (b : Bounds g) (s : State) (common : Common g s) where
   abbrev Kept : Next State → Type 0
   Kept o = Common g (o .state)
 
-  common-apply : (i : ℕ) → s .steps < 4000000000 → (e : Effect) → SlotFits g (e .slot) → (o : Outcome) → Kept (applyInBy g s i e o)
+  common-apply : (i : ℕ) → s .steps < stepLimit → (e : Effect) → SlotFits g (e .slot) → (o : Outcome) → Kept (applyInBy g s i e o)
   unfolding applyInBy
   common-apply i few e l (Refused n) = common
   common-apply i few e l Moving = record { slots = slots-upd i (e .slot) l; steps-few = few }
   common-apply i few e l Shifted = record { slots = slots-upd i (e .slot) l; steps-few = few }
-  common-apply i few e l Landed = record { slots = slots-upd i (e .slot) l; steps-few = few }
-  common-apply i few e l Removed = record { slots = slots-upd i (e .slot) l; steps-few = few }
+  common-apply i few e l (Landed value row stamp) = record { slots = slots-upd i (e .slot) l; steps-few = few }
+  common-apply i few e l (Removed row) = record { slots = slots-upd i (e .slot) l; steps-few = few }
   common-apply i few e l Empty = record { slots = slots-upd i (e .slot) l; steps-few = few }
   common-apply i few e l Full = record { slots = slots-upd i (e .slot) l; steps-few = few }
 
   common-step : (i : ℕ) → Kept (stepIn g s i)
   unfolding stepIn applyIn
   common-step i =
-      cases Kept _ _ _ (λ e. common) (λ e. cases Kept _ _ _ (λ e. common) (λ e. cases Kept (leb 4000000000 (s .steps)) _ _ (λ e. common)
-      (λ e. common-apply i (leb-false _ _ e) (ruleOf g (viewIn s i)) (rule-in i .slot) _)))
+      cases Kept _ _ _ (λ e. common) (λ e. cases Kept _ _ _ (λ e. common) (λ e. cases Kept (leb stepLimit (s .steps)) _ _ (λ e. common)
+      (λ e. common-apply i (leb-false _ _ e) (ruleOf g (viewIn g s i)) (rule-in i .slot) _)))
 
   common-begin : (i : ℕ) (side : Side) (v : ℕ) → Kept (beginIn g s i side v)
   unfolding beginIn

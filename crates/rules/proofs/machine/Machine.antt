@@ -7,13 +7,14 @@ use mathlib.Core.Bool.{Bool}
 use Prim.Native.Nat.{ℕ, suc, _-_, _%_}
 use lib.Dec.{leb, eqb}
 use Rattle.laws.specs.Choice.{cond}
+use Rattle.rules.specs.Answers.{noSuchWorker, workerBusy, workerIdle, stepsSpent}
+use Rattle.rules.specs.Limits.{stepLimit}
 use Rattle.rules.specs.Held.{Item, rowsBelow, passedOver}
 use Rattle.rules.specs.Make.{newMark}
-use Rattle.rules.specs.Worker.{fresh, phaseOf, encode}
+use Rattle.rules.specs.Worker.{fresh, idlePhase, phaseOf, decode, encode}
 use Rattle.rules.specs.Effects.{movedOf, finishedOf}
 use Rattle.rules.specs.Shift.{shiftedOf}
 use Rattle.rules.specs.Step.{ruleOf}
-use Rattle.rules.specs.Apply.{stampOf}
 use Rattle.rules.specs.Run.{Call, beginPut, beginTake, step}
 use Rattle.rules.proofs.Types.{Settings, Side, Putting, Taking, Phase, Idle, Window, Slot, View, Effect, Outcome, Answer}
 use Rattle.rules.specs.declared.Outcome.the-variants.{Refused as Stays, Moving as Moves, Shifted, Landed, Removed, Empty as NoItem, Full as NoRoom}
@@ -39,15 +40,16 @@ next a s = record { answer = a; state = s }
 abbrev pub subIn : State → ℕ → ℕ
 subIn s i = s .slot i .index
 
-abbrev pub viewIn : State → ℕ → View
-viewIn s i =
+abbrev pub viewIn : Settings → State → ℕ → View
+viewIn g s i =
     record {
       top = s .top;
       mark = s .mark;
       puts = s .puts;
       first = s .first (subIn s i);
       second = s .second (subIn s i);
-      slot = s .slot i;
+      worker = decode (g .kind) (s .slot i);
+      kept = s .slot i;
     }
 
 abbrev pub phaseIn : Settings → State → ℕ → Phase
@@ -101,10 +103,9 @@ unfoldable pub applyInBy : Settings → State → ℕ → Effect → Outcome →
 applyInBy g s i e (Stays n) = next (Refused n) s
 applyInBy g s i e Moves = next Moving (afterIn s i e)
 applyInBy g s i e Shifted = next Moving (afterIn s i e)
-applyInBy g s i e Landed =
-    next (Put (e .value) (subIn s i) (e .row) (stampOf e))
-    (afterIn (withItem s (subIn s i) (e .row .0) (record { value = e .value; stamp = e .puts })) i e)
-applyInBy g s i e Removed = next (takenIn g s (subIn s i) (e .row .0)) (afterIn s i e)
+applyInBy g s i e (Landed value row stamp) =
+    next (Put value (subIn s i) row stamp) (afterIn (withItem s (subIn s i) (row .0) (record { value = value; stamp = stamp .0 })) i e)
+applyInBy g s i e (Removed row) = next (takenIn g s (subIn s i) (row .0)) (afterIn s i e)
 applyInBy g s i e NoItem = next Empty (afterIn s i e)
 applyInBy g s i e NoRoom = next Full (afterIn s i e)
 
@@ -114,10 +115,10 @@ applyIn g s i e = applyInBy g s i e (e .outcome)
 -- ---- one call
 unfoldable pub stepIn : Settings → State → ℕ → Next State
 stepIn g s i =
-    cond (leb (g .workers) i) (next (Refused 24) s)
-    (cond (eqb (s .slot i .number) 0) (next (Refused 26) s)
-    (cond (leb 4000000000 (s .steps)) (next (Refused 27) s)
-    (applyIn g s i (ruleOf g (viewIn s i)))))
+    cond (leb (g .workers) i) (next (Refused noSuchWorker) s)
+    (cond (eqb (s .slot i .number) idlePhase) (next (Refused workerIdle) s)
+    (cond (leb stepLimit (s .steps)) (next (Refused stepsSpent) s)
+    (applyIn g s i (ruleOf g (viewIn g s i)))))
 
 -- worker i in another slot, with the steps counted and the window words given; nothing else changed
 abbrev pub slotIn : State → ℕ → ℕ → ℕ → ℕ → Slot → State
@@ -138,11 +139,11 @@ withSlot s i x = slotIn s i (s .steps) (s .top) (s .mark) x
 
 unfoldable pub beginIn : Settings → State → ℕ → Side → ℕ → Next State
 beginIn g s i side value =
-    cond (leb (g .workers) i) (next (Refused 24) s)
-    (cond (eqb (s .slot i .number) 0)
-    (cond (leb 4000000000 (s .steps)) (next (Refused 27) s)
+    cond (leb (g .workers) i) (next (Refused noSuchWorker) s)
+    (cond (eqb (s .slot i .number) idlePhase)
+    (cond (leb stepLimit (s .steps)) (next (Refused stepsSpent) s)
     (next Moving (withSlot s i (fresh value (subIn s i) (Window side)))))
-    (next (Refused 25) s))
+    (next (Refused workerBusy) s))
 
 unfoldable pub nextIn : Settings → State → Call → Next State
 nextIn g s (beginPut i v) = beginIn g s i Putting v
@@ -183,24 +184,24 @@ after-turned s i top mark x = rw (upd-self (s .first) (subIn s i), upd-self (s .
 
 module _ (g : Settings) (s : State) (i : ℕ) where
   pub apply-moved : (index : ℕ) (p : Phase) (kept : Slot)
-      → applyIn g s i (movedOf (viewIn s i) index p kept)
+      → applyIn g s i (movedOf (viewIn g s i) index p kept)
       ≡ next Moving (turnedIn s i (s .top) (s .mark) (encode (record { value = s .slot i .value; index = index; phase = p }) kept))
   unfolding applyIn applyInBy
   apply-moved index p kept = ap (next Moving) (after-turned s i (s .top) (s .mark) _)
 
   pub apply-shifted : (side : Side) (top mark : ℕ)
-      → applyIn g s i (shiftedOf (viewIn s i) side top mark)
+      → applyIn g s i (shiftedOf (viewIn g s i) side top mark)
       ≡ next Moving (turnedIn s i top mark (encode (record { value = s .slot i .value; index = subIn s i; phase = Window side }) (s .slot i)))
   unfolding applyIn applyInBy
   apply-shifted side top mark = ap (next Moving) (after-turned s i top mark _)
 
   pub apply-empty : (index : ℕ)
-      → applyIn g s i (finishedOf (viewIn s i) NoItem index) ≡ next Empty (turnedIn s i (s .top) (s .mark) (fresh 0 index Idle))
+      → applyIn g s i (finishedOf (viewIn g s i) NoItem index) ≡ next Empty (turnedIn s i (s .top) (s .mark) (fresh 0 index Idle))
   unfolding applyIn applyInBy
   apply-empty index = ap (next Empty) (after-turned s i (s .top) (s .mark) _)
 
   pub apply-full : (index : ℕ)
-      → applyIn g s i (finishedOf (viewIn s i) NoRoom index) ≡ next Full (turnedIn s i (s .top) (s .mark) (fresh 0 index Idle))
+      → applyIn g s i (finishedOf (viewIn g s i) NoRoom index) ≡ next Full (turnedIn s i (s .top) (s .mark) (fresh 0 index Idle))
   unfolding applyIn applyInBy
   apply-full index = ap (next Full) (after-turned s i (s .top) (s .mark) _)
 
@@ -210,8 +211,8 @@ module _ (g : Settings) (s : State) (i : ℕ) where
   apply-other-by e j n (Stays m) = refl
   apply-other-by e j n Moves = upd-other (s .slot) i (e .slot) j n
   apply-other-by e j n Shifted = upd-other (s .slot) i (e .slot) j n
-  apply-other-by e j n Landed = upd-other (s .slot) i (e .slot) j n
-  apply-other-by e j n Removed = upd-other (s .slot) i (e .slot) j n
+  apply-other-by e j n (Landed value row stamp) = upd-other (s .slot) i (e .slot) j n
+  apply-other-by e j n (Removed row) = upd-other (s .slot) i (e .slot) j n
   apply-other-by e j n NoItem = upd-other (s .slot) i (e .slot) j n
   apply-other-by e j n NoRoom = upd-other (s .slot) i (e .slot) j n
 

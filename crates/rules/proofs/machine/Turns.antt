@@ -8,7 +8,7 @@
 --   at-first       the invariant of a new pool
 --   begins         a begin keeps the invariant, and the other workers' links
 --   steps          the law of one step that is not refused before its rule: one of the cases of `Turn` (order/Law) for
---                  `applyIn g s i (ruleOf g (viewIn s i))`
+--                  `applyIn g s i (ruleOf g (viewIn g s i))`
 --   counts, holding, safe    what follows from the invariant for words and corollaries
 --
 -- What is given besides: `Common g s`, that each slot is fit (index and scan below the width, a phase's number of the kind)
@@ -29,7 +29,8 @@ use mathlib.Core.Logic.{_≢_}
 use mathlib.Core.Bool.{true}
 use Prim.Native.Nat.{ℕ, _+_, _*_, _^_, _≤_, _<_}
 use native.Mathlib.Omega.{arith}
-use Rattle.rules.specs.Answers.{numberOf}
+use Rattle.rules.specs.Limits.{stepLimit}
+use Rattle.rules.specs.Answers.{numberOf, notFit}
 use Rattle.rules.specs.Worker.{fresh, zeroSlot, phaseOf}
 use Rattle.rules.specs.Held.{passedOver}
 use Rattle.rules.specs.Fit.{phaseFit, SubFits}
@@ -54,14 +55,14 @@ pub record SlotFits (g : Settings) (o : Slot) : Type 0 where
 
 pub record Common (g : Settings) (s : State) : Type 0 where
   pub slots : (i : ℕ) → SlotFits g (s .slot i)
-  pub steps-few : s .steps ≤ 4000000000
+  pub steps-few : s .steps ≤ stepLimit
 
 -- ---- what a kind shows besides its law of a step
 -- the counts of each sub are fit and few
 pub record Counts (g : Settings) (s : State) : Type 0 where
   pub sub : (j : ℕ) → j < g .width → SubFits g (s .first j) (s .second j)
-  pub first-few : (j : ℕ) → j < g .width → s .first j ≤ 4000000000
-  pub second-few : (j : ℕ) → j < g .width → s .second j ≤ 4000000000
+  pub first-few : (j : ℕ) → j < g .width → s .first j ≤ stepLimit
+  pub second-few : (j : ℕ) → j < g .width → s .second j ≤ stepLimit
 
 -- the specification's list is what the subs hold, and its count the puts made
 pub record Holding (g : Settings) (s : State) (q : Contents) : Type 0 where
@@ -81,8 +82,8 @@ pub record Safe (g : Settings) (s : State) : Type 0 where
   pub mark : s .mark + g .depth < 2 ^ 32
   pub first : (j : ℕ) → j < g .width → s .first j + 1 < 2 ^ 32
   pub second : (j : ℕ) → j < g .width → s .second j + 1 < 2 ^ 32
-  pub rule : (i : ℕ) → NoWrap g (viewIn s i) (phaseIn g s i)
-  pub able : (i : ℕ) → numberOf (applyIn g s i (ruleOf g (viewIn s i)) .answer) ≢ 23
+  pub rule : (i : ℕ) → NoWrap g (viewIn g s i) (phaseIn g s i)
+  pub able : (i : ℕ) → numberOf (applyIn g s i (ruleOf g (viewIn g s i)) .answer) ≢ notFit
 
 -- ---- how far worker i's operation is
 abbrev pub statusIn : Settings → State → ℕ → Status
@@ -110,8 +111,8 @@ pub record Kind (g : Settings) : Type 1 where
       → (side : Side) (v : ℕ) → Inv (begun s i side v) q
   pub begins-kept : (s : State) (i : ℕ) (side : Side) (v : ℕ) (j : ℕ) → j ≢ i
       → (s₀ : State) (q₀ : Contents) → Snap s₀ q₀ j s → Snap s₀ q₀ j (begun s i side v)
-  pub steps : (s : State) (q : Contents) → Common g s → Inv s q → (i : ℕ) → i < g .workers → s .steps < 4000000000
-      → Turned g Inv Snap s q (step i) (applyIn g s i (ruleOf g (viewIn s i)))
+  pub steps : (s : State) (q : Contents) → Common g s → Inv s q → (i : ℕ) → i < g .workers → s .steps < stepLimit
+      → Turned g Inv Snap s q (step i) (applyIn g s i (ruleOf g (viewIn g s i)))
   pub counts : (s : State) (q : Contents) → Inv s q → Counts g s
   pub holding : (s : State) (q : Contents) → Inv s q → Holding g s q
   pub safe : (s : State) (q : Contents) → Common g s → Inv s q → Safe g s
@@ -124,7 +125,7 @@ module _ (g : Settings) (k : Kind g) where
   turn-step : (s : State) (q : Contents) → Common g s → k .Inv s q → (i : ℕ) → Call-turn s q (step i) (stepIn g s i)
   turn-step s q common inv i = by (step-called g s i)
     where
-      by : {o : Next State} → Called s (Steps g s i) (applyIn g s i (ruleOf g (viewIn s i))) o → Call-turn s q (step i) o
+      by : {o : Next State} → Called s (Steps g s i) (applyIn g s i (ruleOf g (viewIn g s i))) o → Call-turn s q (step i) o
       by (refuses n l unable e) = rw e (refused (omega arith) refl)
       by (does able e) = rw e (k .steps s q common inv i (able .worker) (able .time))
 

@@ -18,9 +18,9 @@ use Rattle.rules.proofs.progress.Clean.{Rest, rest-more, rest-end}
 
 -- `count` is what the sub has of what the pass summed up
 pub confirm-cases : (g : Settings) → Good g → (v : View) (P : Effect → Type 0) (side : Side) (scan sum count : ℕ) → counted g v ≡ count → scan < g .width
-    → (suc scan < g .width → P (movedOf v (nextOf g (v .slot .index)) (Confirm side (suc scan) (sub32 sum count)) (v .slot)))
-    → (suc scan ≡ g .width → P (finishedOf v (nothingFor side) (nextOf g (v .slot .index))))
-    → (suc scan ≡ g .width → sub32 sum count ≢ 0 → (kept : Slot) → P (movedOf v (nextOf g (v .slot .index)) (Window side) kept))
+    → (suc scan < g .width → P (movedOf v (nextOf g (v .worker .index)) (Confirm side (suc scan) (sub32 sum count)) (v .kept)))
+    → (suc scan ≡ g .width → P (finishedOf v (nothingFor side) (nextOf g (v .worker .index))))
+    → (suc scan ≡ g .width → sub32 sum count ≢ 0 → (kept : Slot) → P (movedOf v (nextOf g (v .worker .index)) (Window side) kept))
     → P (confirmRule g v side scan sum)
 unfolding confirmRule confirmedOf
 confirm-cases g good v P side scan sum count read l on nothing something =

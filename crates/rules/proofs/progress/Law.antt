@@ -30,7 +30,7 @@ pub record SoloLaw (g : Settings) (k : Kind g) (begun : Side → ℕ) : Type 1 w
   pub apart : (s : State) (j : ℕ) (x : Slot) (n index : ℕ) (p : Phase) → Left s n index p → Left (withSlot s j x) n index p
   pub begins : (s : State) (q : Contents) → k .Inv s q → (index : ℕ) (side : Side) → Left s (begun side) index (Window side)
   pub steps : (s : State) (q : Contents) → Common g s → k .Inv s q → (i n : ℕ) → Left s n (subIn s i) (phaseIn g s i)
-      → Result g Left s i n (applyIn g s i (ruleOf g (viewIn s i)))
+      → Result g Left s i n (applyIn g s i (ruleOf g (viewIn g s i)))
 
 -- ---- the queue: a take that starts where every sub is below the window has 2w left, its window, w reads and all confirms but the last
 abbrev pub queueBegun : Settings → Side → ℕ
@@ -63,7 +63,7 @@ stackBegun g side = due (g .width) (stackBase g) 2
 
 module _ (g : Settings) (good : Good g) (kind : g .kind ≡ 1) where
   stack-by : (s : State) (q : Contents) → Common g s → StackInv g s q → (i n : ℕ) (p : Phase) → phaseIn g s i ≡ p → stackLeft g s n (subIn s i) p
-      → Result g (stackLeft g) s i n (applyIn g s i (ruleBy g (viewIn s i) p))
+      → Result g (stackLeft g) s i n (applyIn g s i (ruleBy g (viewIn g s i) p))
   unfolding ruleBy
   stack-by s q common inv i n Idle now x = absurd x
   stack-by s q common inv i n (Window side) now x = window-step g good kind s q common inv i n side x

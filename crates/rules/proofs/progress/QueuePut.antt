@@ -11,7 +11,7 @@ use Rattle.rules.specs.Worker.{zeroSlot}
 use Rattle.rules.specs.Effects.{movedOf, nextOf, hopOf}
 use Rattle.rules.specs.Window.{windowRule}
 use Rattle.rules.specs.Read.{queuePutRead}
-use Rattle.rules.specs.Commit.{queueCommit, commitBy, landedOf}
+use Rattle.rules.specs.Commit.{queueCommit, commitBy, landedOf, rowAbove}
 use Rattle.rules.specs.Shift.{queueShift, shiftBy, shiftedOf}
 use Rattle.rules.specs.Sequential.{Contents}
 use Rattle.rules.proofs.Types.{Settings, Putting, Phase, Window, QueuePutRead, QueueCommit, QueueShift, Effect}
@@ -53,10 +53,10 @@ module _ (g : Settings) (good : Good g) (kind : g .kind ≡ 0) (L : ℕ) (s : St
   fresh-pass (PutWindow.any m) = PutRead.fresh refl (omega arith)
   fresh-pass (PutWindow.low l m) = PutRead.sure refl l (omega arith)
 
-  pub put-window : PutWindow g (s .top) put n → Steps (windowRule g (viewIn s i) Putting)
+  pub put-window : PutWindow g (s .top) put n → Steps (windowRule g (viewIn g s i) Putting)
   unfolding windowRule
   put-window left =
-      cases (λ (p : Phase). Steps (movedOf (viewIn s i) j p zeroSlot)) (eqb (g .kind) 0) _ _
+      cases (λ (p : Phase). Steps (movedOf (viewIn g s i) j p zeroSlot)) (eqb (g .kind) 0) _ _
       (λ e. queue-on g kind L s i n j (QueuePutRead (s .top) 0) tt zeroSlot (window-some left) (fresh-pass left))
       (λ e. absurd (eqb-false _ _ e kind))
 
@@ -84,14 +84,14 @@ module _ (g : Settings) (good : Good g) (kind : g .kind ≡ 0) (L : ℕ) (s : St
     to-shift last miss (PutRead.late l m) = PutShift.late l (omega arith)
     to-shift last miss (PutRead.sure e l m) = absurd (omega (arith, l j index))
 
-    pub put-read : PutRead g (s .top) put n window scan → Steps (queuePutRead g (viewIn s i) window scan)
+    pub put-read : PutRead g (s .top) put n window scan → Steps (queuePutRead g (viewIn g s i) window scan)
     unfolding queuePutRead
     put-read left =
         cases Steps (ltb (put j) window) _ _
         (λ t. queue-on g kind L s i n j (QueueCommit Putting (put j)) tt _ (read-some left) (PutCommit.live refl))
         (λ t.
         let miss : window ≤ put j = ltb-false _ _ t in
-        miss-cases g good (viewIn s i) Steps scan (QueuePutRead window) (QueueShift Putting window) _ scan-lt
+        miss-cases g good (viewIn g s i) Steps scan (QueuePutRead window) (QueueShift Putting window) _ scan-lt
         (λ l. queue-on g kind L s i n (nextOf g j) (QueuePutRead window (suc scan)) tt _ (read-some left) (again miss left))
         (λ e. queue-on g kind L s i n (nextOf g j) (QueueShift Putting window) tt _ (read-some left) (to-shift e miss left)))
 
@@ -112,15 +112,15 @@ module _ (g : Settings) (good : Good g) (kind : g .kind ≡ 0) (L : ℕ) (s : St
           inv .pool .windows .put-ge j index,
         )
 
-    lands : Steps (landedOf (viewIn s i) (add32 (put j) 1) (s .second j) (add32 (put j) 1))
+    lands : Steps (landedOf (viewIn g s i) (add32 (put j) 1) (s .second j) (rowAbove (put j)))
     unfolding applyIn applyInBy
     lands = ends (final-put _ _ _ _) (rests g kind L s i n (s .slot) j) (filled (j, index, fills))
 
-    lost : put j ≢ seen → PutCommit g (s .top) put n j seen → Steps (movedOf (viewIn s i) (hopOf g j) (Window Putting) (s .slot i))
+    lost : put j ≢ seen → PutCommit g (s .top) put n j seen → Steps (movedOf (viewIn g s i) (hopOf g j) (Window Putting) (s .slot i))
     lost other (PutCommit.live e) = absurd (other e)
     lost other (PutCommit.stale m) = queue-on g kind L s i n (hopOf g j) (Window Putting) tt _ (omega arith) (PutWindow.any (omega arith))
 
-    pub put-commit : PutCommit g (s .top) put n j seen → Steps (queueCommit g (viewIn s i) Putting seen)
+    pub put-commit : PutCommit g (s .top) put n j seen → Steps (queueCommit g (viewIn g s i) Putting seen)
     unfolding queueCommit commitBy
     put-commit left =
         cases Steps (eqb (put j) seen) _ _
@@ -149,14 +149,14 @@ module _ (g : Settings) (good : Good g) (kind : g .kind ≡ 0) (L : ℕ) (s : St
     shift-some (PutShift.fresh e m) = m
     shift-some (PutShift.late l m) = m
 
-    moved : s .top ≡ window → 3 ≤ n → Steps (shiftedOf (viewIn s i) Putting raised (s .mark))
+    moved : s .top ≡ window → 3 ≤ n → Steps (shiftedOf (viewIn g s i) Putting raised (s .mark))
     moved same many =
         moves (shifts-on g (queueLeft g L) s i n Putting raised (s .mark) (queue-phase g kind (worker (s .slot i .value) j (Window Putting)) tt (s .slot i))
         (omega arith) (PutWindow.low now-low (omega arith)))
         (up raised (written s i j (Window Putting) (s .slot i)) (ap (λ (o : Next State). o .state) (apply-shifted g s i Putting raised (s .mark)))
         (rw now refl) (not-low same) now-low)
 
-    restarts : s .top ≢ window → PutShift g (s .top) put n window → Steps (movedOf (viewIn s i) j (Window Putting) (s .slot i))
+    restarts : s .top ≢ window → PutShift g (s .top) put n window → Steps (movedOf (viewIn g s i) j (Window Putting) (s .slot i))
     restarts other (PutShift.stale m) = queue-on g kind L s i n j (Window Putting) tt _ (omega arith) (PutWindow.any (omega arith))
     restarts other (PutShift.fresh e m) = absurd (other (sym e))
     restarts other (PutShift.late l m) = queue-on g kind L s i n j (Window Putting) tt _ (omega arith) (PutWindow.low l (omega arith))
@@ -164,7 +164,7 @@ module _ (g : Settings) (good : Good g) (kind : g .kind ≡ 0) (L : ℕ) (s : St
     full : s .top ≡ window → s .top < put 0 + g .depth
     full same = omega (arith, reached 0 width1, good .bounds .depth1)
 
-    pub put-shift : PutShift g (s .top) put n window → Steps (queueShift g (viewIn s i) Putting window)
+    pub put-shift : PutShift g (s .top) put n window → Steps (queueShift g (viewIn g s i) Putting window)
     unfolding queueShift shiftBy
     put-shift left =
         cases Steps (eqb (s .top) window) _ _

@@ -17,7 +17,7 @@ use Rattle.rules.proofs.progress.QueueTakeEnd.{take-commit, take-shift,
 
 module _ (g : Settings) (good : Good g) (kind : g .kind ≡ 0) (L : ℕ) (enough : g .width < L) (s : State) (q : Contents) (common : Common g s) (inv : Inv g s q)
     (ready : s .mark < s .top → Ready g L (s .first) (s .second)) (i n : ℕ) where
-  by-phase : (p : Phase) → phaseIn g s i ≡ p → queueLeft g L s n (subIn s i) p → QueueResult g L s i n (applyIn g s i (ruleBy g (viewIn s i) p))
+  by-phase : (p : Phase) → phaseIn g s i ≡ p → queueLeft g L s n (subIn s i) p → QueueResult g L s i n (applyIn g s i (ruleBy g (viewIn g s i) p))
   unfolding ruleBy
   by-phase Idle now x = absurd x
   by-phase (Window Putting) now x = put-window g good kind L s q common inv i n x
@@ -35,6 +35,6 @@ module _ (g : Settings) (good : Good g) (kind : g .kind ≡ 0) (L : ℕ) (enough
   by-phase (Confirm Putting scan sum) now x = absurd x
   by-phase (Confirm Taking scan sum) now x = take-confirm g good kind L s q common inv i n scan sum now x
 
-  pub queue-step : queueLeft g L s n (subIn s i) (phaseIn g s i) → QueueResult g L s i n (applyIn g s i (ruleOf g (viewIn s i)))
+  pub queue-step : queueLeft g L s n (subIn s i) (phaseIn g s i) → QueueResult g L s i n (applyIn g s i (ruleOf g (viewIn g s i)))
   unfolding ruleOf
   queue-step x = by-phase (phaseIn g s i) refl x

@@ -9,7 +9,7 @@ use borrow.Author.Tests.{ltb-true, ltb-false, eqb-true, eqb-false}
 use Rattle.laws.specs.Choice.{cases}
 use Rattle.laws.specs.Wrap.{add32, sub32}
 use Rattle.rules.specs.Effects.{movedOf, nextOf, hopOf}
-use Rattle.rules.specs.Commit.{queueCommit, commitBy, removedOf}
+use Rattle.rules.specs.Commit.{queueCommit, commitBy, removedOf, rowAbove}
 use Rattle.rules.specs.Shift.{queueShift, shiftBy, shiftedOf}
 use Rattle.rules.specs.Confirm.{confirmRule}
 use Rattle.rules.specs.Sequential.{Contents}
@@ -50,15 +50,15 @@ module _ (g : Settings) (good : Good g) (kind : g .kind ≡ 0) (L : ℕ) (s : St
 
   -- ---- commit: a take whose sub is as it was seen takes its item; another starts again
   module _ (seen : ℕ) (now : phaseIn g s i ≡ QueueCommit Taking seen) where
-    removes : Steps (removedOf (viewIn s i) (put j) (add32 (taken j) 1) (add32 (taken j) 1))
+    removes : Steps (removedOf (viewIn g s i) (put j) (add32 (taken j) 1) (rowAbove (taken j)))
     unfolding applyIn applyInBy
     removes = ends (final-taken _ _ _ _ _) (rests g kind L s i n (s .slot) j) (took (rw now refl) refl refl (upd-self put j))
 
-    lost : taken j ≢ seen → TakeCommit g L (s .mark) put taken n j seen → Steps (movedOf (viewIn s i) (hopOf g j) (Window Taking) (s .slot i))
+    lost : taken j ≢ seen → TakeCommit g L (s .mark) put taken n j seen → Steps (movedOf (viewIn g s i) (hopOf g j) (Window Taking) (s .slot i))
     lost other (TakeCommit.live e) = absurd (other e)
     lost other (TakeCommit.stale m) = queue-on g kind L s i n (hopOf g j) (Window Taking) tt _ (omega arith) (TakeWindow.any (omega arith))
 
-    pub take-commit : TakeCommit g L (s .mark) put taken n j seen → Steps (queueCommit g (viewIn s i) Taking seen)
+    pub take-commit : TakeCommit g L (s .mark) put taken n j seen → Steps (queueCommit g (viewIn g s i) Taking seen)
     unfolding queueCommit commitBy
     take-commit left =
         let knows : TakeCommits s j seen = subst (Knows g s j) now (inv .knows i) in
@@ -87,7 +87,7 @@ module _ (g : Settings) (good : Good g) (kind : g .kind ≡ 0) (L : ℕ) (s : St
     shift-some (TakeShift.fresh e m) = m
     shift-some (TakeShift.late l r m) = m
 
-    moved : s .mark ≡ window → s .mark < s .top → L + 1 ≤ n → Steps (shiftedOf (viewIn s i) Taking (s .top) raised)
+    moved : s .mark ≡ window → s .mark < s .top → L + 1 ≤ n → Steps (shiftedOf (viewIn g s i) Taking (s .top) raised)
     moved same below many =
         let most : L ≤ n - 1 = omega arith in
         moves (shifts-on g (queueLeft g L) s i n Taking (s .top) raised (queue-phase g kind (worker (s .slot i .value) j (Window Taking)) tt (s .slot i))
@@ -95,14 +95,14 @@ module _ (g : Settings) (good : Good g) (kind : g .kind ≡ 0) (L : ℕ) (s : St
         (on raised (written s i j (Window Taking) (s .slot i)) (ap (λ (o : Next State). o .state) (apply-shifted g s i Taking (s .top) raised))
         below (not-low same) now-low)
 
-    restarts : s .mark ≢ window → TakeShift g L (s .mark) put taken n window → Steps (movedOf (viewIn s i) j (Window Taking) (s .slot i))
+    restarts : s .mark ≢ window → TakeShift g L (s .mark) put taken n window → Steps (movedOf (viewIn g s i) j (Window Taking) (s .slot i))
     restarts other (TakeShift.stale m) = queue-on g kind L s i n j (Window Taking) tt _ (omega arith) (TakeWindow.any (omega arith))
     restarts other (TakeShift.fresh e m) = absurd (other (sym e))
     restarts other (TakeShift.late l r m) =
         let most : L ≤ n - 1 = omega arith in
         queue-on g kind L s i n j (Window Taking) tt _ (omega arith) (starts-low g L (s .mark) put taken (n - 1) l r most)
 
-    pub take-shift : TakeShift g L (s .mark) put taken n window → Steps (queueShift g (viewIn s i) Taking window)
+    pub take-shift : TakeShift g L (s .mark) put taken n window → Steps (queueShift g (viewIn g s i) Taking window)
     unfolding queueShift shiftBy
     take-shift left =
         cases Steps (eqb (s .mark) window) _ _
@@ -122,20 +122,20 @@ module _ (g : Settings) (good : Good g) (kind : g .kind ≡ 0) (L : ℕ) (s : St
     abbrev Confirms : Type 0
     Confirms = TakeConfirm g L (s .mark) put taken n j scan sum
 
-    confirms-on : suc scan < g .width → Confirms → Steps (movedOf (viewIn s i) (nextOf g j) (Confirm Taking (suc scan) (sub32 sum (put j))) (s .slot i))
+    confirms-on : suc scan < g .width → Confirms → Steps (movedOf (viewIn g s i) (nextOf g j) (Confirm Taking (suc scan) (sub32 sum (put j))) (s .slot i))
     confirms-on l (TakeConfirm.stale m) =
         queue-on g kind L s i n (nextOf g j) (Confirm Taking (suc scan) (sub32 sum (put j))) tt _ (omega arith) (TakeConfirm.stale (omega arith))
     confirms-on l (TakeConfirm.clean a) =
         queue-on g kind L s i n (nextOf g j) (Confirm Taking (suc scan) (sub32 sum (put j))) tt _ (confirm-some a l)
         (TakeConfirm.clean (confirm-more g a few index scan-lt))
 
-    lost-confirm : suc scan ≡ g .width → sub32 sum (put j) ≢ 0 → Confirms → (kept : Slot) → Steps (movedOf (viewIn s i) (nextOf g j) (Window Taking) kept)
+    lost-confirm : suc scan ≡ g .width → sub32 sum (put j) ≢ 0 → Confirms → (kept : Slot) → Steps (movedOf (viewIn g s i) (nextOf g j) (Window Taking) kept)
     lost-confirm last z (TakeConfirm.stale m) kept = queue-on g kind L s i n (nextOf g j) (Window Taking) tt kept (omega arith) (TakeWindow.any (omega arith))
     lost-confirm last z (TakeConfirm.clean a) kept = absurd (z (confirm-ends g a few index scan-lt good last))
 
-    pub take-confirm : Confirms → Steps (confirmRule g (viewIn s i) Taking scan sum)
+    pub take-confirm : Confirms → Steps (confirmRule g (viewIn g s i) Taking scan sum)
     take-confirm left =
-        confirm-cases g good (viewIn s i) Steps Taking scan sum (put j) (counted-put g kind (viewIn s i)) scan-lt
+        confirm-cases g good (viewIn g s i) Steps Taking scan sum (put j) (counted-put g kind (viewIn g s i)) scan-lt
         (λ l. confirms-on l left)
         (λ e. queue-nothing g kind L s i n Taking (nextOf g j) (took (rw now refl) refl refl refl))
         (λ e z kept. lost-confirm e z left kept)

@@ -61,10 +61,10 @@ module _ (g : Settings) (good : Good g) (kind : g .kind ≡ 0) (L : ℕ) (enough
   fresh-pass (TakeWindow.confirms l m) = TakeRead.confirms (clean-start (g .width) put j) refl l (omega (arith, width1))
   fresh-pass (TakeWindow.hits l stock m) = TakeRead.hits refl l (stock .0) (stock .1) (stock .2) (λ v. visited-none (stock .1) v) (omega arith)
 
-  pub take-window : TakeWindow g L (s .mark) put taken n → Steps (windowRule g (viewIn s i) Taking)
+  pub take-window : TakeWindow g L (s .mark) put taken n → Steps (windowRule g (viewIn g s i) Taking)
   unfolding windowRule
   take-window left =
-      cases (λ (p : Phase). Steps (movedOf (viewIn s i) j p zeroSlot)) (eqb (g .kind) 0) _ _
+      cases (λ (p : Phase). Steps (movedOf (viewIn g s i) j p zeroSlot)) (eqb (g .kind) 0) _ _
       (λ e. queue-on g kind L s i n j (QueueTakeRead (s .mark) 0 0 0) tt zeroSlot (window-some left) (fresh-pass left))
       (λ e. absurd (eqb-false _ _ e kind))
 
@@ -145,15 +145,15 @@ module _ (g : Settings) (good : Good g) (kind : g .kind ≡ 0) (L : ℕ) (enough
 
     -- where no sub was bare, this one is spent
     missed : (bare′ : ℕ) → (window ≤ taken j) ⊎ (put j ≡ taken j) → (bare′ ≡ 0 → window ≤ taken j) → Reads
-        → Steps (queueTakeMiss g (viewIn s i) window bare′ scan (sum + put j))
+        → Steps (queueTakeMiss g (viewIn g s i) window bare′ scan (sum + put j))
     missed bare′ miss spent left =
-        miss-cases g good (viewIn s i) Steps scan (λ x. QueueTakeRead window bare′ x (sum + put j)) (afterTakes window bare′ (sum + put j)) _ scan-lt
+        miss-cases g good (viewIn g s i) Steps scan (λ x. QueueTakeRead window bare′ x (sum + put j)) (afterTakes window bare′ (sum + put j)) _ scan-lt
         (λ l. queue-on g kind L s i n (nextOf g j) (QueueTakeRead window bare′ (suc scan) (sum + put j)) tt _ (read-some left) (again miss left))
-        (λ e. cases (λ (p : Phase). Steps (movedOf (viewIn s i) (nextOf g j) p (withPass (s .slot i) bare′ 0 (sum + put j)))) (eqb bare′ 0) _ _
+        (λ e. cases (λ (p : Phase). Steps (movedOf (viewIn g s i) (nextOf g j) p (withPass (s .slot i) bare′ 0 (sum + put j)))) (eqb bare′ 0) _ _
         (λ z. queue-on g kind L s i n (nextOf g j) (QueueShift Taking window) tt _ (read-some left) (to-shift miss e (spent (eqb-true _ _ z)) left))
         (λ z. queue-on g kind L s i n (nextOf g j) (Confirm Taking 0 (sum + put j)) tt _ (read-some left) (to-confirm miss e left)))
 
-    pub take-read : Reads → Steps (queueTakeRead g (viewIn s i) window bare scan sum)
+    pub take-read : Reads → Steps (queueTakeRead g (viewIn g s i) window bare scan sum)
     unfolding queueTakeRead
     take-read left =
         rw (

@@ -10,7 +10,7 @@ use native.Mathlib.Omega.{arith}
 use lib.ListN.{getD}
 use Rattle.rules.specs.Answers.{numberOf}
 use Rattle.rules.specs.Layout.{stepsAt}
-use Rattle.rules.specs.Limits.{settingsFit}
+use Rattle.rules.specs.Limits.{settingsFit, stepLimit}
 use Rattle.rules.specs.Worker.{fresh, phaseOf}
 use Rattle.rules.specs.Sequential.{Contents}
 use Rattle.rules.specs.Run.{Call, beginPut, beginTake, step, callOf, Event, run, Final}
@@ -52,7 +52,7 @@ module _ (g : Settings) (k : Kind g) {most : Side → ℕ} (law : SoloLaw g k mo
     unchanged c o u e = passes u (ap (λ (t : State). t .steps) e) (subst (λ (t : State). LeftIn t n i) (sym e) left)
 
     -- its own step
-    own : i < g .workers → s .steps < 4000000000 → After s i n (step i) (nextIn g s (step i))
+    own : i < g .workers → s .steps < stepLimit → After s i n (step i) (nextIn g s (step i))
     unfolding nextIn
     own l time =
         rw (able-does (record { worker = l; busy = busy; time = time }) (step-called g s i)) (by (law .steps s q common inv i n left))
@@ -71,7 +71,7 @@ module _ (g : Settings) (k : Kind g) {most : Side → ℕ} (law : SoloLaw g k mo
         rw e (passes u refl
         (subst (λ (y : Slot). law .Left (begun s j side v) n (y .index) (phaseOf (g .kind) y)) (sym same) (law .apart s j x n (subIn s i) (phaseIn g s i) left)))
 
-    after-call : i < g .workers → s .steps < 4000000000 → (c : Call)
+    after-call : i < g .workers → s .steps < stepLimit → (c : Call)
         → ((j : ℕ) → c ≡ step j → numberOf (nextIn g s c .answer) ≤ 4 → j ≡ i) → After s i n c (nextIn g s c)
     unfolding nextIn
     after-call l time (beginPut j v) solo = begins (beginPut j v) j Putting v _ (λ e. let z : _≡_ {A = ℕ} 0 1 = cc in omega arith) (begin-called g s j Putting v)
@@ -94,8 +94,8 @@ module _ (g : Settings) (k : Kind g) {most : Side → ℕ} (law : SoloLaw g k mo
 
     -- one event more, from how the rest goes on
     one-more : (s : State) (i n : ℕ) (c : Call) (e : Event) (es : List Event) → e .call ≡ c → e .answer ≡ nextIn g s c .answer
-        → s .steps + n < 4000000000
-        → ((m : ℕ) → nextIn g s c .state .steps + m < 4000000000 → LeftIn (nextIn g s c .state) m i → Ending i m es)
+        → s .steps + n < stepLimit
+        → ((m : ℕ) → nextIn g s c .state .steps + m < stepLimit → LeftIn (nextIn g s c .state) m i → Ending i m es)
         → After s i n c (nextIn g s c) → Ending i n (e ∷ es)
     one-more s i n c e es u v time rest (passes w f x) = between (λ z. w (sym u ∙ z)) (rest n (omega arith) x)
     one-more s i zero c e es u v time rest (walks w a f some x) = absurd (omega arith)
@@ -105,7 +105,7 @@ module _ (g : Settings) (k : Kind g) {most : Side → ℕ} (law : SoloLaw g k mo
         moving (u ∙ w) answer (rest n (omega arith) (subst (λ (m : ℕ). LeftIn (nextIn g s c .state) m i) one-less x))
     one-more s i n c e es u v time rest (ends w f) = let answer : Final (e .answer) = rw v f in final (u ∙ w) answer
 
-    solo-ends : {ws : List ℕ} {s : State} → Rel ws s → (i n : ℕ) → i < g .workers → s .steps + n < 4000000000 → LeftIn s n i
+    solo-ends : {ws : List ℕ} {s : State} → Rel ws s → (i n : ℕ) → i < g .workers → s .steps + n < stepLimit → LeftIn s n i
         → (ds : List Call) → Solo i (run ws ds) → Ending i n (run ws ds)
     unfolding run
     solo-ends r i n l time left [] solo = no-more
@@ -125,7 +125,7 @@ module _ (g : Settings) (k : Kind g) {most : Side → ℕ} (law : SoloLaw g k mo
 
     pub begun-ends : {ws : List ℕ} {s : State} → Rel ws s → (i : ℕ) (side : Side) (v : ℕ) (c : Call)
         → nextIn g s c ≡ beginIn g s i side v → numberOf (callOf ws c .answer) ≡ 0
-        → getD ws stepsAt 0 + suc (most side) ≤ 4000000000 → (ds : List Call) → Solo i (run (callOf ws c .words) ds)
+        → getD ws stepsAt 0 + suc (most side) ≤ stepLimit → (ds : List Call) → Solo i (run (callOf ws c .words) ds)
         → Ending i (most side) (run (callOf ws c .words) ds)
     begun-ends {ws} {s} r i side v c is accepted enough ds solo = by (begin-called g s i side v)
       where

@@ -44,13 +44,13 @@ module _ (g : Settings) (good : Good g) (kind : g .kind ≡ 1) (s : State) (q : 
   hit-base : 2 < stackBase g
   hit-base = omega arith
 
-  pub window-step : AtWindow (g .width) (stackBase g) NearBy n → Steps (windowRule g (viewIn s i) side)
+  pub window-step : AtWindow (g .width) (stackBase g) NearBy n → Steps (windowRule g (viewIn g s i) side)
   unfolding windowRule
   window-step a =
       let many : 2 < n = window-left hit-base a in
-      let seen : cond (eqb (g .kind) 0) (queueSeen (viewIn s i) side) (stackSeen (viewIn s i) side) ≡ stackSeen (viewIn s i) side =
+      let seen : cond (eqb (g .kind) 0) (queueSeen (viewIn g s i) side) (stackSeen (viewIn g s i) side) ≡ stackSeen (viewIn g s i) side =
       rw kind (cond-false _ _) in
-      rw seen (stack-on g kind s i n j (stackSeen (viewIn s i) side) tt zeroSlot (omega arith)
+      rw seen (stack-on g kind s i n j (stackSeen (viewIn g s i) side) tt zeroSlot (omega arith)
       (record { window-is = refl; version-is = refl; clean = clean-start (g .width) (s .second) j; left = window-read hit-base a }))
 
   module _ (window : ℕ) (version : Version) (scan sum : ℕ) (now : phaseIn g s i ≡ StackRead side window version scan sum)
@@ -59,7 +59,7 @@ module _ (g : Settings) (good : Good g) (kind : g .kind ≡ 1) (s : State) (q : 
     k = rw now at (inv .knows i)
 
     -- a sub within the window is no miss
-    no-miss : (b : Side) → stackHit g (viewIn s i) b window ≡ false → Hit g b (s .top) (s .first j) → ⊥
+    no-miss : (b : Side) → stackHit g (viewIn g s i) b window ≡ false → Hit g b (s .top) (s .first j) → ⊥
     no-miss Putting t h = omega (arith, a .window-is, ltb-false (s .first j) window t)
     no-miss Taking t h =
         let low : sub32 window (g .depth) ≡ window - g .depth =
@@ -69,17 +69,17 @@ module _ (g : Settings) (good : Good g) (kind : g .kind ≡ 1) (s : State) (q : 
     more : Clean (g .width) (s .second) (nextOf g j) (suc scan) (sum + s .second j)
     more = clean-more g (s .second) j scan sum index (k .scan-lt) (a .clean)
 
-    pub read-step : Steps (stackRead g (viewIn s i) side window version scan sum)
+    pub read-step : Steps (stackRead g (viewIn g s i) side window version scan sum)
     unfolding stackRead
     read-step =
         let able : 2 ≤ n = a .left .able in
-        cases Steps (stackHit g (viewIn s i) side window) _ _
+        cases Steps (stackHit g (viewIn g s i) side window) _ _
         (λ t. stack-on g kind s i n j (Check side version (record { 0 = s .second j })) tt _ (omega arith)
         (record { version-is = a .version-is; seen-is = refl; able = omega arith }))
         (λ t.
         let none : NearBy 0 → ⊥ = λ near. no-miss side t (near j index) in
         rw (add32-is sum (s .second j) (omega (arith, versions-few (inv .pool), sum-le-versions index k)))
-        (miss-cases g good (viewIn s i) Steps scan (λ x. StackRead side window version x (sum + s .second j)) (StackShift side version 0 (sum + s .second j)) _ (k .scan-lt)
+        (miss-cases g good (viewIn g s i) Steps scan (λ x. StackRead side window version x (sum + s .second j)) (StackShift side version 0 (sum + s .second j)) _ (k .scan-lt)
         (λ l. stack-on g kind s i n (nextOf g j) (StackRead side window version (suc scan) (sum + s .second j)) tt _ (omega arith)
         (record {
           window-is = a .window-is;
@@ -90,17 +90,17 @@ module _ (g : Settings) (good : Good g) (kind : g .kind ≡ 1) (s : State) (q : 
         (λ e. stack-on g kind s i n (nextOf g j) (StackShift side version 0 (sum + s .second j)) tt _ (omega arith)
         (record { version-is = a .version-is; clean = rw e at more; left = read-shift (a .left) none e }))))
 
-  pub check-step : (version seen : Version) → Checks (sight s) n j (version .0) (seen .0) → Steps (checkRule (viewIn s i) side version seen)
+  pub check-step : (version seen : Version) → Checks (sight s) n j (version .0) (seen .0) → Steps (checkRule (viewIn g s i) side version seen)
   unfolding checkRule
   check-step version seen k =
       cases Steps (eqb (s .mark) (version .0)) _ _
       (λ t. stack-on g kind s i n j (StackCommit side seen) tt _ (k .able) (k .seen-is))
       (λ t. absurd (eqb-false _ _ t (sym (k .version-is))))
 
-  lands : (b : Side) → Steps (landsOf (viewIn s i) b)
+  lands : (b : Side) → Steps (landsOf (viewIn g s i) b)
   unfolding applyIn applyInBy
   lands Putting = finishes (final-put _ _ _ _)
   lands Taking = finishes (final-taken _ _ _ _ _)
 
-  pub commit-step : (seen : Version) → phaseIn g s i ≡ StackCommit side seen → seen .0 ≡ s .second j → Steps (stackCommit g (viewIn s i) side seen)
+  pub commit-step : (seen : Version) → phaseIn g s i ≡ StackCommit side seen → seen .0 ≡ s .second j → Steps (stackCommit g (viewIn g s i) side seen)
   commit-step seen now live = commit-cases inv i Steps side seen now (λ e. lands side) (λ other. absurd (other live))

@@ -43,13 +43,13 @@ module _ (g : Settings) (good : Good g) (kind : g .kind ≡ 1) (s : State) (q : 
     nearer Putting c (suc k) h = h
     nearer Taking c (suc k) h = h
 
-    moved : (side : Side) → Shifts g (sight s) n side j (version .0) sum → Steps (shiftedOf (viewIn s i) side (shifted g side (s .top)) (suc (s .mark)))
+    moved : (side : Side) → Shifts g (sight s) n side j (version .0) sum → Steps (shiftedOf (viewIn g s i) side (shifted g side (s .top)) (suc (s .mark)))
     moved side a =
         goes (shifts-on g (stackLeft g) s i n side (shifted g side (s .top)) (suc (s .mark)) (stack-phase g kind (worker (s .slot i .value) j (Window side)) tt (s .slot i))
         (shift-left (a .left)) (shift-window (a .left) (λ k near m l. nearer side (s .first m) k (near m l))))
 
     to-confirm : (side : Side) → phaseIn g s i ≡ StackShift side version scan sum → Shifts g (sight s) n side j (version .0) sum
-        → Steps (movedOf (viewIn s i) j (Confirm side scan sum) (s .slot i))
+        → Steps (movedOf (viewIn g s i) j (Confirm side scan sum) (s .slot i))
     to-confirm side now a =
         let knows : Shifting g (sight s) (inv .ghost) side (version .0) j scan sum = rw now at (inv .knows i) in
         let start : scan ≡ 0 = knows .scan-is in
@@ -60,7 +60,7 @@ module _ (g : Settings) (good : Good g) (kind : g .kind ≡ 1) (s : State) (q : 
     mark-is = add32-suc (s .mark) (omega (arith, versions-few (inv .pool)))
 
     pub shift-step : (side : Side) → phaseIn g s i ≡ StackShift side version scan sum → Shifts g (sight s) n side j (version .0) sum
-        → Steps (stackShift g (viewIn s i) side version scan sum)
+        → Steps (stackShift g (viewIn g s i) side version scan sum)
     unfolding stackShift shiftBy
     shift-step Putting now a =
         let up : add32 (s .top) (g .shift) ≡ s .top + g .shift =
@@ -78,12 +78,12 @@ module _ (g : Settings) (good : Good g) (kind : g .kind ≡ 1) (s : State) (q : 
         (λ t. absurd (eqb-false _ _ t (sym (a .version-is)))))
 
   pub stack-confirm : (side : Side) (scan sum : ℕ) → phaseIn g s i ≡ Confirm side scan sum → AtConfirm (g .width) (s .second) n j scan sum
-      → Steps (confirmRule g (viewIn s i) side scan sum)
+      → Steps (confirmRule g (viewIn g s i) side scan sum)
   stack-confirm side scan sum now a =
-      let read : counted g (viewIn s i) ≡ s .second j = rw kind (cond-false _ _) in
+      let read : counted g (viewIn g s i) ≡ s .second j = rw kind (cond-false _ _) in
       let few : sumN (s .second) (g .width) < 2 ^ 32 = omega (arith, versions-few (inv .pool)) in
       let scan-lt : scan < g .width = rw now at (inv .knows i) in
-      confirm-cases g good (viewIn s i) Steps side scan sum (s .second j) read scan-lt
+      confirm-cases g good (viewIn g s i) Steps side scan sum (s .second j) read scan-lt
       (λ l. stack-on g kind s i n (nextOf g j) (Confirm side (suc scan) (sub32 sum (s .second j))) tt _ (confirm-some a l) (confirm-more g a few index scan-lt))
       (λ e. finds-nothing g (stackLeft g) s i n side (nextOf g j))
       (λ e z kept. absurd (z (confirm-ends g a few index scan-lt good e)))

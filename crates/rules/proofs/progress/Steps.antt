@@ -73,25 +73,25 @@ module _ (g : Settings) (M : Measure) (s : State) (i n : ℕ) where
         }
 
   pub moves-on : (index : ℕ) (p : Phase) (kept : Slot) → phaseOf (g .kind) (written s i index p kept) ≡ p → 1 ≤ n
-      → M (turnedIn s i (s .top) (s .mark) (written s i index p kept)) (n - 1) index p → Goes (applyIn g s i (movedOf (viewIn s i) index p kept))
+      → M (turnedIn s i (s .top) (s .mark) (written s i index p kept)) (n - 1) index p → Goes (applyIn g s i (movedOf (viewIn g s i) index p kept))
   moves-on index p kept back some left = rw (apply-moved g s i index p kept) (turned-on (s .top) (s .mark) index p kept back some left)
 
   pub shifts-on : (side : Side) (top mark : ℕ) → phaseOf (g .kind) (written s i (subIn s i) (Window side) (s .slot i)) ≡ Window side → 1 ≤ n
       → M (turnedIn s i top mark (written s i (subIn s i) (Window side) (s .slot i))) (n - 1) (subIn s i) (Window side)
-      → Goes (applyIn g s i (shiftedOf (viewIn s i) side top mark))
+      → Goes (applyIn g s i (shiftedOf (viewIn g s i) side top mark))
   shifts-on side top mark back some left =
       rw (apply-shifted g s i side top mark) (turned-on top mark (subIn s i) (Window side) (s .slot i) back some left)
 
   -- ---- the answer of a pass that found no place
-  pub finds-nothing : (side : Side) (index : ℕ) → Result (applyIn g s i (finishedOf (viewIn s i) (nothingFor side) index))
+  pub finds-nothing : (side : Side) (index : ℕ) → Result (applyIn g s i (finishedOf (viewIn g s i) (nothingFor side) index))
   unfolding applyIn applyInBy
   finds-nothing Putting index = finishes final-full
   finds-nothing Taking index = finishes final-empty
 
 -- ---- a miss: the pass goes on, or it has read every sub
 pub miss-cases : (g : Settings) → Good g → (v : View) (P : Effect → Type 0) (scan : ℕ) (again : ℕ → Phase) (after : Phase) (kept : Slot) → scan < g .width
-    → (suc scan < g .width → P (movedOf v (nextOf g (v .slot .index)) (again (suc scan)) kept))
-    → (suc scan ≡ g .width → P (movedOf v (nextOf g (v .slot .index)) after kept)) → P (missOf g v scan (again (add32 scan 1)) after kept)
+    → (suc scan < g .width → P (movedOf v (nextOf g (v .worker .index)) (again (suc scan)) kept))
+    → (suc scan ≡ g .width → P (movedOf v (nextOf g (v .worker .index)) after kept)) → P (missOf g v scan (again (add32 scan 1)) after kept)
 unfolding missOf
 miss-cases g good v P scan again after kept l on end =
     rw (add32-suc scan (omega (arith, good .bounds .width16)))

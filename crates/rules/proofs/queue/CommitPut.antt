@@ -13,10 +13,11 @@ use lib.Dec.{ltb, eqb}
 use borrow.Author.Tests.{ltb-false, eqb-true}
 use Rattle.laws.specs.Choice.{cases}
 use Rattle.laws.specs.Wrap.{add32}
+use Rattle.rules.specs.Limits.{stepLimit}
 use Rattle.rules.specs.Held.{Item}
 use Rattle.rules.specs.Worker.{fresh}
 use Rattle.rules.specs.Effects.{hopOf}
-use Rattle.rules.specs.Commit.{queueCommit, commitBy, landedOf}
+use Rattle.rules.specs.Commit.{queueCommit, commitBy, landedOf, rowAbove}
 use Rattle.rules.specs.Sequential.{putting, Contents}
 use Rattle.rules.proofs.Types.{Settings, Putting, Idle, Window, QueueCommit, Effect}
 use Rattle.rules.specs.declared.Answer.the-variants.{Put}
@@ -50,7 +51,7 @@ landedIn s i =
     }
 
 apply-landed : (g : Settings) (s : State) (i : ℕ) → s .first (subIn s i) < 4294967295 → s .puts < 4294967295
-    → applyIn g s i (landedOf (viewIn s i) (add32 (s .first (subIn s i)) 1) (s .second (subIn s i)) (add32 (s .first (subIn s i)) 1))
+    → applyIn g s i (landedOf (viewIn g s i) (add32 (s .first (subIn s i)) 1) (s .second (subIn s i)) (rowAbove (s .first (subIn s i))))
     ≡ next (Put (s .slot i .value) (subIn s i) (record { 0 = suc (s .first (subIn s i)) }) (record { 0 = suc (s .puts) })) (landedIn s i)
 unfolding applyIn applyInBy
 apply-landed g s i a b =
@@ -73,7 +74,7 @@ module _ (g : Settings) (good : Good g) (kind : g .kind ≡ 0) (s : State) (q : 
   abbrev o : Windows g (s .top) (s .mark) (s .first) (s .second)
   o = inv .pool .windows
 
-  few : s .first j ≤ 4000000000
+  few : s .first j ≤ stepLimit
   few = put-few good (inv .pool) j index
 
   -- ---- a put whose sub is as it was seen
@@ -144,7 +145,7 @@ module _ (g : Settings) (good : Good g) (kind : g .kind ≡ 0) (s : State) (q : 
     holds : Holds (g .width) (s .second) (t .first) (t .item) (putOn g q (s .slot i .value) .items)
     holds = rw (inv .pool .count) (holds-put (inv .pool .holds) index (o .held) put)
 
-    pool : s .steps < 4000000000 → Pool g t (putOn g q (s .slot i .value))
+    pool : s .steps < stepLimit → Pool g t (putOn g q (s .slot i .value))
     pool some-left =
         record {
           windows = windows;
@@ -163,13 +164,13 @@ module _ (g : Settings) (good : Good g) (kind : g .kind ≡ 0) (s : State) (q : 
     grown : Grown s t
     grown = record { top = le-refl _; mark = le-refl _; put = put-grown; taken = λ m. le-refl _ }
 
-    put-lands : Steps (landedOf (viewIn s i) (add32 (s .first j) 1) (s .second j) (add32 (s .first j) 1))
+    put-lands : Steps (landedOf (viewIn g s i) (add32 (s .first j) 1) (s .second j) (rowAbove (s .first j)))
     put-lands =
         rw (apply-landed g s i (omega (arith, few)) (omega (arith, inv .pool .puts-few, inv .pool .steps-few)))
         (end g kind s q inv i (QueueCommit Putting seen) now j t refl grown _ (putting (s .slot i .value)) _ refl (final-put _ _ _ _)
         (gives-put g q (s .slot i .value) j (record { 0 = suc (s .first j) }) (suc (s .puts)) (sym counted)) pool)
 
-  pub put-commit : Steps (queueCommit g (viewIn s i) Putting seen)
+  pub put-commit : Steps (queueCommit g (viewIn g s i) Putting seen)
   unfolding queueCommit commitBy
   put-commit =
       cases Steps (eqb (s .first j) seen) _ _

@@ -12,10 +12,11 @@ use lib.Dec.{ltb, eqb}
 use borrow.Author.Tests.{ltb-false, eqb-true}
 use Rattle.laws.specs.Choice.{cases}
 use Rattle.laws.specs.Wrap.{add32}
+use Rattle.rules.specs.Limits.{stepLimit}
 use Rattle.rules.specs.Held.{Item}
 use Rattle.rules.specs.Worker.{fresh}
 use Rattle.rules.specs.Effects.{hopOf}
-use Rattle.rules.specs.Commit.{queueCommit, commitBy, removedOf}
+use Rattle.rules.specs.Commit.{queueCommit, commitBy, removedOf, rowAbove}
 use Rattle.rules.specs.Sequential.{taking, Contents}
 use Rattle.rules.proofs.Types.{Settings, Taking, Idle, Window, QueueCommit, Effect}
 use Rattle.rules.proofs.counts.Sums.{upd, upd-same, upd-other, upd-self}
@@ -47,7 +48,7 @@ removedIn s i =
     }
 
 apply-removed : (g : Settings) (s : State) (i : ℕ) → s .second (subIn s i) < 4294967295
-    → applyIn g s i (removedOf (viewIn s i) (s .first (subIn s i)) (add32 (s .second (subIn s i)) 1) (add32 (s .second (subIn s i)) 1))
+    → applyIn g s i (removedOf (viewIn g s i) (s .first (subIn s i)) (add32 (s .second (subIn s i)) 1) (rowAbove (s .second (subIn s i))))
     ≡ next (takenIn g s (subIn s i) (suc (s .second (subIn s i)))) (removedIn s i)
 unfolding applyIn applyInBy
 apply-removed g s i a = rw (add32-suc (s .second (subIn s i)) a, upd-self (s .first) (subIn s i)) refl
@@ -120,7 +121,7 @@ module _ (g : Settings) (good : Good g) (kind : g .kind ≡ 0) (s : State) (q : 
           held = λ m l. elim (ℕ-discrete m j) [ yes y ↦ rw y (omega (arith, taken-here, take-row)) | no n ↦ omega (arith, taken-off m n, o .held m l) ];
         }
 
-    pool : s .steps < 4000000000 → Pool g t q′
+    pool : s .steps < stepLimit → Pool g t q′
     pool some-left =
         record {
           windows = windows;
@@ -135,14 +136,14 @@ module _ (g : Settings) (good : Good g) (kind : g .kind ≡ 0) (s : State) (q : 
     grown : Grown s t
     grown = record { top = le-refl _; mark = le-refl _; put = λ m. le-refl _; taken = taken-grown }
 
-    take-lands : Steps (removedOf (viewIn s i) (s .first j) (add32 (s .second j) 1) (add32 (s .second j) 1))
+    take-lands : Steps (removedOf (viewIn g s i) (s .first j) (add32 (s .second j) 1) (rowAbove (s .second j)))
     take-lands =
         rw (apply-removed g s i (omega (arith, taken-few good (inv .pool) j index)))
         (end g kind s q inv i (QueueCommit Taking seen) now j t refl grown _ taking q′ refl (final-taken _ _ _ _ _)
         (gives-taken g q it j (record { 0 = r }) (distanceIn g s (it .stamp)) found
         (distance-is g kind (inv .pool) (it .stamp)) (older-few g good kind (inv .pool) j index take-row in-window)) pool)
 
-  pub take-commit : Steps (queueCommit g (viewIn s i) Taking seen)
+  pub take-commit : Steps (queueCommit g (viewIn g s i) Taking seen)
   unfolding queueCommit commitBy
   take-commit =
       cases Steps (eqb (s .second j) seen) _ _

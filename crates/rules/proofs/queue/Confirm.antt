@@ -49,10 +49,10 @@ module _ (g : Settings) (good : Good g) (kind : g .kind ≡ 0) (s : State) (q : 
       → Pass (g .width) (q₀ .items ≡ []) (s₀ .first) (s .first) (nextOf g j) (suc scan) (sub32 sum (s .first j))
   one-more s₀ q₀ h = pass-more g j scan sum some-few index scan-lt h
 
-  pub take-confirm : Steps (confirmRule g (viewIn s i) Taking scan sum)
+  pub take-confirm : Steps (confirmRule g (viewIn g s i) Taking scan sum)
   unfolding confirmRule confirmedOf
   take-confirm =
-      rw (counted-put g kind (viewIn s i), add32-suc scan (omega (arith, scan-lt, good .bounds .width16)))
+      rw (counted-put g kind (viewIn g s i), add32-suc scan (omega (arith, scan-lt, good .bounds .width16)))
       (cases Steps (ltb (suc scan) (g .width)) _ _
       (λ a. stay g kind s q inv i (Confirm Taking scan sum) now (nextOf g j) (Confirm Taking (suc scan) (sub32 sum (s .first j))) tt _
       (ltb-true _ _ a) taking refl refl one-more)

@@ -10,6 +10,7 @@ use mathlib.Core.Logic.{_≢_, _⊎_}
 use Prim.Native.Nat.{ℕ, _+_, _*_, _≤_, _<_}
 use native.Mathlib.Nat.{le-trans}
 use native.Mathlib.Omega.{arith}
+use Rattle.rules.specs.Limits.{stepLimit}
 use Rattle.rules.specs.Held.{Item}
 use Rattle.rules.specs.Sequential.{Contents}
 use Rattle.rules.proofs.Types.{Settings, Putting, Taking, Phase, Idle, Window, QueuePutRead, QueueTakeRead, StackRead, Check, QueueCommit, StackCommit, QueueShift, StackShift, Confirm}
@@ -57,17 +58,17 @@ pub record Pool (g : Settings) (s : State) (q : Contents) : Type 0 where
   -- each put costs a step, so no count is great
   pub total : sumN (s .first) (g .width) ≡ s .puts
   pub puts-few : s .puts ≤ s .steps
-  pub steps-few : s .steps ≤ 4000000000
+  pub steps-few : s .steps ≤ stepLimit
   -- the specification's list is what the subs hold
   pub holds : Holds (g .width) (s .second) (s .first) (s .item) (q .items)
   pub count : q .count ≡ s .puts
 
 -- ---- no count is great
 module _ {g : Settings} {s : State} {q : Contents} (good : Good g) (o : Pool g s q) where
-  pub sum-few : sumN (s .first) (g .width) ≤ 4000000000
+  pub sum-few : sumN (s .first) (g .width) ≤ stepLimit
   sum-few = omega (arith, o .total, o .puts-few, o .steps-few)
 
-  pub put-few : (j : ℕ) → j < g .width → s .first j ≤ 4000000000
+  pub put-few : (j : ℕ) → j < g .width → s .first j ≤ stepLimit
   put-few j l =
       omega (
         arith,
@@ -76,7 +77,7 @@ module _ {g : Settings} {s : State} {q : Contents} (good : Good g) (o : Pool g s
         sum-gap-at (λ k. 0) (s .first) (g .width) j (s .first j) l (λ k m. omega arith) (omega arith),
       )
 
-  pub taken-few : (j : ℕ) → j < g .width → s .second j ≤ 4000000000
+  pub taken-few : (j : ℕ) → j < g .width → s .second j ≤ stepLimit
   taken-few j l = le-trans (o .windows .held j l) (put-few j l)
 
   pub top-few : s .top ≤ 4000000064

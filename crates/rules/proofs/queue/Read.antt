@@ -62,7 +62,7 @@ module _ (g : Settings) (good : Good g) (kind : g .kind ≡ 0) (s : State) (q : 
         let e : suc scan ≡ g .width = omega (arith, put-reads .scan-lt) in
         more a m l (rw e (visited-all on l))
 
-    pub put-read : Steps (queuePutRead g (viewIn s i) window scan)
+    pub put-read : Steps (queuePutRead g (viewIn g s i) window scan)
     unfolding queuePutRead missOf
     put-read =
         cases Steps (ltb (s .first j) window) _ _
@@ -88,24 +88,24 @@ module _ (g : Settings) (good : Good g) (kind : g .kind ≡ 0) (s : State) (q : 
       last : g .width ≤ suc scan → Read g s (nextOf g j) window bare′ (g .width) sum′
       last b = let e : suc scan ≡ g .width = omega (arith, k .scan-lt) in rw e at read
 
-      to-shift : g .width ≤ suc scan → bare′ ≡ 0 → Steps (movedOf (viewIn s i) (nextOf g j) (QueueShift Taking window) kept)
+      to-shift : g .width ≤ suc scan → bare′ ≡ 0 → Steps (movedOf (viewIn g s i) (nextOf g j) (QueueShift Taking window) kept)
       to-shift b z =
           walk g kind s q inv i (QueueTakeRead window bare scan sum) now (nextOf g j) (QueueShift Taking window) tt kept
           (λ m l. last b .spent z m l (visited-all on l)) taking refl refl
 
-      to-confirm : g .width ≤ suc scan → bare′ ≢ 0 → Steps (movedOf (viewIn s i) (nextOf g j) (Confirm Taking 0 sum′) kept)
+      to-confirm : g .width ≤ suc scan → bare′ ≢ 0 → Steps (movedOf (viewIn g s i) (nextOf g j) (Confirm Taking 0 sum′) kept)
       to-confirm b n =
           try g kind s q inv i (QueueTakeRead window bare scan sum) now (nextOf g j) (Confirm Taking 0 sum′) tt kept
           (good .bounds .width1) taking refl refl (pass-begins good (inv .pool) (nextOf g j) window bare′ sum′ on (last b) n)
 
-      take-missed : Steps (missOf g (viewIn s i) scan (QueueTakeRead window bare′ (add32 scan 1) sum′) (afterTakes window bare′ sum′) kept)
+      take-missed : Steps (missOf g (viewIn g s i) scan (QueueTakeRead window bare′ (add32 scan 1) sum′) (afterTakes window bare′ sum′) kept)
       unfolding missOf
       take-missed =
           rw (add32-suc scan (omega (arith, scan-few)))
           (cases Steps (ltb (suc scan) (g .width)) _ _
           (λ b. walk g kind s q inv i (QueueTakeRead window bare scan sum) now (nextOf g j) (QueueTakeRead window bare′ (suc scan) sum′) tt kept
           (record { scan-lt = ltb-true _ _ b; read = read }) taking refl refl)
-          (λ b. cases (λ (p : Phase). Steps (movedOf (viewIn s i) (nextOf g j) p kept)) (eqb bare′ 0) _ _
+          (λ b. cases (λ (p : Phase). Steps (movedOf (viewIn g s i) (nextOf g j) p kept)) (eqb bare′ 0) _ _
           (λ z. to-shift (ltb-false _ _ b) (eqb-true _ _ z))
           (λ z. to-confirm (ltb-false _ _ b) (eqb-false _ _ z))))
 
@@ -117,18 +117,18 @@ module _ (g : Settings) (good : Good g) (kind : g .kind ≡ 0) (s : State) (q : 
     sum-is bare′ r = add32-is sum (s .first j) (omega (arith, summed-le (r .sums), some-few))
 
     take-spent : window ≤ s .second j → (kept : Slot)
-        → Steps (missOf g (viewIn s i) scan (QueueTakeRead window bare (add32 scan 1) (add32 sum (s .first j))) (afterTakes window bare (add32 sum (s .first j))) kept)
+        → Steps (missOf g (viewIn g s i) scan (QueueTakeRead window bare (add32 scan 1) (add32 sum (s .first j))) (afterTakes window bare (add32 sum (s .first j))) kept)
     take-spent a kept =
         let r : Read g s (nextOf g j) window bare (suc scan) (sum + s .first j) = read-spent g s j window bare scan sum index (k .scan-lt) (k .read) a in
         rw (sum-is bare r) (take-missed bare (sum + s .first j) r kept)
 
     take-bare : s .second j < window → s .first j ≡ s .second j → (kept : Slot)
-        → Steps (missOf g (viewIn s i) scan (QueueTakeRead window (add32 bare 1) (add32 scan 1) (add32 sum (s .first j))) (afterTakes window (add32 bare 1) (add32 sum (s .first j))) kept)
+        → Steps (missOf g (viewIn g s i) scan (QueueTakeRead window (add32 bare 1) (add32 scan 1) (add32 sum (s .first j))) (afterTakes window (add32 bare 1) (add32 sum (s .first j))) kept)
     take-bare a e kept =
         let r : Read g s (nextOf g j) window (suc bare) (suc scan) (sum + s .first j) = read-bare g s j window bare scan sum index (k .scan-lt) (k .read) a e in
         rw (sum-is (suc bare) r, add32-suc bare (omega (arith, k .read .bare-le, scan-few))) (take-missed (suc bare) (sum + s .first j) r kept)
 
-    pub take-read : Steps (queueTakeRead g (viewIn s i) window bare scan sum)
+    pub take-read : Steps (queueTakeRead g (viewIn g s i) window bare scan sum)
     unfolding queueTakeRead
     take-read =
         cases Steps (leb window (s .second j)) _ _

@@ -3,7 +3,7 @@ use mathlib.Core.Path.{_≡_}
 use mathlib.Core.Logic.{_≢_}
 use Prim.Native.Nat.{ℕ, _≤_, _<_}
 use native.Mathlib.Omega.{arith}
-use Rattle.rules.specs.Answers.{numberOf}
+use Rattle.rules.specs.Answers.{numberOf, notFit}
 use Rattle.rules.specs.Step.{ruleOf}
 use Rattle.rules.specs.Sequential.{Contents}
 use Rattle.rules.specs.Consequences.{NoWrap}
@@ -23,7 +23,7 @@ module _ {g : Settings} {s : State} {q : Contents} (good : Good g) (kind : g .ki
     width16 : g .width ≤ 16
     width16 = good .bounds .width16
 
-    no-wrap : (p : Phase) → Knows g s (subIn s i) p → NoWrap g (viewIn s i) p
+    no-wrap : (p : Phase) → Knows g s (subIn s i) p → NoWrap g (viewIn g s i) p
     no-wrap Idle k = tt
     no-wrap (Window side) k = tt
     no-wrap (QueuePutRead window scan) k = omega (arith, k .scan-lt, width16)
@@ -48,7 +48,7 @@ module _ {g : Settings} {s : State} {q : Contents} (good : Good g) (kind : g .ki
     no-wrap (Confirm Taking scan sum) k = omega (arith, k, width16)
 
   -- that no commit is refused is shown with each step (`Stepped`, Moves)
-  pub queue-safe : Common g s → ((i : ℕ) → numberOf (applyIn g s i (ruleOf g (viewIn s i)) .answer) ≢ 23) → Safe g s
+  pub queue-safe : Common g s → ((i : ℕ) → numberOf (applyIn g s i (ruleOf g (viewIn g s i)) .answer) ≢ notFit) → Safe g s
   queue-safe common able =
       record {
         puts = omega (arith, inv .pool .puts-few, inv .pool .steps-few);

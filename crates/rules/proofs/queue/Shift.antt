@@ -66,7 +66,7 @@ module _ (g : Settings) (good : Good g) (kind : g .kind ≡ 0) (s : State) (q : 
         multiple-le (o .marks + good .times) (suc (o .tops)) (g .depth) (omega (arith, o .top-is, o .mark-is)) in
         omega (arith, o .top-is, o .mark-is, reached m l, o .taken-le m l)
 
-    pub put-shift : Steps (queueShift g (viewIn s i) Putting window)
+    pub put-shift : Steps (queueShift g (viewIn g s i) Putting window)
     unfolding queueShift shiftBy
     put-shift =
         let few = top-few good (inv .pool) in
@@ -110,7 +110,7 @@ module _ (g : Settings) (good : Good g) (kind : g .kind ≡ 0) (s : State) (q : 
     none : s .mark ≡ window → s .top ≤ s .mark → q .items ≡ []
     none same high = none-held (inv .pool .holds) (λ m l. omega (arith, spent m l, o .put-le m l, o .held m l))
 
-    pub take-shift : Steps (queueShift g (viewIn s i) Taking window)
+    pub take-shift : Steps (queueShift g (viewIn g s i) Taking window)
     unfolding queueShift shiftBy
     take-shift =
         cases Steps _ _ _

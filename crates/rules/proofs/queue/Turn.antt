@@ -7,6 +7,7 @@ use native.Mathlib.Nat.{le-refl}
 use native.Mathlib.Omega.{arith}
 use lib.Dec.{eqb}
 use Rattle.laws.specs.Choice.{cond, cond-true}
+use Rattle.rules.specs.Answers.{workerIdle}
 use Rattle.rules.specs.Worker.{zeroSlot}
 use Rattle.rules.specs.Effects.{refusedOf}
 use Rattle.rules.specs.Step.{ruleOf, ruleBy}
@@ -104,14 +105,14 @@ module _ (g : Settings) (good : Good g) (kind : g .kind ≡ 0) where
 
   -- ---- a step
   module _ (s : State) (q : Contents) (common : Common g s) (inv : Inv g s q) (i : ℕ) where
-    rests : Stepped g s q i (applyIn g s i (refusedOf (viewIn s i) 26))
+    rests : Stepped g s q i (applyIn g s i (refusedOf (viewIn g s i) workerIdle))
     unfolding applyIn applyInBy
     rests = record { turn = λ few. refused (omega arith) refl; able = omega arith }
 
     knows-now : (p : Phase) → phaseIn g s i ≡ p → Knows g s (subIn s i) p
     knows-now p now = subst (Knows g s (subIn s i)) now (inv .knows i)
 
-    by-phase : (p : Phase) → phaseIn g s i ≡ p → Stepped g s q i (applyIn g s i (ruleBy g (viewIn s i) p))
+    by-phase : (p : Phase) → phaseIn g s i ≡ p → Stepped g s q i (applyIn g s i (ruleBy g (viewIn g s i) p))
     unfolding ruleBy
     by-phase Idle now = rests
     by-phase (Window Putting) now = put-window g good kind s q common inv i now
@@ -129,7 +130,7 @@ module _ (g : Settings) (good : Good g) (kind : g .kind ≡ 0) where
     by-phase (Confirm Putting scan sum) now = absurd (knows-now _ now)
     by-phase (Confirm Taking scan sum) now = take-confirm g good kind s q common inv i scan sum now
 
-    pub stepped : Stepped g s q i (applyIn g s i (ruleOf g (viewIn s i)))
+    pub stepped : Stepped g s q i (applyIn g s i (ruleOf g (viewIn g s i)))
     unfolding ruleOf
     stepped = by-phase (phaseIn g s i) refl
 

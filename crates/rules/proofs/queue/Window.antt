@@ -26,18 +26,18 @@ module _ (g : Settings) (good : Good g) (kind : g .kind ≡ 0) (s : State) (q : 
   abbrev j : ℕ
   j = subIn s i
 
-  pub put-window : phaseIn g s i ≡ Window Putting → Steps (windowRule g (viewIn s i) Putting)
+  pub put-window : phaseIn g s i ≡ Window Putting → Steps (windowRule g (viewIn g s i) Putting)
   unfolding windowRule
   put-window now =
-      cases (λ (p : Phase). Steps (movedOf (viewIn s i) j p zeroSlot)) (eqb (g .kind) 0) _ _
+      cases (λ (p : Phase). Steps (movedOf (viewIn g s i) j p zeroSlot)) (eqb (g .kind) 0) _ _
       (λ e. walk g kind s q inv i (Window Putting) now j (QueuePutRead (s .top) 0) tt zeroSlot
       (record { scan-lt = good .bounds .width1; window-le = omega arith; missed = λ m l v. absurd (visited-none l v) }) (putting (s .slot i .value)) refl refl)
       (λ e. absurd (eqb-false _ _ e kind))
 
-  pub take-window : phaseIn g s i ≡ Window Taking → Steps (windowRule g (viewIn s i) Taking)
+  pub take-window : phaseIn g s i ≡ Window Taking → Steps (windowRule g (viewIn g s i) Taking)
   unfolding windowRule
   take-window now =
-      cases (λ (p : Phase). Steps (movedOf (viewIn s i) j p zeroSlot)) (eqb (g .kind) 0) _ _
+      cases (λ (p : Phase). Steps (movedOf (viewIn g s i) j p zeroSlot)) (eqb (g .kind) 0) _ _
       (λ e. walk g kind s q inv i (Window Taking) now j (QueueTakeRead (s .mark) 0 0 0) tt zeroSlot
       (record {
         scan-lt = good .bounds .width1;

@@ -85,7 +85,7 @@ module _ {g : Settings} {s : State} {q : Contents} {i : ℕ} (a : Stepping g s q
       }
 
   -- ---- the step
-  pub apply-removed : applyIn g s i (removedOf (viewIn s i) (sub32 r 1) (add32 (s .second j) 1) r) ≡ next (takenIn g s j r) t
+  pub apply-removed : applyIn g s i (removedOf (viewIn g s i) (sub32 r 1) (add32 (s .second j) 1) (record { 0 = r })) ≡ next (takenIn g s j r) t
   unfolding applyIn applyInBy
   apply-removed =
       let o = a .inv .pool in
@@ -93,7 +93,7 @@ module _ {g : Settings} {s : State} {q : Contents} {i : ℕ} (a : Stepping g s q
       let version-is : add32 (s .second j) 1 ≡ suc (s .second j) = add32-suc (s .second j) (omega (arith, version-few o j j-lt)) in
       rw (held-is, version-is) refl
 
-  pub take-lands : On a (removedOf (viewIn s i) (sub32 r 1) (add32 (s .second j) 1) r)
+  pub take-lands : On a (removedOf (viewIn g s i) (sub32 r 1) (add32 (s .second j) 1) (record { 0 = r }))
   take-lands =
       rw apply-removed
       (commits a Taking seen e live (s .puts) (s .item) (takenOff g q (found .out)) (omega arith) stamps pairs holding
@@ -102,6 +102,6 @@ module _ {g : Settings} {s : State} {q : Contents} {i : ℕ} (a : Stepping g s q
       (take-newer (a .good) (a .kind) (a .inv) i j-lt seen e live)))
 
 pub take-commit : {g : Settings} {s : State} {q : Contents} {i : ℕ} (a : Stepping g s q i) (seen : Version) → phaseIn g s i ≡ StackCommit Taking seen
-    → On a (stackCommit g (viewIn s i) Taking seen)
+    → On a (stackCommit g (viewIn g s i) Taking seen)
 take-commit {g} {s} {i = i} a seen e =
     commit-cases (a .inv) i (On a) Taking seen e (take-lands a seen e) (λ other. restart a e Taking refl (hopOf g (subIn s i)))

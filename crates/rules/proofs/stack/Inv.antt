@@ -9,6 +9,7 @@ use mathlib.Core.Logic.{_⊎_}
 use mathlib.Core.List.{List}
 use Prim.Native.Nat.{ℕ, _+_, _*_, _≤_, _<_}
 use native.Mathlib.Omega.{arith}
+use Rattle.rules.specs.Limits.{stepLimit}
 use Rattle.rules.specs.Held.{Item}
 use Rattle.rules.specs.Sequential.{Contents}
 use Rattle.rules.proofs.Types.{Settings, Side, Putting, Taking, Phase, Idle, Window, QueuePutRead, QueueTakeRead, StackRead, Check, QueueCommit, StackCommit, QueueShift, StackShift, Confirm}
@@ -87,7 +88,7 @@ pub record Pairs (g : Settings) (held : ℕ → ℕ) (item : ℕ → ℕ → Ite
 pub record Few (g : Settings) (s : State) : Type 0 where
   pub puts : s .puts ≤ sumN (s .second) (g .width)
   pub changes : s .mark + sumN (s .second) (g .width) ≤ s .steps
-  pub steps : s .steps ≤ 4000000000
+  pub steps : s .steps ≤ stepLimit
 
 pub record Pool (g : Settings) (s : State) (q : Contents) (ghost : Ghost) : Type 0 where
   pub window : Windowed g (s .top) (ghost .lo)
@@ -100,10 +101,10 @@ pub record Pool (g : Settings) (s : State) (q : Contents) (ghost : Ghost) : Type
 
 -- ---- what a pool from make has: no count is near 2^32, and the list is what the rows from 1 to the held ones have
 module _ {g : Settings} {s : State} {q : Contents} {ghost : Ghost} (o : Pool g s q ghost) where
-  pub versions-few : s .mark + sumN (s .second) (g .width) ≤ 4000000000
+  pub versions-few : s .mark + sumN (s .second) (g .width) ≤ stepLimit
   versions-few = omega (arith, o .few .changes, o .few .steps)
 
-  pub version-few : (j : ℕ) → j < g .width → s .second j ≤ 4000000000
+  pub version-few : (j : ℕ) → j < g .width → s .second j ≤ stepLimit
   version-few j l =
       omega (arith, versions-few, sum-zero (g .width), sum-gap-at (λ m. 0) (s .second) (g .width) j (s .second j) l (λ m u. omega arith) (omega arith))
 

@@ -4,6 +4,7 @@ use mathlib.Core.Path.{_≡_, refl}
 use Prim.Native.Nat.{ℕ, _≤_, _<_}
 use native.Mathlib.Nat.{le-refl}
 use native.Mathlib.Omega.{arith}
+use Rattle.rules.specs.Limits.{stepLimit}
 use Rattle.rules.specs.Worker.{encode}
 use Rattle.rules.specs.Effects.{movedOf, restartOf}
 use Rattle.rules.specs.Sequential.{Contents}
@@ -24,7 +25,7 @@ pub record Stepping (g : Settings) (s : State) (q : Contents) (i : ℕ) : Type 0
   pub kind : g .kind ≡ 1
   pub common : Common g s
   pub inv : Inv g s q
-  pub time : s .steps < 4000000000
+  pub time : s .steps < stepLimit
 
 -- ---- steps that change nothing that is shared
 -- the worker at an index in a phase, and the state in which it is there and all else is as it was
@@ -76,12 +77,12 @@ module _ {g : Settings} {s : State} {q : Contents} {i : ℕ} (a : Stepping g s q
   -- a step within an operation that is not tried yet
   pub walk : {p₀ : Phase} → phaseIn g s i ≡ p₀ → (side : Side) → statusOf (s .slot i .value) p₀ ≡ pending (operationOf side (s .slot i .value))
       → (index : ℕ) (p : Phase) (kept : Slot) → statusOf (s .slot i .value) p ≡ pending (operationOf side (s .slot i .value)) → OfStack p
-      → Knows g (sight s) (a .inv .ghost) index p → On (movedOf (viewIn s i) index p kept)
+      → Knows g (sight s) (a .inv .ghost) index p → On (movedOf (viewIn g s i) index p kept)
   walk e side u index p kept v of own =
       let k : Worker = moves s i index p in
       rw (apply-moved g s i index p kept) (by-walk (moved k kept of) e u v (inv-still k kept of own))
 
   -- a restart, from whatever index
   pub restart : {p₀ : Phase} → phaseIn g s i ≡ p₀ → (side : Side) → statusOf (s .slot i .value) p₀ ≡ pending (operationOf side (s .slot i .value))
-      → (index : ℕ) → On (restartOf (viewIn s i) index side)
+      → (index : ℕ) → On (restartOf (viewIn g s i) index side)
   restart e side u index = walk e side u index (Window side) (s .slot i) refl tt tt

@@ -29,18 +29,18 @@ module _ {g : Settings} {s : State} {q : Contents} {i : ℕ} (a : Stepping g s q
   lowest : sub32 window (g .depth) ≡ window - g .depth
   lowest = sub32-is window (g .depth) (k .depth-le) (omega (arith, k .le-rows, a .good .bounds .rows1024))
 
-  hits : (b : Side) → stackHit g (viewIn s i) b window ≡ true → Hit g b window (s .first j)
+  hits : (b : Side) → stackHit g (viewIn g s i) b window ≡ true → Hit g b window (s .first j)
   hits Putting t = ltb-true _ _ t
   hits Taking t = omega (arith, lowest, ltb-true)
 
-  misses : (b : Side) → stackHit g (viewIn s i) b window ≡ false → Missed g b window (s .first j)
+  misses : (b : Side) → stackHit g (viewIn g s i) b window ≡ false → Missed g b window (s .first j)
   misses Putting t = ltb-false _ _ t
   misses Taking t = omega (arith, lowest, ltb-false, k .depth-le)
 
-  checks : stackHit g (viewIn s i) side window ≡ true → Checking g (sight s) side (version .0) (s .second j) j
+  checks : stackHit g (viewIn g s i) side window ≡ true → Checking g (sight s) side (version .0) (s .second j) j
   checks t = record { began = k .passed .began; seen-le = le-refl _; hit = λ u y. rw (k .same u) at (hits side t) }
 
-  goes-by : stackHit g (viewIn s i) side window ≡ false
+  goes-by : stackHit g (viewIn g s i) side window ≡ false
       → Passed g (sight s) (a .inv .ghost) side (version .0) (nextOf g j) (suc scan) (sum + s .second j)
   goes-by t =
       passed-more g (sight s) (a .inv .ghost) side (version .0) j scan sum (a .common .slots i .index) (k .scan-lt)
@@ -55,10 +55,10 @@ module _ {g : Settings} {s : State} {q : Contents} {i : ℕ} (a : Stepping g s q
   all-missed : ltb (suc scan) (g .width) ≡ false → suc scan ≡ g .width
   all-missed l = omega (arith, ltb-false, k .scan-lt)
 
-  pub turn-read : On a (stackRead g (viewIn s i) side window version scan sum)
+  pub turn-read : On a (stackRead g (viewIn g s i) side window version scan sum)
   unfolding stackRead missOf
   turn-read =
-      cases (On a) (stackHit g (viewIn s i) side window) _ _
+      cases (On a) (stackHit g (viewIn g s i) side window) _ _
       (λ t. walk a e side refl j (Check side version (record { 0 = s .second j })) _ refl tt (checks t))
       (λ t. rw (scan-is, sum-is)
       (cases (On a) (ltb (suc scan) (g .width)) _ _

@@ -6,7 +6,8 @@ use Prim.Native.Nat.{ℕ, _≤_, _<_}
 use native.Mathlib.Omega.{arith}
 use lib.Dec.{eqb}
 use Rattle.laws.specs.Choice.{cases}
-use Rattle.rules.specs.Answers.{numberOf}
+use Rattle.rules.specs.Limits.{stepLimit}
+use Rattle.rules.specs.Answers.{numberOf, notFit}
 use Rattle.rules.specs.Effects.{restartOf, hopOf}
 use Rattle.rules.specs.Window.{windowRule}
 use Rattle.rules.specs.Read.{stackRead, missOf}
@@ -28,28 +29,28 @@ module _ {g : Settings} {s : State} {q : Contents} (good : Good g) (kind : g .ki
   -- ---- no step answers 23, for a commit lands or is lost
   module _ (i : ℕ) where
     abbrev F : Effect → Type 0
-    F x = numberOf (applyIn g s i x .answer) ≢ 23
+    F x = numberOf (applyIn g s i x .answer) ≢ notFit
 
-    able-lands : (side : Side) → F (landsOf (viewIn s i) side)
+    able-lands : (side : Side) → F (landsOf (viewIn g s i) side)
     unfolding applyIn applyInBy
     able-lands Putting = omega arith
     able-lands Taking = omega arith
 
-    able-lost : (side : Side) → F (restartOf (viewIn s i) (hopOf g (subIn s i)) side)
+    able-lost : (side : Side) → F (restartOf (viewIn g s i) (hopOf g (subIn s i)) side)
     unfolding applyIn applyInBy
     able-lost side = omega arith
 
-    able-shift : (side : Side) (version : Version) (scan sum : ℕ) → F (stackShift g (viewIn s i) side version scan sum)
+    able-shift : (side : Side) (version : Version) (scan sum : ℕ) → F (stackShift g (viewIn g s i) side version scan sum)
     unfolding stackShift shiftBy applyIn applyInBy
     able-shift Putting version scan sum = cases F (eqb (s .mark) (version .0)) _ _ (λ u. cases F _ _ _ (λ x. omega arith) (λ x. omega arith)) (λ u. omega arith)
     able-shift Taking version scan sum = cases F (eqb (s .mark) (version .0)) _ _ (λ u. cases F _ _ _ (λ x. omega arith) (λ x. omega arith)) (λ u. omega arith)
 
-    able-confirm : (side : Side) (scan sum : ℕ) → F (confirmRule g (viewIn s i) side scan sum)
+    able-confirm : (side : Side) (scan sum : ℕ) → F (confirmRule g (viewIn g s i) side scan sum)
     unfolding confirmRule confirmedOf applyIn applyInBy
     able-confirm Putting scan sum = cases F _ _ _ (λ u. omega arith) (λ u. cases F _ _ _ (λ x. omega arith) (λ x. omega arith))
     able-confirm Taking scan sum = cases F _ _ _ (λ u. omega arith) (λ u. cases F _ _ _ (λ x. omega arith) (λ x. omega arith))
 
-    able-by : (p : Phase) → phaseIn g s i ≡ p → Knows g (sight s) (inv .ghost) (subIn s i) p → F (ruleBy g (viewIn s i) p)
+    able-by : (p : Phase) → phaseIn g s i ≡ p → Knows g (sight s) (inv .ghost) (subIn s i) p → F (ruleBy g (viewIn g s i) p)
     unfolding ruleBy windowRule stackRead missOf checkRule applyIn applyInBy
     able-by Idle e k = omega arith
     able-by (Window side) e k = omega arith
@@ -63,7 +64,7 @@ module _ {g : Settings} {s : State} {q : Contents} (good : Good g) (kind : g .ki
     able-by (StackShift side version scan sum) e k = able-shift side version scan sum
     able-by (Confirm side scan sum) e k = able-confirm side scan sum
 
-    not-refused : F (ruleOf g (viewIn s i))
+    not-refused : F (ruleOf g (viewIn g s i))
     unfolding ruleOf
     not-refused = able-by (phaseIn g s i) refl (inv .knows i)
 
@@ -72,10 +73,10 @@ module _ {g : Settings} {s : State} {q : Contents} (good : Good g) (kind : g .ki
     index : subIn s i < g .width
     index = common .slots i .index
 
-    few : s .second (subIn s i) ≤ 4000000000
+    few : s .second (subIn s i) ≤ stepLimit
     few = version-few (inv .pool) (subIn s i) index
 
-    no-wrap : (p : Phase) → Knows g (sight s) (inv .ghost) (subIn s i) p → NoWrap g (viewIn s i) p
+    no-wrap : (p : Phase) → Knows g (sight s) (inv .ghost) (subIn s i) p → NoWrap g (viewIn g s i) p
     no-wrap Idle k = tt
     no-wrap (Window side) k = tt
     no-wrap (QueuePutRead window scan) k = absurd k

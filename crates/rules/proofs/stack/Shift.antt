@@ -70,7 +70,7 @@ module _ {g : Settings} {s : State} {q : Contents} {i : ℕ} (a : Stepping g s q
             holding = record { held = o .holding .held; count = o .holding .count };
           }
 
-      shifts : On a (shiftedOf (viewIn s i) side (windowAfter g side (s .top)) (suc (s .mark)))
+      shifts : On a (shiftedOf (viewIn g s i) side (windowAfter g side (s .top)) (suc (s .mark)))
       shifts =
           rw (apply-shifted g s i side (windowAfter g side (s .top)) (suc (s .mark)))
           (by-walk w e refl refl
@@ -82,7 +82,7 @@ module _ {g : Settings} {s : State} {q : Contents} {i : ℕ} (a : Stepping g s q
     abbrev confirms : Worker
     confirms = moves s i j (Confirm side scan sum)
 
-    goes-to-confirm : Unable g side (s .top) → On a (movedOf (viewIn s i) j (Confirm side scan sum) (s .slot i))
+    goes-to-confirm : Unable g side (s .top) → On a (movedOf (viewIn g s i) j (Confirm side scan sum) (s .slot i))
     goes-to-confirm l =
         let pass : Pass (g .width) (Stuck g side q) (s .second) (s .second) j scan sum =
         rw (k .scan-is) (pass-begins (a .kind) (a .inv .pool) side (version .0) j sum (a .common .slots i .index) (k .passed) now l) in
@@ -93,8 +93,8 @@ module _ {g : Settings} {s : State} {q : Contents} {i : ℕ} (a : Stepping g s q
   -- ---- the rule, the same on both sides but for the tests and the new window
   shift-by : (side : Side) (version : Version) (scan sum : ℕ) → phaseIn g s i ≡ StackShift side version scan sum
       → (same able : Bool) → (same ≡ true → version .0 ≡ s .mark) → (able ≡ true → Able g side (s .top)) → (able ≡ false → Unable g side (s .top))
-      → On a (shiftBy (viewIn s i) side same able (shiftedOf (viewIn s i) side (windowAfter g side (s .top)) (suc (s .mark)))
-      (movedOf (viewIn s i) j (Confirm side scan sum) (s .slot i)))
+      → On a (shiftBy (viewIn g s i) side same able (shiftedOf (viewIn g s i) side (windowAfter g side (s .top)) (suc (s .mark)))
+      (movedOf (viewIn g s i) j (Confirm side scan sum) (s .slot i)))
   unfolding shiftBy
   shift-by side version scan sum e same able now yes-able not-able =
       cases (On a) same _ _
@@ -107,7 +107,7 @@ module _ {g : Settings} {s : State} {q : Contents} {i : ℕ} (a : Stepping g s q
   mark-is = add32-suc (s .mark) (omega (arith, versions-few (a .inv .pool)))
 
   pub turn-shift : (side : Side) (version : Version) (scan sum : ℕ) → phaseIn g s i ≡ StackShift side version scan sum
-      → On a (stackShift g (viewIn s i) side version scan sum)
+      → On a (stackShift g (viewIn g s i) side version scan sum)
   unfolding stackShift
   turn-shift Putting version scan sum e =
       let up : add32 (s .top) (g .shift) ≡ s .top + g .shift =

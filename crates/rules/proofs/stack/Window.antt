@@ -18,12 +18,12 @@ module _ {g : Settings} {s : State} {q : Contents} {i : ℕ} (a : Stepping g s q
   abbrev j : ℕ
   j = subIn s i
 
-  pub turn-window : (side : Side) → phaseIn g s i ≡ Window side → On a (windowRule g (viewIn s i) side)
+  pub turn-window : (side : Side) → phaseIn g s i ≡ Window side → On a (windowRule g (viewIn g s i) side)
   unfolding windowRule
   turn-window side e =
-      let seen : cond (eqb (g .kind) 0) (queueSeen (viewIn s i) side) (stackSeen (viewIn s i) side) ≡ stackSeen (viewIn s i) side =
+      let seen : cond (eqb (g .kind) 0) (queueSeen (viewIn g s i) side) (stackSeen (viewIn g s i) side) ≡ stackSeen (viewIn g s i) side =
       rw (a .kind) (cond-false _ _) in
-      rw seen (walk a e side refl j (stackSeen (viewIn s i) side) zeroSlot refl tt (record {
+      rw seen (walk a e side refl j (stackSeen (viewIn g s i) side) zeroSlot refl tt (record {
         scan-lt = a .good .bounds .width1;
         depth-le = window-ge (a .inv .pool);
         le-rows = window-le (a .inv .pool);

@@ -9,7 +9,8 @@ use native.Mathlib.Decide.{ℕ-discrete, decLe}
 use native.Mathlib.Omega.{arith}
 use lib.ListN.{length, getD}
 use Rattle.laws.specs.Wrap.{add32}
-use Rattle.rules.specs.Layout.{subAt, workerAt, cellsAt, cellAt, settingsOf, firstOf, secondOf}
+use Rattle.rules.specs.Limits.{stepLimit}
+use Rattle.rules.specs.Layout.{subAt, workerAt, cellsAt, cellAt, settingsOf, firstOf, secondOf, kindAt, widthAt, depthAt, shiftAt, rowsAt, workerCountAt, firstZeroAt, secondZeroAt, secondAt, workerWords, stampAt}
 use Rattle.rules.specs.Worker.{slotAt}
 use Rattle.rules.specs.Held.{itemAt, rowsBelow}
 use Rattle.rules.proofs.Types.{Settings, Effect}
@@ -34,10 +35,10 @@ module _ (g : Settings) (ws : List ℕ) (s : State) (says : Says g ws s) (i : �
   abbrev vs : List ℕ
   vs = allSet ws at j e
 
-  above : subAt j + 1 < at
+  above : secondAt j < at
   above = omega arith
 
-  long : at + 8 ≤ length ws
+  long : at + workerWords ≤ length ws
   long = omega (arith, says .long)
 
   -- words 0 to 5, 10 and 11
@@ -47,7 +48,7 @@ module _ (g : Settings) (ws : List ℕ) (s : State) (says : Says g ws s) (i : �
   other-sub : (k : ℕ) → k < g .width → k ≢ j → (firstOf vs k ≡ firstOf ws k) × (secondOf vs k ≡ secondOf ws k)
   other-sub k l n = (
     all-off ws at j e (subAt k) (λ u. omega arith) (λ u. omega arith) (λ u. omega arith) (λ u. omega arith) (λ u. n (omega arith)) (λ u. omega arith) (inl (omega arith)),
-    all-off ws at j e (subAt k + 1) (λ u. omega arith) (λ u. omega arith) (λ u. omega arith) (λ u. omega arith) (λ u. omega arith) (λ u. n (omega arith)) (inl (omega arith)),
+    all-off ws at j e (secondAt k) (λ u. omega arith) (λ u. omega arith) (λ u. omega arith) (λ u. omega arith) (λ u. omega arith) (λ u. n (omega arith)) (inl (omega arith)),
   )
 
   other-slot : (m : ℕ) → m ≢ i → slotAt vs (workerAt g m) ≡ slotAt ws (workerAt g m)
@@ -55,7 +56,7 @@ module _ (g : Settings) (ws : List ℕ) (s : State) (says : Says g ws s) (i : �
       slot-kept ws vs (workerAt g m) (λ k l. all-off ws at j e (workerAt g m + k)
       (λ u. omega arith) (λ u. omega arith) (λ u. omega arith) (λ u. omega arith) (λ u. omega arith) (λ u. omega arith) (side k l (decLe m i)))
     where
-      side : (k : ℕ) → k < 8 → Dec (m ≤ i) → (workerAt g m + k < at) ⊎ (at + 8 ≤ workerAt g m + k)
+      side : (k : ℕ) → k < workerWords → Dec (m ≤ i) → (workerAt g m + k < at) ⊎ (at + workerWords ≤ workerAt g m + k)
       side k l (yes a) = inl (omega arith)
       side k l (no a) = inr (omega arith)
 
@@ -66,7 +67,7 @@ module _ (g : Settings) (ws : List ℕ) (s : State) (says : Says g ws s) (i : �
   same-item : (k r : ℕ) → itemAt vs g k r ≡ itemAt ws g k r
   same-item k r =
       let v = cells-off (cellAt g k r) (omega arith) in
-      let t = cells-off (cellAt g k r + 1) (omega arith) in
+      let t = cells-off (stampAt (cellAt g k r)) (omega arith) in
       λ u. record { value = v u; stamp = t u }
 
   settings-kept : settingsOf vs ≡ settingsOf ws
@@ -74,21 +75,21 @@ module _ (g : Settings) (ws : List ℕ) (s : State) (says : Says g ws s) (i : �
       let word : (m : ℕ) → m < 6 → getD vs m 0 ≡ getD ws m 0 =
       λ m l. head m (omega arith) (λ u. omega arith) (λ u. omega arith) (λ u. omega arith) (λ u. omega arith) in
       λ u. record {
-        kind = word 0 (omega arith) u;
-        width = word 1 (omega arith) u;
-        depth = word 2 (omega arith) u;
-        shift = word 3 (omega arith) u;
-        rows = word 4 (omega arith) u;
-        workers = word 5 (omega arith) u;
+        kind = word kindAt (omega arith) u;
+        width = word widthAt (omega arith) u;
+        depth = word depthAt (omega arith) u;
+        shift = word shiftAt (omega arith) u;
+        rows = word rowsAt (omega arith) u;
+        workers = word workerCountAt (omega arith) u;
       }
 
-  pub after-says : s .steps < 4000000000 → CellsSay g ws (afterIn s i e) → Says g vs (afterIn s i e)
+  pub after-says : s .steps < stepLimit → CellsSay g ws (afterIn s i e) → Says g vs (afterIn s i e)
   after-says few cells =
       record {
         long = rw (all-length ws at j e) (says .long);
         settings = settings-kept ∙ says .settings;
-        tenth = head 10 (omega arith) (λ u. omega arith) (λ u. omega arith) (λ u. omega arith) (λ u. omega arith) ∙ says .tenth;
-        eleventh = head 11 (omega arith) (λ u. omega arith) (λ u. omega arith) (λ u. omega arith) (λ u. omega arith) ∙ says .eleventh;
+        tenth = head firstZeroAt (omega arith) (λ u. omega arith) (λ u. omega arith) (λ u. omega arith) (λ u. omega arith) ∙ says .tenth;
+        eleventh = head secondZeroAt (omega arith) (λ u. omega arith) (λ u. omega arith) (λ u. omega arith) (λ u. omega arith) ∙ says .eleventh;
         steps = all-steps ws at j e above long ∙ ap (λ (x : ℕ). add32 x 1) (says .steps) ∙ add32-suc (s .steps) (omega arith);
         puts = all-puts ws at j e above long;
         top = all-top ws at j e above long;
@@ -109,7 +110,7 @@ module _ (g : Settings) (ws : List ℕ) (s : State) (says : Says g ws s) (i : �
       }
 
   -- a step that adds no held row
-  pub keeps-cells : Keeps g (viewIn s i) e → CellsSay g ws (afterIn s i e)
+  pub keeps-cells : Keeps g (viewIn g s i) e → CellsSay g ws (afterIn s i e)
   keeps-cells h k r l a b = elim (ℕ-discrete k j) [
     | yes y ↦
         let a′ : rowsBelow g (upd (s .second) j (e .second) j) < r = rw y at a in

@@ -11,9 +11,8 @@ use Rattle.laws.specs.Choice.{cond, cases, allBelow}
 use Rattle.rules.specs.Layout.{headWords, workerWords, workerAt, needed}
 use Rattle.rules.specs.Limits.{settingsFit}
 use Rattle.rules.specs.Worker.{slotAt}
-use Rattle.rules.specs.Fit.{headFit, subFit, subsFit, wordFit, workersFit, bodyChecked, checkedOf, SubFits}
+use Rattle.rules.specs.Fit.{Fit, headFit, subFit, subsFit, wordFit, workersFit, bodyChecked, checkedOf, SubFits}
 use Rattle.rules.proofs.Types.{Settings}
-use Rattle.rules.specs.declared.Checked.the-variants.{Fit}
 use Rattle.rules.proofs.machine.Machine.{State}
 use Rattle.rules.proofs.machine.Turns.{SlotFits, Common}
 use Rattle.rules.proofs.words.Says.{Says}

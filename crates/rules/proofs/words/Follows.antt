@@ -11,20 +11,19 @@ use lib.ListN.{getD}
 use lib.Dec.{leb, eqb}
 use borrow.Author.Tests.{leb-false}
 use Rattle.laws.specs.Choice.{cond}
-use Rattle.rules.specs.Answers.{Out, refuse}
-use Rattle.rules.specs.Limits.{settingsFit, Bounds}
-use Rattle.rules.specs.Layout.{subAt, workerAt, cellAt, settingsOf}
-use Rattle.rules.specs.Worker.{putSlot, fresh}
+use Rattle.rules.specs.Answers.{Out, refuse, noSuchWorker, workerBusy, workerIdle, stepsSpent}
+use Rattle.rules.specs.Limits.{settingsFit, Bounds, stepLimit}
+use Rattle.rules.specs.Layout.{subAt, workerAt, cellAt, settingsOf, kindAt, widthAt, depthAt, shiftAt, rowsAt, workerCountAt, stepsAt, putsAt, topAt, markAt, firstZeroAt, secondZeroAt, indexAt, secondAt, workerWords, stampAt}
+use Rattle.rules.specs.Worker.{putSlot, fresh, idlePhase}
 use Rattle.rules.specs.Held.{Item, itemAt, distanceOf}
-use Rattle.rules.specs.Fit.{checkedOf}
+use Rattle.rules.specs.Fit.{Fit, checkedOf}
 use Rattle.rules.specs.Effects.{viewOf}
-use Rattle.rules.specs.Apply.{putItem, stampOf, putLanded, takenOf, applyBy, applyOf}
+use Rattle.rules.specs.Apply.{putItem, putLanded, takenOf, applyBy, applyOf}
 use Rattle.rules.specs.Begin.{slotBegin, fitBegin, checkedBegin, beginOf}
 use Rattle.rules.specs.Step.{ruleOf, slotStep, fitStep, checkedStep, stepOf}
 use Rattle.rules.specs.Run.{Call, beginPut, beginTake, step, callOf}
 use Rattle.rules.proofs.Types.{Settings, Side, Putting, Taking, Window, Slot, Effect, Outcome}
 use Rattle.rules.specs.declared.Outcome.the-variants.{Refused, Moving, Shifted, Landed, Removed, Empty, Full}
-use Rattle.rules.specs.declared.Checked.the-variants.{Fit}
 use Rattle.rules.specs.declared.Answer.the-variants.{Moving as Moves, Taken, Refused as NotDone}
 use Rattle.rules.proofs.counts.Sums.{upd-same, upd-other}
 use Rattle.rules.proofs.order.Law.{Next}
@@ -67,55 +66,55 @@ module _ (g : Settings) (limits : settingsFit g ≡ true) (ws : List ℕ) (s : S
     lj = common .slots i .index
 
     -- ---- an effect, by how it ends
-    module _ (few : s .steps < 4000000000) (e : Effect) where
+    module _ (few : s .steps < stepLimit) (e : Effect) where
       taken-same : (r : ℕ) → belowIn g s (subIn s i) < r → r ≤ s .first (subIn s i) → takenOf ws g (subIn s i) (record { 0 = r }) ≡ takenIn g s (subIn s i) r
       unfolding takenOf
       taken-same r a b =
-          ap (λ (x : Item). Taken (x .value) (subIn s i) (record { 0 = r }) (record { 0 = x .stamp }) (distanceOf ws g (x .stamp))) (says .cell (subIn s i) r lj a b)
+          ap (λ (x : Item). Taken (x .value) (subIn s i) (record { 0 = r }) (record { 0 = x .stamp }) (distanceOf ws g (record { 0 = x .stamp }))) (says .cell (subIn s i) r lj a b)
           ∙ ap (λ (d : ℕ). Taken (s .item (subIn s i) r .value) (subIn s i) (record { 0 = r }) (record { 0 = s .item (subIn s i) r .stamp }) d)
-          (distance-same g ws s says order (s .item (subIn s i) r .stamp))
+          (distance-same g ws s says order (record { 0 = s .item (subIn s i) r .stamp }))
 
-      follow-apply : (o : Outcome) → SharedAfter g (viewIn s i) e o → Follows g (applyBy ws g (workerAt g i) (subIn s i) e o) (applyInBy g s i e o)
+      follow-apply : (o : Outcome) → SharedAfter g (viewIn g s i) e o → Follows g (applyBy ws g (workerAt g i) (subIn s i) e o) (applyInBy g s i e o)
       unfolding putLanded applyBy applyInBy
       follow-apply (Refused n) h = record { answer = refl; says = says }
       follow-apply Moving h = record { answer = refl; says = stores-worker g ws s says i li lj few e h }
       follow-apply Shifted h = record { answer = refl; says = stores-shifted g ws s says i li lj few e h }
-      follow-apply Landed lands =
+      follow-apply (Landed value row stamp) lands =
           let h = lands (counted-in g bounds s common counts i) in
-          let stored = landed-says g ws s says bounds i lj (counts .first-few _ lj) (order _ lj) e h in
-          let top : SameTop (putItem ws g (subIn s i) (e .value) (e .row) (stampOf e)) (subIn s i) e =
+          let stored = landed-says g ws s says bounds i lj (counts .first-few _ lj) (order _ lj) value row stamp e h in
+          let top : SameTop (putItem ws g (subIn s i) value row stamp) (subIn s i) e =
           (stored .top ∙ sym (h .window .top), stored .mark ∙ sym (h .window .mark)) in
           record {
             answer = refl;
             says = rw (landed-shared _ (subIn s i) e top) (after-says g _ _ stored i li lj e few
-                (landed-cells g ws s says bounds i lj (counts .first-few _ lj) (order _ lj) e h));
+                (landed-cells g ws s says bounds i lj (counts .first-few _ lj) (order _ lj) value row stamp e h));
           }
-      follow-apply Removed removes =
+      follow-apply (Removed row) removes =
           let h = removes (counted-in g bounds s common counts i) in
           record {
-            answer = taken-same (e .row .0) (h .low) (h .high);
+            answer = taken-same (row .0) (h .low) (h .high);
             says = stores g ws s says i li lj few e _
                 (removed-shared ws (subIn s i) e (puts-as g ws s says i li lj few e (h .puts)) (top-as g ws s says i li lj few e (h .window))) (h .keeps);
           }
       follow-apply Empty h = record { answer = refl; says = stores-worker g ws s says i li lj few e h }
       follow-apply Full h = record { answer = refl; says = stores-worker g ws s says i li lj few e h }
 
-    follow-rule : s .steps < 4000000000
-        → Follows g (applyOf ws g (workerAt g i) (getD ws (workerAt g i + 2) 0) (ruleOf g (viewOf ws (workerAt g i)))) (applyIn g s i (ruleOf g (viewIn s i)))
+    follow-rule : s .steps < stepLimit
+        → Follows g (applyOf ws g (workerAt g i) (getD ws (indexAt (workerAt g i)) 0) (ruleOf g (viewOf ws g (workerAt g i)))) (applyIn g s i (ruleOf g (viewIn g s i)))
     unfolding applyOf applyIn
     follow-rule few =
         rw (view-same g ws s says i li lj, index-same g ws s says i li)
-        (follow-apply few (ruleOf g (viewIn s i)) (ruleOf g (viewIn s i) .outcome)
+        (follow-apply few (ruleOf g (viewIn g s i)) (ruleOf g (viewIn g s i) .outcome)
         (rule-in g bounds s common i .shared))
 
     follow-step : Follows g (slotStep ws g (workerAt g i))
-        (cond (eqb (s .slot i .number) 0) (next (NotDone 26) s)
-        (cond (leb 4000000000 (s .steps)) (next (NotDone 27) s) (applyIn g s i (ruleOf g (viewIn s i)))))
+        (cond (eqb (s .slot i .number) idlePhase) (next (NotDone workerIdle) s)
+        (cond (leb stepLimit (s .steps)) (next (NotDone stepsSpent) s) (applyIn g s i (ruleOf g (viewIn g s i)))))
     unfolding slotStep
     follow-step =
         rw (number-same g ws s says i li, says .steps)
-        (either g (eqb (s .slot i .number) 0) (λ a. refuses 26)
-        (λ a. either g (leb 4000000000 (s .steps)) (λ b. refuses 27) (λ b. follow-rule (leb-false _ _ b))))
+        (either g (eqb (s .slot i .number) idlePhase) (λ a. refuses workerIdle)
+        (λ a. either g (leb stepLimit (s .steps)) (λ b. refuses stepsSpent) (λ b. follow-rule (leb-false _ _ b))))
 
     -- ---- a begin
     begun-says : (x : Slot) → Says g (putSlot ws (workerAt g i) x) (withSlot s i x)
@@ -123,29 +122,29 @@ module _ (g : Settings) (limits : settingsFit g ≡ true) (ws : List ℕ) (s : S
         let vs = putSlot ws (workerAt g i) x in
         let at = workerAt g i in
         let low : (m : ℕ) → m < at → getD vs m 0 ≡ getD ws m 0 = λ m l. slot-off ws at x m (inl l) in
-        let high : (m : ℕ) → at + 8 ≤ m → getD vs m 0 ≡ getD ws m 0 = λ m l. slot-off ws at x m (inr l) in
+        let high : (m : ℕ) → at + workerWords ≤ m → getD vs m 0 ≡ getD ws m 0 = λ m l. slot-off ws at x m (inr l) in
         let item : (j r : ℕ) → itemAt vs g j r ≡ itemAt ws g j r =
-        λ j r. let v = high (cellAt g j r) (omega arith) in let t = high (cellAt g j r + 1) (omega arith) in λ u. record { value = v u; stamp = t u } in
+        λ j r. let v = high (cellAt g j r) (omega arith) in let t = high (stampAt (cellAt g j r)) (omega arith) in λ u. record { value = v u; stamp = t u } in
         let settings : settingsOf vs ≡ settingsOf ws =
         λ u. record {
-          kind = low 0 (omega arith) u;
-          width = low 1 (omega arith) u;
-          depth = low 2 (omega arith) u;
-          shift = low 3 (omega arith) u;
-          rows = low 4 (omega arith) u;
-          workers = low 5 (omega arith) u;
+          kind = low kindAt (omega arith) u;
+          width = low widthAt (omega arith) u;
+          depth = low depthAt (omega arith) u;
+          shift = low shiftAt (omega arith) u;
+          rows = low rowsAt (omega arith) u;
+          workers = low workerCountAt (omega arith) u;
         } in
         record {
           long = rw (slot-length ws at x) (says .long);
           settings = settings ∙ says .settings;
-          tenth = low 10 (omega arith) ∙ says .tenth;
-          eleventh = low 11 (omega arith) ∙ says .eleventh;
-          steps = low 6 (omega arith) ∙ says .steps;
-          puts = low 7 (omega arith) ∙ says .puts;
-          top = low 8 (omega arith) ∙ says .top;
-          mark = low 9 (omega arith) ∙ says .mark;
+          tenth = low firstZeroAt (omega arith) ∙ says .tenth;
+          eleventh = low secondZeroAt (omega arith) ∙ says .eleventh;
+          steps = low stepsAt (omega arith) ∙ says .steps;
+          puts = low putsAt (omega arith) ∙ says .puts;
+          top = low topAt (omega arith) ∙ says .top;
+          mark = low markAt (omega arith) ∙ says .mark;
           first = λ k l. low (subAt k) (omega arith) ∙ says .first k l;
-          second = λ k l. low (subAt k + 1) (omega arith) ∙ says .second k l;
+          second = λ k l. low (secondAt k) (omega arith) ∙ says .second k l;
           slot = λ m l. elim (ℕ-discrete m i) [
             | yes y ↦ rw y (slot-on ws at x (omega (arith, says .long)) ∙ sym (upd-same (s .slot) i x))
             | no n ↦ slot-kept ws vs (workerAt g m) (λ k a. slot-off ws at x (workerAt g m + k) (side m k a n (decLe m i))) ∙ says .slot m l ∙ sym (upd-other (s .slot) i x m n)
@@ -153,20 +152,20 @@ module _ (g : Settings) (limits : settingsFit g ≡ true) (ws : List ℕ) (s : S
           cell = λ j r l a b. item j r ∙ says .cell j r l a b;
         }
       where
-        side : (m k : ℕ) → k < 8 → m ≢ i → Dec (m ≤ i) → (workerAt g m + k < workerAt g i) ⊎ (workerAt g i + 8 ≤ workerAt g m + k)
+        side : (m k : ℕ) → k < workerWords → m ≢ i → Dec (m ≤ i) → (workerAt g m + k < workerAt g i) ⊎ (workerAt g i + workerWords ≤ workerAt g m + k)
         side m k l n (yes a) = inl (omega arith)
         side m k l n (no a) = inr (omega arith)
 
     follow-begin : (side : Side) (v : ℕ) → Follows g (slotBegin ws (workerAt g i) side v)
-        (cond (eqb (s .slot i .number) 0)
-        (cond (leb 4000000000 (s .steps)) (next (NotDone 27) s) (next Moves (withSlot s i (fresh v (subIn s i) (Window side)))))
-        (next (NotDone 25) s))
+        (cond (eqb (s .slot i .number) idlePhase)
+        (cond (leb stepLimit (s .steps)) (next (NotDone stepsSpent) s) (next Moves (withSlot s i (fresh v (subIn s i) (Window side)))))
+        (next (NotDone workerBusy) s))
     unfolding slotBegin
     follow-begin side v =
         rw (number-same g ws s says i li, says .steps, index-same g ws s says i li)
-        (either g (eqb (s .slot i .number) 0)
-        (λ a. either g (leb 4000000000 (s .steps)) (λ b. refuses 27) (λ b. record { answer = refl; says = begun-says _ }))
-        (λ a. refuses 25))
+        (either g (eqb (s .slot i .number) idlePhase)
+        (λ a. either g (leb stepLimit (s .steps)) (λ b. refuses stepsSpent) (λ b. record { answer = refl; says = begun-says _ }))
+        (λ a. refuses workerBusy))
 
   -- ---- a call
   checked : checkedOf ws ≡ Fit g
@@ -174,11 +173,11 @@ module _ (g : Settings) (limits : settingsFit g ≡ true) (ws : List ℕ) (s : S
 
   step-follows : (i : ℕ) → Follows g (stepOf ws i) (stepIn g s i)
   unfolding stepOf checkedStep fitStep stepIn
-  step-follows i = rw checked (either g (leb (g .workers) i) (λ a. refuses 24) (λ a. follow-step i (leb-false _ _ a)))
+  step-follows i = rw checked (either g (leb (g .workers) i) (λ a. refuses noSuchWorker) (λ a. follow-step i (leb-false _ _ a)))
 
   begin-follows : (i : ℕ) (side : Side) (v : ℕ) → Follows g (beginOf ws i side v) (beginIn g s i side v)
   unfolding beginOf checkedBegin fitBegin beginIn
-  begin-follows i side v = rw checked (either g (leb (g .workers) i) (λ a. refuses 24) (λ a. follow-begin i (leb-false _ _ a) side v))
+  begin-follows i side v = rw checked (either g (leb (g .workers) i) (λ a. refuses noSuchWorker) (λ a. follow-begin i (leb-false _ _ a) side v))
 
   pub follows : (c : Call) → Follows g (callOf ws c) (nextIn g s c)
   unfolding callOf nextIn

@@ -7,11 +7,11 @@ use native.Mathlib.Decide.{ℕ-discrete}
 use native.Mathlib.Omega.{arith}
 use lib.ListN.{length, getD}
 use Rattle.laws.specs.Wrap.{sub32}
-use Rattle.rules.specs.Limits.{Bounds}
-use Rattle.rules.specs.Layout.{subAt, workerAt, cellsAt, cellAt, settingsOf}
+use Rattle.rules.specs.Limits.{Bounds, stepLimit}
+use Rattle.rules.specs.Layout.{subAt, workerAt, cellsAt, cellAt, settingsOf, kindAt, widthAt, depthAt, shiftAt, rowsAt, workerCountAt, stepsAt, putsAt, topAt, markAt, firstZeroAt, secondZeroAt, secondAt, stampAt}
 use Rattle.rules.specs.Held.{Item, itemAt, rowsBelow}
-use Rattle.rules.specs.Apply.{putItem, stampOf}
-use Rattle.rules.proofs.Types.{Settings, Effect}
+use Rattle.rules.specs.Apply.{putItem}
+use Rattle.rules.proofs.Types.{Settings, Row, Stamp, Effect}
 use Rattle.rules.proofs.Cells.{rows-pos, cell-lt}
 use Rattle.rules.proofs.counts.Sums.{upd, upd-same, upd-other}
 use Rattle.rules.proofs.counts.Stamps.{item-new, item-old}
@@ -23,28 +23,28 @@ use Rattle.rules.proofs.words.Places.{place, places-apart, item-length,
 use Rattle.rules.proofs.words.After.{CellsSay}
 
 module _ (g : Settings) (ws : List ℕ) (s : State) (says : Says g ws s) (bounds : Bounds g)
-    (i : ℕ) (lj : subIn s i < g .width) (first-few : s .first (subIn s i) ≤ 4000000000) (order : belowIn g s (subIn s i) ≤ s .first (subIn s i))
-    (e : Effect) (h : Lands g (viewIn s i) e) where
+    (i : ℕ) (lj : subIn s i < g .width) (first-few : s .first (subIn s i) ≤ stepLimit) (order : belowIn g s (subIn s i) ≤ s .first (subIn s i))
+    (value : ℕ) (at : Row) (stamp : Stamp) (e : Effect) (h : Lands g (viewIn g s i) e at) where
   abbrev j : ℕ
   j = subIn s i
 
   abbrev row : ℕ
-  row = e .row .0
+  row = at .0
 
   abbrev new : Item
-  new = record { value = e .value; stamp = e .puts }
+  new = record { value = value; stamp = stamp .0 }
 
   abbrev vs : List ℕ
-  vs = putItem ws g j (e .value) (e .row) (stampOf e)
+  vs = putItem ws g j value at stamp
 
   abbrev t : State
   t = withItem s j row new
 
   -- the words before the cells
   before : (m : ℕ) → m < cellsAt g → getD vs m 0 ≡ getD ws m 0
-  before m l = item-off ws g j (e .value) (e .row) (stampOf e) m (λ u. omega arith) (λ u. omega arith)
+  before m l = item-off ws g j value at stamp m (λ u. omega arith) (λ u. omega arith)
 
-  cell-fits : cellAt g j row + 1 < length ws
+  cell-fits : stampAt (cellAt g j row) < length ws
   cell-fits = omega (arith, says .long, cell-lt g j (sub32 row 1) bounds lj)
 
   -- a held row lies elsewhere, and is not the new one
@@ -59,25 +59,25 @@ module _ (g : Settings) (ws : List ℕ) (s : State) (says : Says g ws s) (bounds
 
   old-cell : CellsSay g vs t
   old-cell k n l a b =
-      item-there ws g j (e .value) (e .row) (stampOf e) k n (apart k n l a b)
+      item-there ws g j value at stamp k n (apart k n l a b)
       ∙ says .cell k n l a b ∙ sym (item-old (s .item) j row new k n (not-new k n b))
 
   new-cell : itemAt vs g j row ≡ t .item j row
-  new-cell = item-here ws g j (e .value) (e .row) (stampOf e) cell-fits ∙ sym (item-new (s .item) j row new)
+  new-cell = item-here ws g j value at stamp cell-fits ∙ sym (item-new (s .item) j row new)
 
   pub landed-says : Says g vs t
   landed-says =
       record {
-        long = rw (item-length ws g j (e .value) (e .row) (stampOf e)) (says .long);
+        long = rw (item-length ws g j value at stamp) (says .long);
         settings = settings-kept ∙ says .settings;
-        tenth = before 10 (omega arith) ∙ says .tenth;
-        eleventh = before 11 (omega arith) ∙ says .eleventh;
-        steps = before 6 (omega arith) ∙ says .steps;
-        puts = before 7 (omega arith) ∙ says .puts;
-        top = before 8 (omega arith) ∙ says .top;
-        mark = before 9 (omega arith) ∙ says .mark;
+        tenth = before firstZeroAt (omega arith) ∙ says .tenth;
+        eleventh = before secondZeroAt (omega arith) ∙ says .eleventh;
+        steps = before stepsAt (omega arith) ∙ says .steps;
+        puts = before putsAt (omega arith) ∙ says .puts;
+        top = before topAt (omega arith) ∙ says .top;
+        mark = before markAt (omega arith) ∙ says .mark;
         first = λ k l. before (subAt k) (omega arith) ∙ says .first k l;
-        second = λ k l. before (subAt k + 1) (omega arith) ∙ says .second k l;
+        second = λ k l. before (secondAt k) (omega arith) ∙ says .second k l;
         slot = λ m l. slot-kept ws vs (workerAt g m) (λ k a. before (workerAt g m + k) (omega arith)) ∙ says .slot m l;
         cell = old-cell;
       }
@@ -85,12 +85,12 @@ module _ (g : Settings) (ws : List ℕ) (s : State) (says : Says g ws s) (bounds
       settings-kept : settingsOf vs ≡ settingsOf ws
       settings-kept =
           λ u. record {
-            kind = before 0 (omega arith) u;
-            width = before 1 (omega arith) u;
-            depth = before 2 (omega arith) u;
-            shift = before 3 (omega arith) u;
-            rows = before 4 (omega arith) u;
-            workers = before 5 (omega arith) u;
+            kind = before kindAt (omega arith) u;
+            width = before widthAt (omega arith) u;
+            depth = before depthAt (omega arith) u;
+            shift = before shiftAt (omega arith) u;
+            rows = before rowsAt (omega arith) u;
+            workers = before workerCountAt (omega arith) u;
           }
 
   -- the held rows after it: the new one, and the old ones

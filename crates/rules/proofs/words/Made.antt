@@ -12,8 +12,8 @@ use lib.Seq.{getD-set-same, getD-set-other, sets, length-sets}
 use lib.Dec.{ltb}
 use borrow.Author.Tests.{ltb-false}
 use Rattle.laws.specs.Choice.{cond}
-use Rattle.rules.specs.Answers.{out, refuse, numberOf}
-use Rattle.rules.specs.Layout.{workersAt, workerAt, needed}
+use Rattle.rules.specs.Answers.{out, refuse, numberOf, tooFewWords, offLimits}
+use Rattle.rules.specs.Layout.{workersAt, workerAt, needed, kindAt, widthAt, depthAt, shiftAt, rowsAt, workerCountAt, stepsAt, putsAt, topAt, markAt, firstZeroAt, secondZeroAt, valueWord, indexWord, windowWord, extraWord, scanWord, seenWord, sumWord, indexAt, workerWords}
 use Rattle.rules.specs.Limits.{settingsFit}
 use Rattle.rules.specs.Worker.{slotAt}
 use Rattle.rules.specs.Make.{zeroed, newHead, indexed, madeWords, makeOf}
@@ -30,8 +30,8 @@ pub record Accepted (ws : List ℕ) (g : Settings) : Type 0 where
   pub words : makeOf ws g .words ≡ madeWords ws g
 
 accepted-by : (ws : List ℕ) (g : Settings) (a b : Bool)
-    → numberOf (cond a (cond b (refuse 21 ws) (out Moving (madeWords ws g))) (refuse 22 ws) .answer) ≡ 0
-    → (a ≡ true) × (b ≡ false) × (cond a (cond b (refuse 21 ws) (out Moving (madeWords ws g))) (refuse 22 ws) .words ≡ madeWords ws g)
+    → numberOf (cond a (cond b (refuse tooFewWords ws) (out Moving (madeWords ws g))) (refuse offLimits ws) .answer) ≡ 0
+    → (a ≡ true) × (b ≡ false) × (cond a (cond b (refuse tooFewWords ws) (out Moving (madeWords ws g))) (refuse offLimits ws) .words ≡ madeWords ws g)
 unfolding cond
 accepted-by ws g true true e = absurd (omega arith)
 accepted-by ws g true false e = (refl, refl, refl)
@@ -60,21 +60,21 @@ zeroed-at ws (suc n) m l h = elim (ℕ-discrete m n) [
 indexed-length : (ws : List ℕ) (g : Settings) (n : ℕ) → length (indexed ws g n) ≡ length ws
 unfolding indexed
 indexed-length ws g zero = refl
-indexed-length ws g (suc n) = length-set (indexed ws g n) (workerAt g n + 2) (n % g .width) ∙ indexed-length ws g n
+indexed-length ws g (suc n) = length-set (indexed ws g n) (indexAt (workerAt g n)) (n % g .width) ∙ indexed-length ws g n
 
-indexed-off : (ws : List ℕ) (g : Settings) (n m : ℕ) → ((i : ℕ) → m ≢ workerAt g i + 2) → getD (indexed ws g n) m 0 ≡ getD ws m 0
+indexed-off : (ws : List ℕ) (g : Settings) (n m : ℕ) → ((i : ℕ) → m ≢ indexAt (workerAt g i)) → getD (indexed ws g n) m 0 ≡ getD ws m 0
 unfolding indexed
 indexed-off ws g zero m h = refl
 indexed-off ws g (suc n) m h =
-    getD-set-other (indexed ws g n) (workerAt g n + 2) m (n % g .width) 0 (h n) ∙ indexed-off ws g n m h
+    getD-set-other (indexed ws g n) (indexAt (workerAt g n)) m (n % g .width) 0 (h n) ∙ indexed-off ws g n m h
 
-indexed-at : (ws : List ℕ) (g : Settings) (n i : ℕ) → workersAt g + 8 * n ≤ length ws → i < n → getD (indexed ws g n) (workerAt g i + 2) 0 ≡ i % g .width
+indexed-at : (ws : List ℕ) (g : Settings) (n i : ℕ) → workersAt g + workerWords * n ≤ length ws → i < n → getD (indexed ws g n) (indexAt (workerAt g i)) 0 ≡ i % g .width
 unfolding indexed
 indexed-at ws g zero i l h = absurd (omega arith)
 indexed-at ws g (suc n) i l h = elim (ℕ-discrete i n) [
-  | yes e ↦ rw e (getD-set-same (indexed ws g n) (workerAt g n + 2) (n % g .width) 0 (rw (indexed-length ws g n) (omega arith)))
+  | yes e ↦ rw e (getD-set-same (indexed ws g n) (indexAt (workerAt g n)) (n % g .width) 0 (rw (indexed-length ws g n) (omega arith)))
   | no ne ↦
-      getD-set-other (indexed ws g n) (workerAt g n + 2) (workerAt g i + 2) (n % g .width) 0 (λ u. ne (omega arith))
+      getD-set-other (indexed ws g n) (indexAt (workerAt g n)) (indexAt (workerAt g i)) (n % g .width) 0 (λ u. ne (omega arith))
       ∙ indexed-at ws g n i (omega arith) (omega arith)
 ]
 
@@ -95,7 +95,7 @@ module _ (ws : List ℕ) (g : Settings) (enough : needed g ≤ length ws) where
       indexed-off headed g (g .workers) m (λ i u. omega arith) ∙ (rw (zero-add m) at a)
 
   -- a needed word beyond them, but a worker's index
-  zero-word : (m : ℕ) → 10 ≤ m → m < needed g → ((i : ℕ) → m ≢ workerAt g i + 2) → getD made m 0 ≡ 0
+  zero-word : (m : ℕ) → firstZeroAt ≤ m → m < needed g → ((i : ℕ) → m ≢ indexAt (workerAt g i)) → getD made m 0 ≡ 0
   zero-word m a b h =
       indexed-off headed g (g .workers) m h
       ∙ sets-out (newHead g) (zeroed ws (needed g)) 0 m (inr (omega arith)) ∙ zeroed-at ws (needed g) m enough b
@@ -103,19 +103,19 @@ module _ (ws : List ℕ) (g : Settings) (enough : needed g ≤ length ws) where
   made-slot : (i : ℕ) → i < g .workers → slotAt made (workerAt g i) ≡ madeIn g .slot i
   unfolding slotAt madeIn
   made-slot i l =
-      let word : (k : ℕ) → k < 8 → k ≢ 2 → getD made (workerAt g i + k) 0 ≡ 0 =
+      let word : (k : ℕ) → k < workerWords → k ≢ indexWord → getD made (workerAt g i + k) 0 ≡ 0 =
       λ k a n. zero-word (workerAt g i + k) (omega arith) (omega arith) (λ m u. n (omega arith)) in
       let number : getD made (workerAt g i) 0 ≡ 0 = zero-word (workerAt g i) (omega arith) (omega arith) (λ m u. omega arith) in
       let index = indexed-at headed g (g .workers) i (rw headed-length (omega arith)) l in
       λ u. record {
         number = number u;
-        value = word 1 (omega arith) (λ z. omega arith) u;
+        value = word valueWord (omega arith) (λ z. omega arith) u;
         index = index u;
-        window = word 3 (omega arith) (λ z. omega arith) u;
-        extra = word 4 (omega arith) (λ z. omega arith) u;
-        scan = word 5 (omega arith) (λ z. omega arith) u;
-        seen = word 6 (omega arith) (λ z. omega arith) u;
-        sum = word 7 (omega arith) (λ z. omega arith) u;
+        window = word windowWord (omega arith) (λ z. omega arith) u;
+        extra = word extraWord (omega arith) (λ z. omega arith) u;
+        scan = word scanWord (omega arith) (λ z. omega arith) u;
+        seen = word seenWord (omega arith) (λ z. omega arith) u;
+        sum = word sumWord (omega arith) (λ z. omega arith) u;
       }
 
   pub made-says : Says g (madeWords ws g) (madeIn g)
@@ -124,19 +124,19 @@ module _ (ws : List ℕ) (g : Settings) (enough : needed g ≤ length ws) where
       record {
         long = rw (indexed-length headed g (g .workers), headed-length) enough;
         settings = λ u. record {
-          kind = head 0 (omega arith) u;
-          width = head 1 (omega arith) u;
-          depth = head 2 (omega arith) u;
-          shift = head 3 (omega arith) u;
-          rows = head 4 (omega arith) u;
-          workers = head 5 (omega arith) u;
+          kind = head kindAt (omega arith) u;
+          width = head widthAt (omega arith) u;
+          depth = head depthAt (omega arith) u;
+          shift = head shiftAt (omega arith) u;
+          rows = head rowsAt (omega arith) u;
+          workers = head workerCountAt (omega arith) u;
         };
-        tenth = zero-word 10 (omega arith) (omega arith) (λ i u. omega arith);
-        eleventh = zero-word 11 (omega arith) (omega arith) (λ i u. omega arith);
-        steps = head 6 (omega arith);
-        puts = head 7 (omega arith);
-        top = head 8 (omega arith);
-        mark = head 9 (omega arith);
+        tenth = zero-word firstZeroAt (omega arith) (omega arith) (λ i u. omega arith);
+        eleventh = zero-word secondZeroAt (omega arith) (omega arith) (λ i u. omega arith);
+        steps = head stepsAt (omega arith);
+        puts = head putsAt (omega arith);
+        top = head topAt (omega arith);
+        mark = head markAt (omega arith);
         first = λ j l. zero-word _ (omega arith) (omega arith) (λ i u. omega arith);
         second = λ j l. zero-word _ (omega arith) (omega arith) (λ i u. omega arith);
         slot = made-slot;

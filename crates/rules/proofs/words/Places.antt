@@ -10,7 +10,7 @@ use native.Mathlib.Omega.{arith}
 use lib.ListN.{length, getD, set, length-set}
 use lib.Seq.{getD-set-same, getD-set-other}
 use Rattle.laws.specs.Wrap.{sub32}
-use Rattle.rules.specs.Layout.{cellAt}
+use Rattle.rules.specs.Layout.{cellAt, stampAt}
 use Rattle.rules.specs.Held.{itemAt}
 use Rattle.rules.specs.Apply.{putItem}
 use Rattle.rules.proofs.Types.{Settings, Row}
@@ -69,20 +69,20 @@ module _ (ws : List ℕ) (g : Settings) (j value : ℕ) (row : Row) (stamp : Sta
   unfolding putItem
   item-length = simp length-set
 
-  pub item-off : (m : ℕ) → m ≢ at → m ≢ at + 1 → getD (putItem ws g j value row stamp) m 0 ≡ getD ws m 0
+  pub item-off : (m : ℕ) → m ≢ at → m ≢ stampAt at → getD (putItem ws g j value row stamp) m 0 ≡ getD ws m 0
   unfolding putItem
   item-off m a b = simp getD-set-other
 
-  pub item-here : at + 1 < length ws → itemAt (putItem ws g j value row stamp) g j (row .0) ≡ record { value = value; stamp = stamp .0 }
+  pub item-here : stampAt at < length ws → itemAt (putItem ws g j value row stamp) g j (row .0) ≡ record { value = value; stamp = stamp .0 }
   unfolding putItem
   item-here l =
-      let a : at ≢ at + 1 = λ u. omega arith in
-      let v : getD (set (set ws at value) (at + 1) (stamp .0)) at 0 ≡ value = simp getD-set-other (getD-set-same ws at value 0 (omega arith)) in
-      let t : getD (set (set ws at value) (at + 1) (stamp .0)) (at + 1) 0 ≡ stamp .0 = getD-set-same (set ws at value) (at + 1) (stamp .0) 0 (simp length-set l) in
+      let a : at ≢ stampAt at = λ u. omega arith in
+      let v : getD (set (set ws at value) (stampAt at) (stamp .0)) at 0 ≡ value = simp getD-set-other (getD-set-same ws at value 0 (omega arith)) in
+      let t : getD (set (set ws at value) (stampAt at) (stamp .0)) (stampAt at) 0 ≡ stamp .0 = getD-set-same (set ws at value) (stampAt at) (stamp .0) 0 (simp length-set l) in
       λ u. record { value = v u; stamp = t u }
 
   pub item-there : (k n : ℕ) → place g k n ≢ place g j (row .0) → itemAt (putItem ws g j value row stamp) g k n ≡ itemAt ws g k n
   item-there k n ne =
       let v = item-off (cellAt g k n) (λ u. ne (omega arith)) (λ u. omega arith) in
-      let t = item-off (cellAt g k n + 1) (λ u. omega arith) (λ u. ne (omega arith)) in
+      let t = item-off (stampAt (cellAt g k n)) (λ u. omega arith) (λ u. ne (omega arith)) in
       λ u. record { value = v u; stamp = t u }

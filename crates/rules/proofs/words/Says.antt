@@ -11,7 +11,7 @@ use lib.ListN.{length, getD}
 use Rattle.rules.specs.Layout.{stepsAt, putsAt, topAt, markAt, needed, settingsOf, firstOf, secondOf, workerAt}
 use Rattle.rules.specs.Worker.{slotAt}
 use Rattle.rules.specs.Held.{Item, itemAt, itemsAbove, heldSub, heldBelow, heldItems, countItems, passedOver, distanceOf}
-use Rattle.rules.proofs.Types.{Settings}
+use Rattle.rules.proofs.Types.{Settings, Stamp}
 use Rattle.rules.proofs.counts.Sums.{sumN, sum-none, sum-more, upTo, upTo-suc, bit}
 use Rattle.rules.proofs.machine.Machine.{State, belowIn, countIn, distanceIn}
 use Rattle.rules.proofs.Cells.{count-append}
@@ -72,6 +72,6 @@ pub held-same : (g : Settings) (ws : List ℕ) (s : State) → Says g ws s → (
 held-same g ws s says o p = words-count g ws s says o p (g .width) (omega arith)
 
 pub distance-same : (g : Settings) (ws : List ℕ) (s : State) → Says g ws s → ((j : ℕ) → j < g .width → belowIn g s j ≤ s .first j)
-    → (stamp : ℕ) → distanceOf ws g stamp ≡ distanceIn g s stamp
+    → (stamp : Stamp) → distanceOf ws g stamp ≡ distanceIn g s (stamp .0)
 unfolding distanceOf distanceIn
-distance-same g ws s says o stamp = held-same g ws s says o (passedOver (g .kind) stamp)
+distance-same g ws s says o stamp = held-same g ws s says o (passedOver (g .kind) (stamp .0))

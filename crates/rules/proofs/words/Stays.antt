@@ -12,19 +12,18 @@ use lib.Dec.{ltb, leb, eqb}
 use borrow.Author.Tests.{lt-ltb, ltb-true, leb-false}
 use Rattle.laws.specs.Choice.{cond, cond-true, cases}
 use Rattle.rules.specs.Answers.{Out, numberOf}
-use Rattle.rules.specs.Layout.{stepsAt, putsAt, topAt, markAt, workerAt, firstOf, secondOf}
+use Rattle.rules.specs.Layout.{stepsAt, putsAt, topAt, markAt, workerAt, firstOf, secondOf, indexAt}
 use Rattle.rules.specs.Limits.{Bounds, stepLimit}
 use Rattle.rules.specs.Worker.{slotAt, zeroSlot}
 use Rattle.rules.specs.Held.{itemAt}
 use Rattle.rules.specs.Effects.{viewOf}
-use Rattle.rules.specs.Fit.{phaseFit, checkedOf, SubFits, FitPool}
-use Rattle.rules.specs.Begin.{stepsSpent}
+use Rattle.rules.specs.Fit.{Fit, phaseFit, checkedOf, SubFits, FitPool}
+use Rattle.rules.specs.Begin.{outOfSteps}
 use Rattle.rules.specs.Apply.{takenOf, applyBy, applyOf}
 use Rattle.rules.specs.Step.{ruleOf, slotStep, fitStep}
 use Rattle.rules.proofs.Types.{Settings, Slot, Effect, Outcome, Answer}
 use Rattle.rules.specs.declared.Outcome.the-variants.{Refused as Stopped, Moving as Moves, Shifted, Landed, Removed, Empty as NoItem, Full as NoRoom}
 use Rattle.rules.specs.declared.Answer.the-variants.{Moving, Put, Taken, Empty, Full, Refused}
-use Rattle.rules.specs.declared.Checked.the-variants.{Fit}
 use Rattle.rules.proofs.Fitness.{fit-pool, fit-head, fit-number}
 use Rattle.rules.proofs.counts.Sums.{upd-same, upd-all, upd-self}
 use Rattle.rules.proofs.machine.Machine.{State, subIn, viewIn, afterIn}
@@ -105,7 +104,7 @@ module _ (ws : List ℕ) (g : Settings) (fit : checkedOf ws ≡ Fit g) where
   -- ---- a step of worker i
   module _ (i : ℕ) (li : i < g .workers) (few : getD ws stepsAt 0 < stepLimit) where
     abbrev e : Effect
-    e = ruleOf g (viewIn state i)
+    e = ruleOf g (viewIn g state i)
 
     common : Common g state
     common = record { slots = slot-fits; steps-few = omega arith }
@@ -113,7 +112,7 @@ module _ (ws : List ℕ) (g : Settings) (fit : checkedOf ws ≡ Fit g) where
     lj : subIn state i < g .width
     lj = slot-fits i .index
 
-    does : Does g (viewIn state i) e
+    does : Does g (viewIn g state i) e
     does = rule-in g bounds state common i
 
     -- nothing that came or went, and a fit slot
@@ -121,47 +120,47 @@ module _ (ws : List ℕ) (g : Settings) (fit : checkedOf ws ≡ Fit g) where
     after-common =
         record { slots = λ j. upd-all (λ m (y : Slot). SlotFits g y) slots i (e .slot) j (λ u. does .slot) (λ n. slot-fits j); steps-few = few }
 
-    after-subs : SameItems (viewIn state i) e → (j : ℕ) → j < g .width → SubFits g (afterIn state i e .first j) (afterIn state i e .second j)
+    after-subs : SameItems (viewIn g state i) e → (j : ℕ) → j < g .width → SubFits g (afterIn state i e .first j) (afterIn state i e .second j)
     after-subs same j l =
         rw (same .first, same .second, upd-self (firstOf ws) (subIn state i), upd-self (secondOf ws) (subIn state i)) (pool .sub j l)
 
-    stays : (vs : List ℕ) → SameItems (viewIn state i) e → e .slot .number ≢ 0 → Says g vs (afterIn state i e) → Stays g vs i
+    stays : (vs : List ℕ) → SameItems (viewIn g state i) e → e .slot .number ≢ 0 → Says g vs (afterIn state i e) → Stays g vs i
     stays vs same busy said =
         record {
           fit = checked-fit g (fit-head ws g fit .0) (bounds .kind1) vs (afterIn state i e) said after-common (after-subs same);
           busy = λ z. busy (ap (λ (x : Slot). x .number) (sym (upd-same slots i (e .slot))) ∙ sym (number-same g vs (afterIn state i e) said i li) ∙ z);
         }
 
-    by-outcome : (o : Outcome) → SharedAfter g (viewIn state i) e o → BusyAfter (e .slot) o
+    by-outcome : (o : Outcome) → SharedAfter g (viewIn g state i) e o → BusyAfter (e .slot) o
         → numberOf (applyBy ws g (workerAt g i) (subIn state i) e o .answer) ≡ 0 → Stays g (applyBy ws g (workerAt g i) (subIn state i) e o .words) i
     unfolding applyBy takenOf
     by-outcome (Stopped n) (inl u) busy z = absurd (omega arith)
     by-outcome (Stopped n) (inr u) busy z = absurd (omega arith)
     by-outcome Moves shared busy z = stays _ (shared .0) busy (stores-worker g ws state says i li lj few e shared)
     by-outcome Shifted shared busy z = stays _ shared busy (stores-shifted g ws state says i li lj few e shared)
-    by-outcome Landed shared busy z = absurd (omega arith)
-    by-outcome Removed shared busy z = absurd (omega arith)
+    by-outcome (Landed value row stamp) shared busy z = absurd (omega arith)
+    by-outcome (Removed row) shared busy z = absurd (omega arith)
     by-outcome NoItem shared busy z = absurd (omega arith)
     by-outcome NoRoom shared busy z = absurd (omega arith)
 
-    numbered-by : (o : Outcome) → SharedAfter g (viewIn state i) e o → Numbered (applyBy ws g (workerAt g i) (subIn state i) e o .answer)
+    numbered-by : (o : Outcome) → SharedAfter g (viewIn g state i) e o → Numbered (applyBy ws g (workerAt g i) (subIn state i) e o .answer)
     unfolding applyBy takenOf
     numbered-by (Stopped n) (inl u) = omega arith
     numbered-by (Stopped n) (inr u) = omega arith
     numbered-by Moves shared = tt
     numbered-by Shifted shared = tt
-    numbered-by Landed shared = tt
-    numbered-by Removed shared = tt
+    numbered-by (Landed value row stamp) shared = tt
+    numbered-by (Removed row) shared = tt
     numbered-by NoItem shared = tt
     numbered-by NoRoom shared = tt
 
-    rule-numbered : Numbered (applyOf ws g (workerAt g i) (getD ws (workerAt g i + 2) 0) (ruleOf g (viewOf ws (workerAt g i))) .answer)
+    rule-numbered : Numbered (applyOf ws g (workerAt g i) (getD ws (indexAt (workerAt g i)) 0) (ruleOf g (viewOf ws g (workerAt g i))) .answer)
     unfolding applyOf
     rule-numbered =
         rw (view-same g ws state says i li lj, index-same g ws state says i li) (numbered-by (e .outcome) (does .shared))
 
-    rule-stays : numberOf (applyOf ws g (workerAt g i) (getD ws (workerAt g i + 2) 0) (ruleOf g (viewOf ws (workerAt g i))) .answer) ≡ 0
-        → Stays g (applyOf ws g (workerAt g i) (getD ws (workerAt g i + 2) 0) (ruleOf g (viewOf ws (workerAt g i))) .words) i
+    rule-stays : numberOf (applyOf ws g (workerAt g i) (getD ws (indexAt (workerAt g i)) 0) (ruleOf g (viewOf ws g (workerAt g i))) .answer) ≡ 0
+        → Stays g (applyOf ws g (workerAt g i) (getD ws (indexAt (workerAt g i)) 0) (ruleOf g (viewOf ws g (workerAt g i))) .words) i
     unfolding applyOf
     rule-stays =
         rw (view-same g ws state says i li lj, index-same g ws state says i li)
@@ -172,7 +171,7 @@ module _ (ws : List ℕ) (g : Settings) (fit : checkedOf ws ≡ Fit g) where
   step-stays i =
       cases After (leb (g .workers) i) _ _ (λ a z. absurd (omega arith))
       (λ a. cases After (eqb (getD ws (workerAt g i) 0) 0) _ _ (λ b z. absurd (omega arith))
-      (λ b. cases After (stepsSpent ws) _ _ (λ c z. absurd (omega arith)) (λ c. rule-stays i (leb-false _ _ a) (leb-false _ _ c))))
+      (λ b. cases After (outOfSteps ws) _ _ (λ c z. absurd (omega arith)) (λ c. rule-stays i (leb-false _ _ a) (leb-false _ _ c))))
     where
       After : Out → Type 0
       After o = numberOf (o .answer) ≡ 0 → Stays g (o .words) i
@@ -182,7 +181,7 @@ module _ (ws : List ℕ) (g : Settings) (fit : checkedOf ws ≡ Fit g) where
   step-numbered i =
       cases Of (leb (g .workers) i) _ _ (λ a. omega arith)
       (λ a. cases Of (eqb (getD ws (workerAt g i) 0) 0) _ _ (λ b. omega arith)
-      (λ b. cases Of (stepsSpent ws) _ _ (λ c. omega arith) (λ c. rule-numbered i (leb-false _ _ a) (leb-false _ _ c))))
+      (λ b. cases Of (outOfSteps ws) _ _ (λ c. omega arith) (λ c. rule-numbered i (leb-false _ _ a) (leb-false _ _ c))))
     where
       Of : Out → Type 0
       Of o = Numbered (o .answer)

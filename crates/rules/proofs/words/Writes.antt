@@ -8,7 +8,7 @@ use native.Mathlib.Omega.{arith}
 use lib.ListN.{length, getD, set, length-set}
 use lib.Seq.{getD-set-same, getD-set-other, set-getD, length-sets}
 use Rattle.laws.specs.Wrap.{add32}
-use Rattle.rules.specs.Layout.{stepsAt, putsAt, topAt, markAt, subAt}
+use Rattle.rules.specs.Layout.{stepsAt, putsAt, topAt, markAt, subAt, phaseWord, valueWord, indexWord, windowWord, extraWord, scanWord, seenWord, sumWord, secondAt, workerWords}
 use Rattle.rules.specs.Worker.{slotAt, putSlot, wordsOf}
 use Rattle.rules.specs.Apply.{putSub, putShifted, putWorker}
 use Rattle.rules.proofs.Types.{Slot, Effect}
@@ -19,29 +19,29 @@ pub slot-length : (ws : List ℕ) (at : ℕ) (x : Slot) → length (putSlot ws a
 unfolding putSlot
 slot-length ws at x = length-sets ws at (wordsOf x)
 
-pub slot-off : (ws : List ℕ) (at : ℕ) (x : Slot) (m : ℕ) → (m < at) ⊎ (at + 8 ≤ m) → getD (putSlot ws at x) m 0 ≡ getD ws m 0
+pub slot-off : (ws : List ℕ) (at : ℕ) (x : Slot) (m : ℕ) → (m < at) ⊎ (at + workerWords ≤ m) → getD (putSlot ws at x) m 0 ≡ getD ws m 0
 unfolding putSlot
 slot-off ws at x m o = sets-out (wordsOf x) ws at m o
 
-pub slot-on : (ws : List ℕ) (at : ℕ) (x : Slot) → at + 8 ≤ length ws → slotAt (putSlot ws at x) at ≡ x
+pub slot-on : (ws : List ℕ) (at : ℕ) (x : Slot) → at + workerWords ≤ length ws → slotAt (putSlot ws at x) at ≡ x
 unfolding putSlot slotAt
 slot-on ws at x l =
-    let word : (k : ℕ) → k < 8 → getD (putSlot ws at x) (at + k) 0 ≡ getD (wordsOf x) k 0 = λ k m. sets-in (wordsOf x) ws at k m l in
+    let word : (k : ℕ) → k < workerWords → getD (putSlot ws at x) (at + k) 0 ≡ getD (wordsOf x) k 0 = λ k m. sets-in (wordsOf x) ws at k m l in
     let e : at + 0 ≡ at = omega arith in
-    let first : getD (putSlot ws at x) at 0 ≡ x .number = rw e at (word 0 (omega arith)) in
+    let first : getD (putSlot ws at x) at 0 ≡ x .number = rw e at (word phaseWord (omega arith)) in
     λ u. record {
       number = first u;
-      value = word 1 (omega arith) u;
-      index = word 2 (omega arith) u;
-      window = word 3 (omega arith) u;
-      extra = word 4 (omega arith) u;
-      scan = word 5 (omega arith) u;
-      seen = word 6 (omega arith) u;
-      sum = word 7 (omega arith) u;
+      value = word valueWord (omega arith) u;
+      index = word indexWord (omega arith) u;
+      window = word windowWord (omega arith) u;
+      extra = word extraWord (omega arith) u;
+      scan = word scanWord (omega arith) u;
+      seen = word seenWord (omega arith) u;
+      sum = word sumWord (omega arith) u;
     }
 
 -- a worker whose eight words are as they were
-pub slot-kept : (ws vs : List ℕ) (at : ℕ) → ((k : ℕ) → k < 8 → getD vs (at + k) 0 ≡ getD ws (at + k) 0) → slotAt vs at ≡ slotAt ws at
+pub slot-kept : (ws vs : List ℕ) (at : ℕ) → ((k : ℕ) → k < workerWords → getD vs (at + k) 0 ≡ getD ws (at + k) 0) → slotAt vs at ≡ slotAt ws at
 unfolding slotAt
 slot-kept ws vs at h =
     let e : at + 0 ≡ at = omega arith in
@@ -75,39 +75,39 @@ module _ (ws : List ℕ) (j : ℕ) (e : Effect) where
   firsts = set marked (subAt j) (e .first)
 
   abbrev pub sharedSet : List ℕ
-  sharedSet = set firsts (subAt j + 1) (e .second)
+  sharedSet = set firsts (secondAt j) (e .second)
 
-  shared-off : (m : ℕ) → m ≢ 7 → m ≢ 8 → m ≢ 9 → m ≢ subAt j → m ≢ subAt j + 1 → getD sharedSet m 0 ≡ getD ws m 0
+  shared-off : (m : ℕ) → m ≢ putsAt → m ≢ topAt → m ≢ markAt → m ≢ subAt j → m ≢ secondAt j → getD sharedSet m 0 ≡ getD ws m 0
   shared-off m b c d f h = simp getD-set-other
 
   shared-length : length sharedSet ≡ length ws
   shared-length = simp length-set
 
-  module _ (long : subAt j + 1 < length ws) where
+  module _ (long : secondAt j < length ws) where
     shared-puts : getD sharedSet 7 0 ≡ e .puts
     shared-puts =
-        let b : Apart 7 8 = λ u. omega arith in let c : Apart 7 9 = λ u. omega arith in
-        let d : Apart 7 (subAt j) = λ u. omega arith in let f : Apart 7 (subAt j + 1) = λ u. omega arith in
+        let b : Apart putsAt 8 = λ u. omega arith in let c : Apart putsAt 9 = λ u. omega arith in
+        let d : Apart putsAt (subAt j) = λ u. omega arith in let f : Apart putsAt (secondAt j) = λ u. omega arith in
         simp getD-set-other (getD-set-same ws 7 (e .puts) 0 (omega arith))
 
     shared-top : getD sharedSet 8 0 ≡ e .top
     shared-top =
-        let c : Apart 8 9 = λ u. omega arith in
-        let d : Apart 8 (subAt j) = λ u. omega arith in let f : Apart 8 (subAt j + 1) = λ u. omega arith in
+        let c : Apart topAt 9 = λ u. omega arith in
+        let d : Apart topAt (subAt j) = λ u. omega arith in let f : Apart topAt (secondAt j) = λ u. omega arith in
         simp getD-set-other (getD-set-same stamped 8 (e .top) 0 (simp length-set (omega arith)))
 
     shared-mark : getD sharedSet 9 0 ≡ e .mark
     shared-mark =
-        let d : Apart 9 (subAt j) = λ u. omega arith in let f : Apart 9 (subAt j + 1) = λ u. omega arith in
+        let d : Apart markAt (subAt j) = λ u. omega arith in let f : Apart markAt (secondAt j) = λ u. omega arith in
         simp getD-set-other (getD-set-same topped 9 (e .mark) 0 (simp length-set (omega arith)))
 
     shared-first : getD sharedSet (subAt j) 0 ≡ e .first
     shared-first =
-        let f : Apart (subAt j) (subAt j + 1) = λ u. omega arith in
+        let f : Apart (subAt j) (secondAt j) = λ u. omega arith in
         simp getD-set-other (getD-set-same marked (subAt j) (e .first) 0 (simp length-set (omega arith)))
 
-    shared-second : getD sharedSet (subAt j + 1) 0 ≡ e .second
-    shared-second = getD-set-same firsts (subAt j + 1) (e .second) 0 (simp length-set (omega arith))
+    shared-second : getD sharedSet (secondAt j) 0 ≡ e .second
+    shared-second = getD-set-same firsts (secondAt j) (e .second) 0 (simp length-set (omega arith))
 
 -- ---- an outcome that leaves some of them alone stores the others: to store those too, as they are, would change nothing
 set-kept : (xs : List ℕ) (m x : ℕ) → getD xs m 0 ≡ x → set xs m x ≡ xs
@@ -121,30 +121,30 @@ module _ (ws : List ℕ) (j : ℕ) (e : Effect) where
   SameTop = (getD ws topAt 0 ≡ e .top) × (getD ws markAt 0 ≡ e .mark)
 
   abbrev pub SameSub : Type 0
-  SameSub = (getD ws (subAt j) 0 ≡ e .first) × (getD ws (subAt j + 1) 0 ≡ e .second)
+  SameSub = (getD ws (subAt j) 0 ≡ e .first) × (getD ws (secondAt j) 0 ≡ e .second)
 
   pub still-shared : SamePuts → SameTop → SameSub → ws ≡ sharedSet ws j e
   still-shared p t f =
       let b = set-kept ws 8 (e .top) (t .0) in
       let c = set-kept ws 9 (e .mark) (t .1) in
       let d = set-kept ws (subAt j) (e .first) (f .0) in
-      let k = set-kept ws (subAt j + 1) (e .second) (f .1) in
+      let k = set-kept ws (secondAt j) (e .second) (f .1) in
       rw (set-kept ws 7 (e .puts) p, b, c, d, k) refl
 
   pub shifted-shared : SamePuts → SameSub → putShifted ws e ≡ sharedSet ws j e
   unfolding putShifted
   shifted-shared p f =
       let moved : List ℕ = set (set ws 8 (e .top)) 9 (e .mark) in
-      let off : (m : ℕ) → m ≢ 8 → m ≢ 9 → getD moved m 0 ≡ getD ws m 0 = λ m y z. simp getD-set-other in
+      let off : (m : ℕ) → m ≢ topAt → m ≢ markAt → getD moved m 0 ≡ getD ws m 0 = λ m y z. simp getD-set-other in
       let d : set moved (subAt j) (e .first) ≡ moved = set-kept moved (subAt j) (e .first) (off (subAt j) (λ u. omega arith) (λ u. omega arith) ∙ f .0) in
-      let k : set moved (subAt j + 1) (e .second) ≡ moved =
-      set-kept moved (subAt j + 1) (e .second) (off (subAt j + 1) (λ u. omega arith) (λ u. omega arith) ∙ f .1) in
+      let k : set moved (secondAt j) (e .second) ≡ moved =
+      set-kept moved (secondAt j) (e .second) (off (secondAt j) (λ u. omega arith) (λ u. omega arith) ∙ f .1) in
       rw (set-kept ws 7 (e .puts) p, d, k) refl
 
   pub landed-shared : SameTop → putSub (set ws putsAt (e .puts)) j e ≡ sharedSet ws j e
   unfolding putSub
   landed-shared t =
-      let off : (m : ℕ) → m ≢ 7 → getD (stamped ws j e) m 0 ≡ getD ws m 0 = λ m y. simp getD-set-other in
+      let off : (m : ℕ) → m ≢ putsAt → getD (stamped ws j e) m 0 ≡ getD ws m 0 = λ m y. simp getD-set-other in
       let b : topped ws j e ≡ stamped ws j e = set-kept (stamped ws j e) 8 (e .top) (off 8 (λ u. omega arith) ∙ t .0) in
       let c : set (stamped ws j e) 9 (e .mark) ≡ stamped ws j e = set-kept (stamped ws j e) 9 (e .mark) (off 9 (λ u. omega arith) ∙ t .1) in
       rw (b, c) refl
@@ -171,18 +171,18 @@ module _ (ws : List ℕ) (at j : ℕ) (e : Effect) where
   unfolding putWorker
   all-length = slot-length counted at (e .slot) ∙ length-set shared 6 _ ∙ shared-length ws j e
 
-  pub all-off : (m : ℕ) → m ≢ 6 → m ≢ 7 → m ≢ 8 → m ≢ 9 → m ≢ subAt j → m ≢ subAt j + 1 → (m < at) ⊎ (at + 8 ≤ m) → getD allSet m 0 ≡ getD ws m 0
+  pub all-off : (m : ℕ) → m ≢ stepsAt → m ≢ putsAt → m ≢ topAt → m ≢ markAt → m ≢ subAt j → m ≢ secondAt j → (m < at) ⊎ (at + workerWords ≤ m) → getD allSet m 0 ≡ getD ws m 0
   unfolding putWorker
   all-off m a b c d f h o = slot-off counted at (e .slot) m o ∙ simp getD-set-other
 
-  module _ (above : subAt j + 1 < at) (long : at + 8 ≤ length ws) where
+  module _ (above : secondAt j < at) (long : at + workerWords ≤ length ws) where
     pub all-steps : getD allSet stepsAt 0 ≡ add32 (getD ws stepsAt 0) 1
     unfolding putWorker
     all-steps =
         slot-off counted at (e .slot) 6 (inl (omega arith)) ∙ getD-set-same shared 6 _ 0 (simp length-set (omega arith))
         ∙ ap (λ (x : ℕ). add32 x 1) (shared-off ws j e 6 (λ u. omega arith) (λ u. omega arith) (λ u. omega arith) (λ u. omega arith) (λ u. omega arith))
 
-    shared-at : (m : ℕ) → m ≢ 6 → m < at → getD allSet m 0 ≡ getD shared m 0
+    shared-at : (m : ℕ) → m ≢ stepsAt → m < at → getD allSet m 0 ≡ getD shared m 0
     unfolding putWorker
     shared-at m a l = slot-off counted at (e .slot) m (inl l) ∙ simp getD-set-other
 
@@ -198,8 +198,8 @@ module _ (ws : List ℕ) (at j : ℕ) (e : Effect) where
     pub all-first : getD allSet (subAt j) 0 ≡ e .first
     all-first = shared-at (subAt j) (λ u. omega arith) (omega arith) ∙ shared-first ws j e (omega arith)
 
-    pub all-second : getD allSet (subAt j + 1) 0 ≡ e .second
-    all-second = shared-at (subAt j + 1) (λ u. omega arith) (omega arith) ∙ shared-second ws j e (omega arith)
+    pub all-second : getD allSet (secondAt j) 0 ≡ e .second
+    all-second = shared-at (secondAt j) (λ u. omega arith) (omega arith) ∙ shared-second ws j e (omega arith)
 
     pub all-slot : slotAt allSet at ≡ e .slot
     unfolding putWorker

@@ -1,63 +1,29 @@
 -- `fitness::subs::sub_fit` meets its contract: the kind picks the same branch of `subFit`.
-use borrow.Author.Needs.{needs}
 use borrow.Author.Tests.{eq-eqb, ne-eqb}
-use mathlib.Core.Path.{refl}
+use mathlib.Core.Path.{_∙_}
 use Rattle.laws.specs.Choice.{cond}
 use Rattle.rules.specs.Fit.{subFit}
+use borrow.Author.Needs.{needs}
 use Rattle.fitness.proofs.subs.sub_fit.Statement.{statement}
 use Rattle.fitness.proofs.subs.sub_fit.Tie as tie
 
-mul-sub : tie.Need-mul-sub
-mul-sub c = search needs
-
-add-sub : tie.Need-add-sub
-add-sub c = search needs
-
-mul-queue-fit : tie.Need-mul-queue-fit
-mul-queue-fit c = search needs
-
-shared-slice-read-queue-fit : tie.Need-shared-slice-read-queue-fit
-shared-slice-read-queue-fit c = search needs
-
-add-queue-fit : tie.Need-add-queue-fit
-add-queue-fit c = search needs
-
-mul-queue-fit-2 : tie.Need-mul-queue-fit-2
-mul-queue-fit-2 c = search needs
-
-shared-slice-read-queue-fit-2 : tie.Need-shared-slice-read-queue-fit-2
-shared-slice-read-queue-fit-2 c = search needs
+sub-of-requires : tie.Need-sub-of-requires
+sub-of-requires c κs = search needs
 
 queue-fit-requires : tie.Need-queue-fit-requires
 queue-fit-requires c κs = search needs
 
 returns : tie.Need-returns
 unfolding subFit cond
-returns c = rw (eq-eqb _ _ (c .before .before .before .if1 .taken)) (c .queue-fit .ensures)
+returns c = rw (eq-eqb _ _ (c .before .before .if1 .taken)) (c .queue-fit .ensures ∙ simp (c .before .sub-of .ensures .0, c .before .sub-of .ensures .1))
 
-mul-result : tie.Need-mul-result
-mul-result c = search needs
-
-shared-slice-read-result : tie.Need-shared-slice-read-result
-shared-slice-read-result c = search needs
+sub-of-requires-2 : tie.Need-sub-of-requires-2
+sub-of-requires-2 c κs = search needs
 
 returns-2 : tie.Need-returns-2
 unfolding subFit cond
-returns-2 c = rw (ne-eqb _ _ (c .before .before .if1 .left)) refl
+returns-2 c = rw (ne-eqb _ _ (c .before .before .before .if1 .left)) (simp (c .before .before .sub-of2 .ensures .0))
 
 pub sub-fit-spec : {M : Type 1} → statement M
 sub-fit-spec =
-    tie.close
-    (tie.spec
-    mul-sub
-    add-sub
-    mul-queue-fit
-    shared-slice-read-queue-fit
-    add-queue-fit
-    mul-queue-fit-2
-    shared-slice-read-queue-fit-2
-    queue-fit-requires
-    returns
-    mul-result
-    shared-slice-read-result
-    returns-2)
+    tie.close (tie.spec sub-of-requires queue-fit-requires returns sub-of-requires-2 returns-2)

@@ -1,40 +1,40 @@
--- `fitness::workers::queue_phase_fit` meets its contract: each number of the match is a phase; of the others, one up to 14 is a 3, a 6, a 7, an 8 or
--- an 11.
-use borrow.Author.Tests.{ltb-false, eqb-false}
+-- `fitness::workers::queue_phase_fit` meets its contract: each number of the match is a phase. No other is: above 14 none is, and up to 14 the test of each
+-- number computes.
+use borrow.Author.Tests.{ltb-false}
 use native.Mathlib.Omega.{arith}
-use mathlib.Core.Path.{_≡_, refl, sym}
-use mathlib.Core.Logic.{_≢_}
-use mathlib.Core.Bool.{Bool, false}
-use Prim.Native.Nat.{ℕ, suc, _≤_}
+use mathlib.Core.Path.{_≡_, refl, sym, _∙_}
+use mathlib.Core.Bool.{Bool, true, false, not, _||_, false≢true}
+use Prim.Native.Nat.{ℕ, _<_}
 use lib.Dec.{ltb, eqb}
-use Rattle.laws.specs.Choice.{cond, cases}
+use Rattle.laws.specs.Choice.{cond, allBelow, allBelow-at}
+use Rattle.laws.specs.Tests.{tests}
 use Rattle.rules.specs.Fit.{phaseFit}
 use Rattle.fitness.proofs.workers.queue_phase_fit.Statement.{statement}
 use Rattle.fitness.proofs.workers.queue_phase_fit.Tie as tie
 
-abbrev F : Bool → Type 0
-F r = r ≡ false
+-- a number of the match
+matched : ℕ → Bool
+matched x = eqb x 0 || eqb x 1 || eqb x 2 || eqb x 4 || eqb x 5 || eqb x 9 || eqb x 10 || eqb x 12 || eqb x 13 || eqb x 14
 
-above : (k x : ℕ) → k ≤ x → x ≢ k → suc k ≤ x
-above k x h n = omega arith
+-- a phase only where the match has it
+only : ℕ → Bool
+only x = not (phaseFit 0 x) || matched x
 
-not-both : (x : ℕ) → 15 ≤ x → x ≤ 14 → ⊥
-not-both x a b = omega arith
+up-to-14 : (x : ℕ) → x < 15 → only x ≡ true
+unfolding only matched phaseFit cond allBelow
+up-to-14 x h = allBelow-at 15 only x h refl
 
-no-phase : (x : ℕ) → x ≢ 0 → x ≢ 1 → x ≢ 2 → x ≢ 4 → x ≢ 5 → x ≢ 9 → x ≢ 10 → x ≢ 12 → x ≢ 13 → x ≢ 14 → phaseFit 0 x ≡ false
-unfolding phaseFit
-no-phase x n0 n1 n2 n4 n5 n9 n10 n12 n13 n14 =
-    cases F (ltb 14 x) _ _ (λ e. refl)
-    (λ few. cases F (eqb x 7) _ _ (λ e. refl)
-    (λ a. cases F (eqb x 8) _ _ (λ e. refl)
-    (λ b. cases F (eqb 0 0) _ _
-    (λ e. cases F (eqb x 3) _ _ (λ e. refl)
-    (λ c. cases F (eqb x 6) _ _ (λ e. refl)
-    (λ d. cases F (eqb x 11) _ _ (λ e. refl)
-    (λ e. absurd (not-both x
-    (above 14 x (above 13 x (above 12 x (above 11 x (above 10 x (above 9 x (above 8 x (above 7 x (above 6 x (above 5 x (above 4 x (above 3 x (above 2 x (above 1 x (above 0 x (omega arith) n0) n1) n2) (eqb-false x 3 c)) n4) n5) (eqb-false x 6 d)) (eqb-false x 7 a)) (eqb-false x 8 b)) n9) n10) (eqb-false x 11 e)) n12) n13) n14)
-    (ltb-false 14 x few))))))
-    (λ e. absurd (eqb-false 0 0 e refl)))))
+unmatched : (a b : Bool) → not a || b ≡ true → b ≡ false → a ≡ false
+unmatched true b e f = absurd (false≢true (sym f ∙ e))
+unmatched false b e f = refl
+
+no-phase : (x : ℕ) → matched x ≡ false → phaseFit 0 x ≡ false
+unfolding only phaseFit cond
+no-phase x f = go (ltb 14 x) refl
+  where
+    go : (b : Bool) → ltb 14 x ≡ b → phaseFit 0 x ≡ false
+    go true e = rw e refl
+    go false e = unmatched (phaseFit 0 x) (matched x) (up-to-14 x (omega (arith, ltb-false 14 x e))) f
 
 returns : tie.Need-returns
 unfolding phaseFit cond
@@ -77,7 +77,8 @@ unfolding phaseFit cond
 returns-10 c = simp (c .match .keys10)
 
 returns-11 : tie.Need-returns-11
-returns-11 c = sym (no-phase _ (c .match .rest .0 .0 .0 .0 .0 .0 .0 .0 .0 .1) (c .match .rest .0 .0 .0 .0 .0 .0 .0 .0 .1) (c .match .rest .0 .0 .0 .0 .0 .0 .0 .1) (c .match .rest .0 .0 .0 .0 .0 .0 .1) (c .match .rest .0 .0 .0 .0 .0 .1) (c .match .rest .0 .0 .0 .0 .1) (c .match .rest .0 .0 .0 .1) (c .match .rest .0 .0 .1) (c .match .rest .0 .1) (c .match .rest .1))
+unfolding matched
+returns-11 c = sym (no-phase _ (search tests))
 
 pub queue-phase-fit-spec : {M : Type 1} → statement M
 queue-phase-fit-spec =

@@ -7,49 +7,34 @@ use mathlib.Core.Bool.{true}
 use borrow.Author.Tests.{not-false, not-true}
 use lib.ListN.{getD}
 use Rattle.laws.specs.Choice.{allBelow, allBelow-fails, allBelow-more, allBelow-none}
-use Rattle.rules.specs.Layout.{workerAt}
+use Rattle.rules.specs.Layout.{workerWords, workerAt}
 use Rattle.rules.specs.Fit.{wordFit, workersFit}
 use Rattle.fitness.proofs.workers.workers_fit.Statement.{statement}
 use Rattle.fitness.proofs.workers.workers_fit.Tie as tie
 
 abbrev Inv-loop : tie.InvT-loop
-Inv-loop words g base n fit₀ i k₀ fit k = (k ≤ 8) × (fit ≡ true) × (allBelow k (λ k. wordFit g k (getD words (workerAt g i + k) 0)) ≡ true)
+Inv-loop words g n fit₀ i at k₀ fit k = (k ≤ workerWords) × (fit ≡ true) × (allBelow k (λ k. wordFit g k (getD words (at + k) 0)) ≡ true)
 
 abbrev μ-loop : tie.MeasureT-loop
-μ-loop words g base n fit₀ i k₀ fit k = 8 - k
+μ-loop words g n fit₀ i at k₀ fit k = workerWords - k
 
 abbrev Inv-workers : tie.InvT-workers
-Inv-workers words g base n fit₀ i₀ fit i = (i ≤ g .workers) × (fit ≡ true) × (allBelow i (λ i. allBelow 8 (λ k. wordFit g k (getD words (workerAt g i + k) 0))) ≡ true)
+Inv-workers words g n fit₀ i₀ fit i = (i ≤ n) × (fit ≡ true) × (allBelow i (λ i. allBelow workerWords (λ k. wordFit g k (getD words (workerAt g i + k) 0))) ≡ true)
 
 abbrev μ-workers : tie.MeasureT-workers
-μ-workers words g base n fit₀ i₀ fit i = g .workers - i
-
-cast-base : tie.Need-cast-base Inv-loop μ-loop Inv-workers μ-workers
-cast-base c = search needs
-
-mul-base : tie.Need-mul-base Inv-loop μ-loop Inv-workers μ-workers
-mul-base c = search needs
-
-add-base : tie.Need-add-base Inv-loop μ-loop Inv-workers μ-workers
-add-base c = search needs
-
-cast-n : tie.Need-cast-n Inv-loop μ-loop Inv-workers μ-workers
-cast-n c = search needs
+μ-workers words g n fit₀ i₀ fit i = n - i
 
 workers-holds : tie.Need-workers-holds Inv-loop μ-loop Inv-workers μ-workers
 workers-holds c = search (needs, allBelow-none)
 
+worker-at-requires : tie.Need-worker-at-requires Inv-loop μ-loop Inv-workers μ-workers
+worker-at-requires c κs = search needs
+
 loop-holds : tie.Need-loop-holds Inv-loop μ-loop Inv-workers μ-workers
 loop-holds c = search (needs, allBelow-none)
 
-mul-at : tie.Need-mul-at Inv-loop μ-loop Inv-workers μ-workers
-mul-at c = search needs
-
-add-at : tie.Need-add-at Inv-loop μ-loop Inv-workers μ-workers
-add-at c = search needs
-
-add-at-2 : tie.Need-add-at-2 Inv-loop μ-loop Inv-workers μ-workers
-add-at-2 c = search needs
+add-x : tie.Need-add-x Inv-loop μ-loop Inv-workers μ-workers
+add-x c = search needs
 
 mul-x : tie.Need-mul-x Inv-loop μ-loop Inv-workers μ-workers
 mul-x c = search needs
@@ -79,22 +64,22 @@ workers-less c = search needs
 
 workers-again : tie.Need-workers-again Inv-loop μ-loop Inv-workers μ-workers
 workers-again c =
-    let all : c .before .loop .k ≡ 8 = omega arith in
-    (omega arith, c .before .loop .inv .1, allBelow-more _ _ (c .before .before .before .workers .inv .2) (rw all at (c .before .loop .inv .2)))
+    let l = c .before .loop in
+    let all : l .k ≡ workerWords = omega arith in
+    (omega arith, l .inv .1, allBelow-more _ _ (c .before .before .before .before .workers .inv .2) (rw (all, c .before .before .worker-at .ensures) at (l .inv .2)))
 
 returns : tie.Need-returns Inv-loop μ-loop Inv-workers μ-workers
 unfolding workersFit
 returns c =
-    let all : c .before .workers .i ≡ c .before .before .before .before .before .args .g .workers = omega arith in
+    let all : c .before .workers .i ≡ c .before .before .before .args .g .workers = omega arith in
     c .before .workers .inv .1 ∙ sym (rw all at (c .before .workers .inv .2))
 
 returns-2 : tie.Need-returns-2 Inv-loop μ-loop Inv-workers μ-workers
 unfolding workersFit
 returns-2 c =
-    let l = c .before .before .before .before .loop in
-    sym
-    (allBelow-fails _ _ (c .before .before .before .before .before .before .workers .i) (omega arith)
-    (allBelow-fails 8 _ (l .k) (omega arith) (sym (c .before .word-fit .ensures) ∙ not-true _ (c .if1 .taken))))
+    let w = c .before .before .before .before .before in
+    let unfit = sym (c .before .word-fit .ensures) ∙ not-true _ (c .if1 .taken) in
+    sym (allBelow-fails _ _ (w .before .before .workers .i) (omega arith) (allBelow-fails workerWords _ (c .before .before .before .before .loop .k) (omega arith) (rw (w .worker-at .ensures) at unfit)))
 
 pub workers-fit-spec : {M : Type 1} → statement M
 workers-fit-spec =
@@ -104,15 +89,10 @@ workers-fit-spec =
     μ-loop
     Inv-workers
     μ-workers
-    cast-base
-    mul-base
-    add-base
-    cast-n
     workers-holds
+    worker-at-requires
     loop-holds
-    mul-at
-    add-at
-    add-at-2
+    add-x
     mul-x
     shared-slice-read-x
     word-fit-requires

@@ -1,29 +1,11 @@
 -- `lines::line::put_digits` meets its contract. The digits that are left to put, put before what is there, are always the whole number put before `end`;
 -- below 10 one is left. The measure is the number that is left. Assumes nothing.
-use Prim.Native.Nat.{_≤_}
-use mathlib.Core.Path.{_≡_, sym, _∙_}
-use native.Mathlib.Omega.{arith}
-use borrow.Author.Needs.{needs}
-use lib.ListN.{length}
-use Rattle.lines.specs.Lines.{decimal}
-use Rattle.lines.specs.Area.{putBefore}
-use Rattle.lines.proofs.Area.{put-byte}
-use Rattle.lines.proofs.Decimal.{one-digit, more-digits, decimal-least}
-use Prim.Native.Nat.{_+_, _/_, _%_, _≤_}
+use Prim.Native.Nat.{_+_, _/_, _≤_}
 use mathlib.Core.Path.{_≡_, sym, ap, _∙_}
 use native.Mathlib.Omega.{arith}
 use borrow.Author.Needs.{needs}
 use lib.ListN.{length, length-append, length-set}
-use Rattle.lines.specs.Lines.{decimal}
-use Rattle.lines.specs.Area.{putBefore}
-use Rattle.lines.proofs.Area.{put-byte, put-snoc}
-use Rattle.lines.proofs.Decimal.{one-digit, more-digits, decimal-least}
-use Prim.Native.Nat.{_+_, _/_, _%_, _≤_}
-use mathlib.Core.Path.{_≡_, sym, ap, _∙_}
-use native.Mathlib.Omega.{arith}
-use borrow.Author.Needs.{needs}
-use lib.ListN.{length, length-append, length-set}
-use Rattle.lines.specs.Lines.{decimal}
+use Rattle.lines.specs.Lines.{digit, decimal}
 use Rattle.lines.specs.Area.{putBefore}
 use Rattle.lines.proofs.Area.{put-byte, put-snoc}
 use Rattle.lines.proofs.Decimal.{one-digit, more-digits, decimal-least}
@@ -64,7 +46,7 @@ loop-again c =
       simp length-set (omega arith),
       simp length-set (l .inv .1),
       omega arith,
-      sym (put-snoc (l .area) (l .at) (decimal (l .rest / 10)) (48 + l .rest % 10) shorter (l .inv .0)) ∙ (rw more at (l .inv .3)),
+      sym (put-snoc (l .area) (l .at) (decimal (l .rest / 10)) (digit (l .rest)) shorter (l .inv .0)) ∙ (rw more at (l .inv .3)),
     )
 
 sub-at-2 : tie.Need-sub-at-2 Inv-loop μ-loop
@@ -86,7 +68,7 @@ returns : tie.Need-returns Inv-loop μ-loop
 returns c =
     let l = c .before .loop in
     let least = decimal-least (l .rest) in
-    sym (put-byte (l .area) (l .at) (48 + l .rest % 10) (omega arith) (l .inv .0)) ∙ (rw (one-digit (l .rest) (c .loop-test .left)) at (l .inv .3))
+    sym (put-byte (l .area) (l .at) (digit (l .rest)) (omega arith) (l .inv .0)) ∙ (rw (one-digit (l .rest) (c .loop-test .left)) at (l .inv .3))
 
 pub put-digits-spec : {M : Type 1} → statement M
 put-digits-spec =

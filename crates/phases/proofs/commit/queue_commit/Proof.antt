@@ -1,34 +1,61 @@
--- `phases::commit::queue_commit` meets its contract: at each return the tests that led there pick the same branch of the definition.
+-- `phases::commit::queue_commit` meets its contract: at each side the arguments of `commit_by` are those of `queueCommit`.
 use mathlib.Core.Path.{_∙_}
 use borrow.Author.Needs.{needs}
+use Rattle.rules.specs.Commit.{queueCommit}
 use Rattle.phases.proofs.commit.queue_commit.Statement.{statement}
 use Rattle.phases.proofs.commit.queue_commit.Tie as tie
+
+queue-view-requires : tie.Need-queue-view-requires
+queue-view-requires c κs = search needs
 
 enum-told : tie.Need-enum-told
 enum-told c = search needs
 
-queue-put-commit-requires : tie.Need-queue-put-commit-requires
-queue-put-commit-requires c κs = search needs
+minus-requires : tie.Need-minus-requires
+minus-requires c κs = search needs
+
+plus-requires : tie.Need-plus-requires
+plus-requires c κs = search needs
+
+landed-requires : tie.Need-landed-requires
+landed-requires c κs = search needs
+
+commit-by-requires : tie.Need-commit-by-requires
+commit-by-requires c κs = search needs
 
 enum-told-2 : tie.Need-enum-told-2
 enum-told-2 c = search needs
 
-queue-take-commit-requires : tie.Need-queue-take-commit-requires
-queue-take-commit-requires c κs = search needs
+plus-requires-2 : tie.Need-plus-requires-2
+plus-requires-2 c κs = search needs
+
+removed-requires : tie.Need-removed-requires
+removed-requires c κs = search needs
+
+commit-by-requires-2 : tie.Need-commit-by-requires-2
+commit-by-requires-2 c κs = search needs
 
 returns : tie.Need-returns
-returns c = c .queue-put-commit .ensures ∙ simp (c .before .enum-told .given .1)
+unfolding queueCommit
+returns c = c .commit-by .ensures ∙ simp (c .before .before .before .before .before .enum-told .given .1, c .before .landed .ensures, c .before .before .plus .ensures, c .before .before .before .before .minus .ensures, c .before .before .before .before .before .before .before .queue-view .ensures)
 
 returns-2 : tie.Need-returns-2
-returns-2 c = c .queue-take-commit .ensures ∙ simp (c .before .enum-told2 .given .1)
+unfolding queueCommit
+returns-2 c = c .commit-by2 .ensures ∙ simp (c .before .before .before .enum-told2 .given .1, c .before .removed .ensures, c .before .before .plus2 .ensures, c .before .before .before .before .before .queue-view .ensures)
 
 pub queue-commit-spec : {M : Type 1} → statement M
 queue-commit-spec =
     tie.close
     (tie.spec
+    queue-view-requires
     enum-told
-    queue-put-commit-requires
+    minus-requires
+    plus-requires
+    landed-requires
+    commit-by-requires
     enum-told-2
-    queue-take-commit-requires
+    plus-requires-2
+    removed-requires
+    commit-by-requires-2
     returns
     returns-2)

@@ -1,6 +1,6 @@
--- `phases::confirm::confirm` meets its contract: at each return the tests that led there pick the same branch of `confirmRule`, and each call stands for what it ensures.
+-- `phases::confirm::confirm` meets its contract: the test of each branch is the definition's, and each call stands for what it ensures.
 use mathlib.Core.Path.{_∙_}
-use borrow.Author.Tests.{le-leb, le-ltb, lt-leb, lt-ltb}
+use borrow.Author.Tests.{le-ltb, lt-ltb}
 use borrow.Author.Needs.{needs}
 use Rattle.laws.specs.Choice.{cond}
 use Rattle.rules.specs.Confirm.{confirmRule}
@@ -24,14 +24,14 @@ moved-requires c κs = search needs
 
 returns : tie.Need-returns
 unfolding confirmRule cond
-returns c = c .moved .ensures ∙ simp (lt-ltb _ _ (c .before .before .before .if1 .taken), lt-leb _ _ (c .before .before .before .if1 .taken), ← c .before .next .ensures, ← c .before .before .before .before .before .plus .ensures, ← c .before .before .before .before .before .before .minus .ensures, ← c .before .before .before .before .before .before .before .count .ensures)
+returns c = c .moved .ensures ∙ simp (lt-ltb _ _ (c .before .before .before .if1 .taken), ← c .before .next .ensures, ← c .before .before .before .before .before .plus .ensures, ← c .before .before .before .before .before .before .minus .ensures, ← c .before .before .before .before .before .before .before .count .ensures)
 
 confirmed-requires : tie.Need-confirmed-requires
 confirmed-requires c κs = search needs
 
 returns-2 : tie.Need-returns-2
 unfolding confirmRule cond
-returns-2 c = c .confirmed .ensures ∙ simp (le-leb _ _ (c .before .if1 .left), le-ltb _ _ (c .before .if1 .left), ← c .before .before .before .plus .ensures, ← c .before .before .before .before .minus .ensures, ← c .before .before .before .before .before .count .ensures)
+returns-2 c = c .confirmed .ensures ∙ simp (le-ltb _ _ (c .before .if1 .left), ← c .before .before .before .plus .ensures, ← c .before .before .before .before .minus .ensures, ← c .before .before .before .before .before .count .ensures)
 
 pub confirm-spec : {M : Type 1} → statement M
 confirm-spec =

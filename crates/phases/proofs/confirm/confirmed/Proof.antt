@@ -1,4 +1,4 @@
--- `phases::confirm::confirmed` meets its contract: at each return the tests that led there pick the same branch of `confirmedOf`, and each call stands for what it ensures.
+-- `phases::confirm::confirmed` meets its contract: the test of each branch is the definition's, and each call stands for what it ensures.
 use mathlib.Core.Path.{_∙_}
 use borrow.Author.Tests.{eq-eqb, ne-eqb}
 use borrow.Author.Needs.{needs}
@@ -18,7 +18,7 @@ finished-requires c κs = search needs
 
 returns : tie.Need-returns
 unfolding confirmedOf cond
-returns c = c .finished .ensures ∙ simp (eq-eqb _ _ (c .before .before .if1 .taken), ← c .before .nothing-for .ensures, ← c .before .before .before .next .ensures)
+returns c = c .finished .ensures ∙ simp (eq-eqb _ _ (c .before .before .if1 .taken), c .before .nothing-for .ensures, c .before .before .before .next .ensures)
 
 with-pass-requires : tie.Need-with-pass-requires
 with-pass-requires c κs = search needs
@@ -28,7 +28,7 @@ moved-requires c κs = search needs
 
 returns-2 : tie.Need-returns-2
 unfolding confirmedOf cond
-returns-2 c = c .moved .ensures ∙ simp (ne-eqb _ _ (c .before .before .before .if1 .left), ← c .before .with-pass .ensures, ← c .before .before .before .before .next .ensures)
+returns-2 c = c .moved .ensures ∙ simp (ne-eqb _ _ (c .before .before .before .if1 .left), c .before .with-pass .ensures, c .before .before .before .before .next .ensures)
 
 pub confirmed-spec : {M : Type 1} → statement M
 confirmed-spec =

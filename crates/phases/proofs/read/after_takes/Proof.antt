@@ -1,4 +1,4 @@
--- `phases::read::after_takes` meets its contract: at each return the tests that led there pick the same branch of the definition.
+-- `phases::read::after_takes` meets its contract: the test of each branch is the definition's.
 use borrow.Author.Tests.{eq-eqb, ne-eqb}
 use Rattle.laws.specs.Choice.{cond}
 use Rattle.phases.proofs.read.after_takes.Statement.{statement}

@@ -1,52 +1,43 @@
--- `phases::read::queue_put_read` meets its contract: at each return the tests that led there pick the same branch of `queuePutRead`, and each call stands for what it ensures.
+-- `phases::read::queue_put_read` meets its contract: the test of each branch is the definition's, and each call stands for what it ensures.
 use mathlib.Core.Path.{_∙_}
-use borrow.Author.Tests.{le-leb, le-ltb, lt-leb, lt-ltb}
+use borrow.Author.Tests.{le-ltb, lt-ltb}
 use borrow.Author.Needs.{needs}
 use Rattle.laws.specs.Choice.{cond}
-use Rattle.rules.specs.Read.{missOf, queuePutRead}
+use Rattle.rules.specs.Read.{queuePutRead}
 use Rattle.phases.proofs.read.queue_put_read.Statement.{statement}
 use Rattle.phases.proofs.read.queue_put_read.Tie as tie
+
+queue-view-requires : tie.Need-queue-view-requires
+queue-view-requires c κs = search needs
 
 moved-requires : tie.Need-moved-requires
 moved-requires c κs = search needs
 
 returns : tie.Need-returns
-unfolding queuePutRead missOf cond
-returns c = c .moved .ensures ∙ simp (lt-ltb _ _ (c .before .if1 .taken), lt-leb _ _ (c .before .if1 .taken))
-
-next-requires : tie.Need-next-requires
-next-requires c κs = search needs
-
-with-pass-requires : tie.Need-with-pass-requires
-with-pass-requires c κs = search needs
+unfolding queuePutRead cond
+returns c = c .moved .ensures ∙ simp (lt-ltb _ _ (rw (c .before .before .before .queue-view .ensures) at (c .before .if1 .taken)), c .before .before .before .queue-view .ensures)
 
 plus-requires : tie.Need-plus-requires
 plus-requires c κs = search needs
 
-moved-requires-2 : tie.Need-moved-requires-2
-moved-requires-2 c κs = search needs
+with-pass-requires : tie.Need-with-pass-requires
+with-pass-requires c κs = search needs
+
+miss-requires : tie.Need-miss-requires
+miss-requires c κs = search needs
 
 returns-2 : tie.Need-returns-2
-unfolding queuePutRead missOf cond
-returns-2 c = c .moved2 .ensures ∙ simp (lt-ltb _ _ (c .before .if2 .taken), lt-leb _ _ (c .before .if2 .taken), le-leb _ _ (c .before .before .before .before .before .before .if1 .left), le-ltb _ _ (c .before .before .before .before .before .before .if1 .left), ← c .before .before .before .plus .ensures, ← c .before .before .before .before .with-pass .ensures, ← c .before .before .before .before .before .next .ensures)
-
-moved-requires-3 : tie.Need-moved-requires-3
-moved-requires-3 c κs = search needs
-
-returns-3 : tie.Need-returns-3
-unfolding queuePutRead missOf cond
-returns-3 c = c .moved3 .ensures ∙ simp (le-leb _ _ (c .before .if2 .left), le-ltb _ _ (c .before .if2 .left), le-leb _ _ (c .before .before .before .before .before .before .if1 .left), le-ltb _ _ (c .before .before .before .before .before .before .if1 .left), ← c .before .before .before .plus .ensures, ← c .before .before .before .before .with-pass .ensures, ← c .before .before .before .before .before .next .ensures)
+unfolding queuePutRead cond
+returns-2 c = c .miss .ensures ∙ simp (le-ltb _ _ (rw (c .before .before .before .before .before .queue-view .ensures) at (c .before .before .before .if1 .left)), c .before .with-pass .ensures, c .before .before .plus .ensures)
 
 pub queue-put-read-spec : {M : Type 1} → statement M
 queue-put-read-spec =
     tie.close
     (tie.spec
+    queue-view-requires
     moved-requires
     returns
-    next-requires
-    with-pass-requires
     plus-requires
-    moved-requires-2
-    returns-2
-    moved-requires-3
-    returns-3)
+    with-pass-requires
+    miss-requires
+    returns-2)

@@ -1,11 +1,14 @@
--- `phases::read::queue_take_read` meets its contract: at each return the tests that led there pick the same branch of `queueTakeRead`, and each call stands for what it ensures.
+-- `phases::read::queue_take_read` meets its contract: the test of each branch is the definition's, and each call stands for what it ensures.
 use mathlib.Core.Path.{_∙_}
-use borrow.Author.Tests.{eq-eqb, le-leb, le-ltb, lt-leb, lt-ltb, ne-eqb}
+use borrow.Author.Tests.{eq-eqb, le-leb, lt-leb, ne-eqb}
 use borrow.Author.Needs.{needs}
 use Rattle.laws.specs.Choice.{cond}
 use Rattle.rules.specs.Read.{queueTakeRead}
 use Rattle.phases.proofs.read.queue_take_read.Statement.{statement}
 use Rattle.phases.proofs.read.queue_take_read.Tie as tie
+
+queue-view-requires : tie.Need-queue-view-requires
+queue-view-requires c κs = search needs
 
 plus-requires : tie.Need-plus-requires
 plus-requires c κs = search needs
@@ -15,7 +18,7 @@ queue-take-miss-requires c κs = search needs
 
 returns : tie.Need-returns
 unfolding queueTakeRead cond
-returns c = c .queue-take-miss .ensures ∙ simp (le-leb _ _ (c .before .if1 .taken), le-ltb _ _ (c .before .if1 .taken), ← c .before .before .before .plus .ensures)
+returns c = c .queue-take-miss .ensures ∙ simp (le-leb _ _ (rw (c .before .before .before .queue-view .ensures) at (c .before .if1 .taken)), c .before .before .plus .ensures, c .before .before .before .queue-view .ensures)
 
 plus-requires-2 : tie.Need-plus-requires-2
 plus-requires-2 c κs = search needs
@@ -25,7 +28,7 @@ queue-take-miss-requires-2 c κs = search needs
 
 returns-2 : tie.Need-returns-2
 unfolding queueTakeRead cond
-returns-2 c = c .queue-take-miss2 .ensures ∙ simp (eq-eqb _ _ (c .before .before .if2 .taken), lt-ltb _ _ (c .before .before .before .before .if1 .left), lt-leb _ _ (c .before .before .before .before .if1 .left), ← c .before .plus2 .ensures, ← c .before .before .before .before .before .before .plus .ensures)
+returns-2 c = c .queue-take-miss2 .ensures ∙ simp (eq-eqb _ _ (rw (c .before .before .before .before .before .before .queue-view .ensures) at (c .before .before .if2 .taken)), lt-leb _ _ (rw (c .before .before .before .before .before .before .queue-view .ensures) at (c .before .before .before .before .if1 .left)), c .before .plus2 .ensures, c .before .before .before .before .before .plus .ensures, c .before .before .before .before .before .before .queue-view .ensures)
 
 with-pass-requires : tie.Need-with-pass-requires
 with-pass-requires c κs = search needs
@@ -35,12 +38,13 @@ moved-requires c κs = search needs
 
 returns-3 : tie.Need-returns-3
 unfolding queueTakeRead cond
-returns-3 c = c .moved .ensures ∙ simp (ne-eqb _ _ (c .before .before .before .if2 .left), lt-ltb _ _ (c .before .before .before .before .before .if1 .left), lt-leb _ _ (c .before .before .before .before .before .if1 .left), ← c .before .with-pass .ensures, ← c .before .before .before .before .before .before .before .plus .ensures)
+returns-3 c = c .moved .ensures ∙ simp (ne-eqb _ _ (rw (c .before .before .before .before .before .before .before .queue-view .ensures) at (c .before .before .before .if2 .left)), lt-leb _ _ (rw (c .before .before .before .before .before .before .before .queue-view .ensures) at (c .before .before .before .before .before .if1 .left)), c .before .with-pass .ensures, c .before .before .before .before .before .before .plus .ensures, c .before .before .before .before .before .before .before .queue-view .ensures)
 
 pub queue-take-read-spec : {M : Type 1} → statement M
 queue-take-read-spec =
     tie.close
     (tie.spec
+    queue-view-requires
     plus-requires
     queue-take-miss-requires
     returns

@@ -1,11 +1,13 @@
--- `phases::read::stack_read` meets its contract: at each return the tests that led there pick the same branch of `stackRead`, and each call stands for what it ensures.
+-- `phases::read::stack_read` meets its contract: the test of each branch is the definition's, and each call stands for what it ensures.
 use mathlib.Core.Path.{_∙_}
-use borrow.Author.Tests.{le-leb, le-ltb, lt-leb, lt-ltb}
 use borrow.Author.Needs.{needs}
 use Rattle.laws.specs.Choice.{cond}
-use Rattle.rules.specs.Read.{missOf, stackRead}
+use Rattle.rules.specs.Read.{stackRead}
 use Rattle.phases.proofs.read.stack_read.Statement.{statement}
 use Rattle.phases.proofs.read.stack_read.Tie as tie
+
+stack-view-requires : tie.Need-stack-view-requires
+stack-view-requires c κs = search needs
 
 plus-requires : tie.Need-plus-requires
 plus-requires c κs = search needs
@@ -20,41 +22,29 @@ moved-requires : tie.Need-moved-requires
 moved-requires c κs = search needs
 
 returns : tie.Need-returns
-unfolding stackRead missOf cond
-returns c = c .moved .ensures ∙ simp (c .before .before .if1 .taken, ← c .before .with-pass .ensures, ← c .before .before .before .stack-hit .ensures, ← c .before .before .before .before .plus .ensures)
-
-next-requires : tie.Need-next-requires
-next-requires c κs = search needs
+unfolding stackRead cond
+returns c = c .moved .ensures ∙ simp (c .before .before .if1 .taken, c .before .with-pass .ensures, ← c .before .before .before .stack-hit .ensures, c .before .before .before .before .plus .ensures, c .before .before .before .before .before .before .before .stack-view .ensures)
 
 plus-requires-2 : tie.Need-plus-requires-2
 plus-requires-2 c κs = search needs
 
-moved-requires-2 : tie.Need-moved-requires-2
-moved-requires-2 c κs = search needs
+miss-requires : tie.Need-miss-requires
+miss-requires c κs = search needs
 
 returns-2 : tie.Need-returns-2
-unfolding stackRead missOf cond
-returns-2 c = c .moved2 .ensures ∙ simp (lt-ltb _ _ (c .before .if2 .taken), lt-leb _ _ (c .before .if2 .taken), c .before .before .before .before .before .if1 .left, ← c .before .before .before .plus2 .ensures, ← c .before .before .before .before .next .ensures, ← c .before .before .before .before .before .before .stack-hit .ensures, ← c .before .before .before .before .before .before .before .plus .ensures)
-
-moved-requires-3 : tie.Need-moved-requires-3
-moved-requires-3 c κs = search needs
-
-returns-3 : tie.Need-returns-3
-unfolding stackRead missOf cond
-returns-3 c = c .moved3 .ensures ∙ simp (le-leb _ _ (c .before .if2 .left), le-ltb _ _ (c .before .if2 .left), c .before .before .before .before .before .if1 .left, ← c .before .before .before .plus2 .ensures, ← c .before .before .before .before .next .ensures, ← c .before .before .before .before .before .before .stack-hit .ensures, ← c .before .before .before .before .before .before .before .plus .ensures)
+unfolding stackRead cond
+returns-2 c = c .miss .ensures ∙ simp (c .before .before .if1 .left, c .before .plus2 .ensures, ← c .before .before .before .stack-hit .ensures, c .before .before .before .before .plus .ensures, c .before .before .before .before .before .before .before .stack-view .ensures)
 
 pub stack-read-spec : {M : Type 1} → statement M
 stack-read-spec =
     tie.close
     (tie.spec
+    stack-view-requires
     plus-requires
     stack-hit-requires
     with-pass-requires
     moved-requires
     returns
-    next-requires
     plus-requires-2
-    moved-requires-2
-    returns-2
-    moved-requires-3
-    returns-3)
+    miss-requires
+    returns-2)

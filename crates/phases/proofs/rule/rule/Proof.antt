@@ -1,14 +1,9 @@
--- `phases::rule::rule` meets its contract: at each return the tests that led there pick the same branch of `ruleOf`, and each call stands for what it ensures.
-use mathlib.Core.Path.{ap, _∙_}
+-- `phases::rule::rule` meets its contract: each phase has its rule.
+use mathlib.Core.Path.{_∙_}
 use borrow.Author.Needs.{needs}
-use Rattle.rules.specs.declared.Worker.{Worker}
-use Rattle.rules.specs.Worker.{decode}
-use Rattle.rules.specs.Step.{ruleBy, ruleOf}
+use Rattle.rules.specs.Step.{ruleOf, ruleBy}
 use Rattle.phases.proofs.rule.rule.Statement.{statement}
 use Rattle.phases.proofs.rule.rule.Tie as tie
-
-worker-of-requires : tie.Need-worker-of-requires
-worker-of-requires c κs = search needs
 
 enum-told : tie.Need-enum-told
 enum-told c = search needs
@@ -77,54 +72,53 @@ confirm-requires : tie.Need-confirm-requires
 confirm-requires c κs = search needs
 
 returns : tie.Need-returns
-unfolding ruleOf ruleBy decode
-returns c = c .refused .ensures ∙ simp (c .before .enum-told .given .1, ← ap (λ (k : Worker). k .phase) (c .before .before .before .worker-of .ensures))
+unfolding ruleOf ruleBy
+returns c = c .refused .ensures ∙ simp (c .before .enum-told .given .1)
 
 returns-2 : tie.Need-returns-2
-unfolding ruleOf ruleBy decode
-returns-2 c = c .window .ensures ∙ simp (c .before .before .phase .given .1, ← ap (λ (k : Worker). k .phase) (c .before .before .before .before .worker-of .ensures))
+unfolding ruleOf ruleBy
+returns-2 c = c .window .ensures ∙ simp (c .before .before .phase .given .1)
 
 returns-3 : tie.Need-returns-3
-unfolding ruleOf ruleBy decode
-returns-3 c = c .queue-put-read .ensures ∙ simp (c .before .before .phase2 .given .1, ← ap (λ (k : Worker). k .phase) (c .before .before .before .before .worker-of .ensures))
+unfolding ruleOf ruleBy
+returns-3 c = c .queue-put-read .ensures ∙ simp (c .before .before .phase2 .given .1)
 
 returns-4 : tie.Need-returns-4
-unfolding ruleOf ruleBy decode
-returns-4 c = c .queue-take-read .ensures ∙ simp (c .before .before .phase3 .given .1, ← ap (λ (k : Worker). k .phase) (c .before .before .before .before .worker-of .ensures))
+unfolding ruleOf ruleBy
+returns-4 c = c .queue-take-read .ensures ∙ simp (c .before .before .phase3 .given .1)
 
 returns-5 : tie.Need-returns-5
-unfolding ruleOf ruleBy decode
-returns-5 c = c .stack-read .ensures ∙ simp (c .before .before .phase4 .given .1, ← ap (λ (k : Worker). k .phase) (c .before .before .before .before .worker-of .ensures))
+unfolding ruleOf ruleBy
+returns-5 c = c .stack-read .ensures ∙ simp (c .before .before .phase4 .given .1)
 
 returns-6 : tie.Need-returns-6
-unfolding ruleOf ruleBy decode
-returns-6 c = c .check .ensures ∙ simp (c .before .before .phase5 .given .1, ← ap (λ (k : Worker). k .phase) (c .before .before .before .before .worker-of .ensures))
+unfolding ruleOf ruleBy
+returns-6 c = c .check .ensures ∙ simp (c .before .before .phase5 .given .1)
 
 returns-7 : tie.Need-returns-7
-unfolding ruleOf ruleBy decode
-returns-7 c = c .queue-commit .ensures ∙ simp (c .before .before .phase6 .given .1, ← ap (λ (k : Worker). k .phase) (c .before .before .before .before .worker-of .ensures))
+unfolding ruleOf ruleBy
+returns-7 c = c .queue-commit .ensures ∙ simp (c .before .before .phase6 .given .1)
 
 returns-8 : tie.Need-returns-8
-unfolding ruleOf ruleBy decode
-returns-8 c = c .stack-commit .ensures ∙ simp (c .before .before .phase7 .given .1, ← ap (λ (k : Worker). k .phase) (c .before .before .before .before .worker-of .ensures))
+unfolding ruleOf ruleBy
+returns-8 c = c .stack-commit .ensures ∙ simp (c .before .before .phase7 .given .1)
 
 returns-9 : tie.Need-returns-9
-unfolding ruleOf ruleBy decode
-returns-9 c = c .queue-shift .ensures ∙ simp (c .before .before .phase8 .given .1, ← ap (λ (k : Worker). k .phase) (c .before .before .before .before .worker-of .ensures))
+unfolding ruleOf ruleBy
+returns-9 c = c .queue-shift .ensures ∙ simp (c .before .before .phase8 .given .1)
 
 returns-10 : tie.Need-returns-10
-unfolding ruleOf ruleBy decode
-returns-10 c = c .stack-shift .ensures ∙ simp (c .before .before .phase9 .given .1, ← ap (λ (k : Worker). k .phase) (c .before .before .before .before .worker-of .ensures))
+unfolding ruleOf ruleBy
+returns-10 c = c .stack-shift .ensures ∙ simp (c .before .before .phase9 .given .1)
 
 returns-11 : tie.Need-returns-11
-unfolding ruleOf ruleBy decode
-returns-11 c = c .confirm .ensures ∙ simp (c .before .before .phase10 .given .1, ← ap (λ (k : Worker). k .phase) (c .before .before .before .before .worker-of .ensures))
+unfolding ruleOf ruleBy
+returns-11 c = c .confirm .ensures ∙ simp (c .before .before .phase10 .given .1)
 
 pub rule-spec : {M : Type 1} → statement M
 rule-spec =
     tie.close
     (tie.spec
-    worker-of-requires
     enum-told
     refused-requires
     enum-known-phase

@@ -1,34 +1,65 @@
--- `phases::shift::stack_shift` meets its contract: at each return the tests that led there pick the same branch of the definition.
+-- `phases::shift::stack_shift` meets its contract: at each side the arguments of `shift_by` are those of `stackShift`.
 use mathlib.Core.Path.{_∙_}
 use borrow.Author.Needs.{needs}
+use Rattle.rules.specs.Shift.{stackShift}
 use Rattle.phases.proofs.shift.stack_shift.Statement.{statement}
 use Rattle.phases.proofs.shift.stack_shift.Tie as tie
+
+stack-view-requires : tie.Need-stack-view-requires
+stack-view-requires c κs = search needs
+
+plus-requires : tie.Need-plus-requires
+plus-requires c κs = search needs
+
+moved-requires : tie.Need-moved-requires
+moved-requires c κs = search needs
 
 enum-told : tie.Need-enum-told
 enum-told c = search needs
 
-stack-put-shift-requires : tie.Need-stack-put-shift-requires
-stack-put-shift-requires c κs = search needs
+plus-requires-2 : tie.Need-plus-requires-2
+plus-requires-2 c κs = search needs
+
+shifted-requires : tie.Need-shifted-requires
+shifted-requires c κs = search needs
+
+shift-by-requires : tie.Need-shift-by-requires
+shift-by-requires c κs = search needs
 
 enum-told-2 : tie.Need-enum-told-2
 enum-told-2 c = search needs
 
-stack-take-shift-requires : tie.Need-stack-take-shift-requires
-stack-take-shift-requires c κs = search needs
+minus-requires : tie.Need-minus-requires
+minus-requires c κs = search needs
+
+shifted-requires-2 : tie.Need-shifted-requires-2
+shifted-requires-2 c κs = search needs
+
+shift-by-requires-2 : tie.Need-shift-by-requires-2
+shift-by-requires-2 c κs = search needs
 
 returns : tie.Need-returns
-returns c = c .stack-put-shift .ensures ∙ simp (c .before .enum-told .given .1)
+unfolding stackShift
+returns c = c .shift-by .ensures ∙ simp (c .before .before .before .before .enum-told .given .1, c .before .shifted .ensures, c .before .before .before .plus2 .ensures, c .before .before .before .before .before .before .moved .ensures, c .before .before .before .before .before .before .before .before .plus .ensures, c .before .before .before .before .before .before .before .before .before .before .before .stack-view .ensures)
 
 returns-2 : tie.Need-returns-2
-returns-2 c = c .stack-take-shift .ensures ∙ simp (c .before .enum-told2 .given .1)
+unfolding stackShift
+returns-2 c = c .shift-by2 .ensures ∙ simp (c .before .before .before .before .before .enum-told2 .given .1, c .before .shifted2 .ensures, c .before .before .before .before .minus .ensures, c .before .before .before .before .before .before .before .moved .ensures, c .before .before .before .before .before .before .before .before .before .plus .ensures, c .before .before .before .before .before .before .before .before .before .before .before .before .stack-view .ensures)
 
 pub stack-shift-spec : {M : Type 1} → statement M
 stack-shift-spec =
     tie.close
     (tie.spec
+    stack-view-requires
+    plus-requires
+    moved-requires
     enum-told
-    stack-put-shift-requires
+    plus-requires-2
+    shifted-requires
+    shift-by-requires
     enum-told-2
-    stack-take-shift-requires
+    minus-requires
+    shifted-requires-2
+    shift-by-requires-2
     returns
     returns-2)

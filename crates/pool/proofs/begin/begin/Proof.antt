@@ -3,10 +3,10 @@ use mathlib.Core.Path.{ap, sym, _∙_}
 use Prim.Native.Nat.{ℕ}
 use native.Mathlib.Omega.{arith}
 use borrow.Author.Needs.{needs}
+use Rattle.rules.specs.Fit.{Checked}
 use Rattle.rules.specs.Begin.{beginOf, checkedBegin, fitBegin}
 use Rattle.rules.proofs.Fitness.{fit-pool, refusal-none, refusal-some}
 use Rattle.rules.specs.declared.Settings.{Settings}
-use Rattle.rules.specs.declared.Checked.{Checked}
 use Rattle.rules.specs.Layout.{settingsOf}
 use Rattle.rules.specs.Answers.{refuse}
 use Rattle.pool.proofs.begin.begin.Statement.{statement}

@@ -1,36 +1,28 @@
 -- `pool::begin::slot_begin` meets its contract: at each return the tests that led there pick the same branch of `slotBegin`, and each call stands for what it ensures.
-use borrow.Author.Tests.{eq-eqb, le-leb, lt-leb, ne-eqb}
-use borrow.Author.Needs.{needs}
-use Rattle.rules.specs.Begin.{slotBegin}
+use mathlib.Core.Path.{sym, ap, _∙_}
 use Rattle.laws.specs.Choice.{cond}
+use Rattle.rules.specs.Answers.{out}
+use Rattle.rules.specs.Begin.{slotBegin}
+use Rattle.rules.specs.declared.Answer.the-variants.{Moving}
+use borrow.Author.Needs.{needs}
 use Rattle.pool.proofs.begin.slot_begin.Statement.{statement}
 use Rattle.pool.proofs.begin.slot_begin.Tie as tie
 
-mul-if1 : tie.Need-mul-if1
-mul-if1 c = search needs
+idle-at-requires : tie.Need-idle-at-requires
+idle-at-requires c κs = search needs
 
-slice-read-if1 : tie.Need-slice-read-if1
-slice-read-if1 c = search needs
+out-of-steps-requires : tie.Need-out-of-steps-requires
+out-of-steps-requires c κs = search needs
+
+same-length : tie.Need-same-length
+same-length c = search needs
 
 returns : tie.Need-returns
 unfolding slotBegin cond
-returns c = simp (ne-eqb _ _ (c .if1 .taken))
+returns c = simp (sym (c .before .before .before .before .idle-at .ensures) ∙ c .before .before .before .if1 .taken, sym (c .before .out-of-steps .ensures) ∙ c .if2 .taken)
 
-slice-read-if2 : tie.Need-slice-read-if2
-slice-read-if2 c = search needs
-
-returns-2 : tie.Need-returns-2
-unfolding slotBegin cond
-returns-2 c = simp (eq-eqb _ _ (c .before .before .if1 .left), le-leb _ _ (c .if2 .taken))
-
-add-index : tie.Need-add-index
-add-index c = search needs
-
-mul-index : tie.Need-mul-index
-mul-index c = search needs
-
-slice-read-index : tie.Need-slice-read-index
-slice-read-index c = search needs
+index-of-requires : tie.Need-index-of-requires
+index-of-requires c κs = search needs
 
 fresh-slot-requires : tie.Need-fresh-slot-requires
 fresh-slot-requires c κs = search needs
@@ -38,26 +30,40 @@ fresh-slot-requires c κs = search needs
 store-requires : tie.Need-store-requires
 store-requires c κs = search needs
 
-same-length : tie.Need-same-length
-same-length c = search needs
+same-length-2 : tie.Need-same-length-2
+same-length-2 c = search needs
+
+returns-2 : tie.Need-returns-2
+unfolding slotBegin cond
+returns-2 c =
+    let asked = c .before .before .before .before .before .before .before in
+    ap (out Moving) (c .before .before .store .ensures)
+    ∙ simp (
+      c .before .before .before .before .fresh-slot .ensures,
+      c .before .before .before .before .before .index-of .ensures,
+      sym (asked .before .out-of-steps .ensures) ∙ asked .if2 .left,
+      sym (asked .before .before .before .before .idle-at .ensures) ∙ asked .before .before .before .if1 .taken,
+    )
+
+same-length-3 : tie.Need-same-length-3
+same-length-3 c = search needs
 
 returns-3 : tie.Need-returns-3
 unfolding slotBegin cond
-returns-3 c = simp (eq-eqb _ _ (c .before .before .before .before .before .before .before .before .if1 .left), lt-leb _ _ (c .before .before .before .before .before .before .if2 .left), c .before .before .store .ensures, c .before .before .before .before .fresh-slot .ensures)
+returns-3 c = simp (sym (c .before .idle-at .ensures) ∙ c .if1 .left)
 
 pub slot-begin-spec : {M : Type 1} → statement M
 slot-begin-spec =
     tie.close
     (tie.spec
-    mul-if1
-    slice-read-if1
+    idle-at-requires
+    out-of-steps-requires
+    same-length
     returns
-    slice-read-if2
-    returns-2
-    add-index
-    mul-index
-    slice-read-index
+    index-of-requires
     fresh-slot-requires
     store-requires
-    same-length
+    same-length-2
+    returns-2
+    same-length-3
     returns-3)

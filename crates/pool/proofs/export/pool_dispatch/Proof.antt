@@ -1,7 +1,7 @@
 -- `pool::export::pool_dispatch` meets its contract: the calls' promises put together are the definition.
-use mathlib.Core.Path.{ap, _∙_}
+use mathlib.Core.Path.{ap}
 use borrow.Author.Needs.{needs}
-use Rattle.rules.specs.Dispatch.{DispatchOut, resultFields, resultNumber}
+use Rattle.rules.specs.Dispatch.{dispatchReturned}
 use Rattle.pool.proofs.export.pool_dispatch.Statement.{statement}
 use Rattle.pool.proofs.export.pool_dispatch.Tie as tie
 
@@ -15,10 +15,7 @@ same-length : tie.Need-same-length
 same-length c = search needs
 
 returns : tie.Need-returns
-returns c =
-    let e = c .before .before .before .before .dispatch .ensures in
-    let r = ap (λ (o : DispatchOut). o .result) e in
-    (c .came-to .ensures .0 ∙ ap resultNumber r, (ap (λ (o : DispatchOut). o .words) e, c .came-to .ensures .1 ∙ ap resultFields r))
+returns c = rw (c .came-to .ensures .0, c .came-to .ensures .1) (ap dispatchReturned (c .before .before .before .before .dispatch .ensures))
 
 pub pool-dispatch-spec : {M : Type 1} → statement M
 pool-dispatch-spec = tie.close (tie.spec dispatch-requires came-to-requires same-length returns)

@@ -3,10 +3,10 @@
 use mathlib.Core.Path.{ap, sym, _∙_}
 use Prim.Native.Nat.{ℕ}
 use borrow.Author.Needs.{needs}
-use Rattle.rules.specs.Answers.{Out, fieldsOf, numberOf, refuse}
+use Rattle.rules.specs.Fit.{Checked}
+use Rattle.rules.specs.Answers.{refuse, returnedOf}
 use Rattle.rules.specs.Layout.{settingsOf}
 use Rattle.rules.specs.Step.{checkedStep, stepOf}
-use Rattle.rules.specs.declared.Checked.{Checked}
 use Rattle.rules.proofs.Fitness.{fit-pool, refusal-none, refusal-some}
 use Rattle.pool.proofs.export.pool_step.Statement.{statement}
 use Rattle.pool.proofs.export.pool_step.Tie as tie
@@ -28,8 +28,7 @@ returns c =
     let is =
     ap (λ (m : ℕ). refuse m (args .words .now)) e
     ∙ ap (λ (k : Checked). checkedStep (args .words .now) k (args .worker)) (sym (refusal-some (args .words .now) (λ z. c .before .before .if1 .taken (e ∙ z)))) in
-    let a = ap (λ (o : Out). o .answer) is in
-    (c .answered .ensures .0 ∙ ap numberOf a, (ap (λ (o : Out). o .words) is, c .answered .ensures .1 ∙ ap fieldsOf a))
+    rw (c .answered .ensures .0, c .answered .ensures .1) (ap returnedOf is)
 
 fit-answer-requires : tie.Need-fit-answer-requires
 fit-answer-requires c κs =
@@ -44,9 +43,7 @@ unfolding stepOf checkedStep
 returns-2 c =
     let args = c .before .before .before .before .before .before .before .before .before .args in
     let is = ap (λ (k : Checked). checkedStep (args .words .now) k (args .worker)) (sym (refusal-none (args .words .now) (sym (c .before .before .before .before .before .before .refusal .ensures) ∙ c .before .before .before .before .before .if1 .left))) in
-    let a = ap (λ (o : Out). o .answer) is in
-    let step = c .before .before .fit-answer .ensures in
-    (step .0 ∙ ap numberOf a, (step .1 .0 ∙ ap (λ (o : Out). o .words) is, step .1 .1 ∙ ap fieldsOf a))
+    c .before .before .fit-answer .ensures ∙ ap returnedOf is
 
 pub pool-step-spec : {M : Type 1} → statement M
 pool-step-spec =

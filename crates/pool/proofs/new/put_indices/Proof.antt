@@ -1,54 +1,33 @@
 -- `pool::new::put_indices` meets its contract: the loop's invariant is that the workers passed have their index.
-use lib.ListN.{length, length-set, set}
+use lib.ListN.{length, set}
 use mathlib.Core.Path.{ap, sym, _∙_, _≡_}
 use mathlib.Core.List.{List}
-use Prim.Native.Nat.{ℕ, _%_, _+_, _-_, _≤_}
+use Prim.Native.Nat.{ℕ, _%_, _-_, _≤_}
 use borrow.Author.Needs.{needs}
 use native.Mathlib.Omega.{arith}
 use Rattle.rules.proofs.Making.{indexed-more, indexed-none}
 use Rattle.rules.specs.Make.{indexed}
-use Rattle.rules.specs.Layout.{workerAt}
+use Rattle.rules.specs.Layout.{workerAt, indexAt}
 use Rattle.pool.proofs.new.put_indices.Statement.{statement}
 use Rattle.pool.proofs.new.put_indices.Tie as tie
 
 abbrev Inv-loop : tie.InvT-loop
-Inv-loop words₀ g base i₀ words i = (length words ≡ length words₀) × (words ≡ indexed words₀ g i) × (i ≤ g .workers)
+Inv-loop words₀ g i₀ words i = (length words ≡ length words₀) × (words ≡ indexed words₀ g i) × (i ≤ g .workers)
 
 abbrev μ-loop : tie.MeasureT-loop
-μ-loop words₀ g base i₀ words i = g .workers - i
-
-cast-base : tie.Need-cast-base Inv-loop μ-loop
-cast-base c = search needs
-
-mul-base : tie.Need-mul-base Inv-loop μ-loop
-mul-base c = search needs
-
-add-base : tie.Need-add-base Inv-loop μ-loop
-add-base c = search needs
+μ-loop words₀ g i₀ words i = g .workers - i
 
 loop-holds : tie.Need-loop-holds Inv-loop μ-loop
 loop-holds c = (search needs, sym (indexed-none _ _), search needs)
 
-rem-words : tie.Need-rem-words Inv-loop μ-loop
-rem-words c = search needs
+worker-at-requires : tie.Need-worker-at-requires Inv-loop μ-loop
+worker-at-requires c κs = search needs
 
-cast-words : tie.Need-cast-words Inv-loop μ-loop
-cast-words c = search needs
+rem-put-index : tie.Need-rem-put-index Inv-loop μ-loop
+rem-put-index c = search needs
 
-mul-words : tie.Need-mul-words Inv-loop μ-loop
-mul-words c = search needs
-
-add-words : tie.Need-add-words Inv-loop μ-loop
-add-words c = search needs
-
-add-words-2 : tie.Need-add-words-2 Inv-loop μ-loop
-add-words-2 c = search needs
-
-mul-words-2 : tie.Need-mul-words-2 Inv-loop μ-loop
-mul-words-2 c = search needs
-
-slice-write-words : tie.Need-slice-write-words Inv-loop μ-loop
-slice-write-words c = search needs
+put-index-requires : tie.Need-put-index-requires Inv-loop μ-loop
+put-index-requires c κs = search needs
 
 add-i : tie.Need-add-i Inv-loop μ-loop
 add-i c = search needs
@@ -58,11 +37,14 @@ loop-less c = search needs
 
 loop-again : tie.Need-loop-again Inv-loop μ-loop
 loop-again c =
-    let l = c .before .before .before .loop in
-    let g = c .before .before .before .before .before .args .g in
-    let z = c .before .before .before .before .before .args .words .now in (
-      length-set (l .words) (workerAt g (l .i) + 2) (l .i % g .width) ∙ l .inv .0,
-      ap (λ (ws : List ℕ). set ws (workerAt g (l .i) + 2) (l .i % g .width)) (l .inv .1) ∙ sym (indexed-more z g (l .i)),
+    let l = c .before .before .before .before .before .before .before .before .loop in
+    let a = c .before .before .before .before .before .before .before .before .before .before .args in
+    let x = l .i % a .g .width in (
+      c .before .before .put-index .kept .0 ∙ l .inv .0,
+      c .before .before .put-index .ensures
+          ∙ ap (λ (at : ℕ). set (l .words) (indexAt at) x) (c .before .before .before .before .worker-at .ensures)
+          ∙ ap (λ (ws : List ℕ). set ws (indexAt (workerAt (a .g) (l .i))) x) (l .inv .1)
+          ∙ sym (indexed-more (a .words .now) (a .g) (l .i)),
       omega arith,
     )
 
@@ -80,17 +62,10 @@ put-indices-spec =
     (tie.spec
     Inv-loop
     μ-loop
-    cast-base
-    mul-base
-    add-base
     loop-holds
-    rem-words
-    cast-words
-    mul-words
-    add-words
-    add-words-2
-    mul-words-2
-    slice-write-words
+    worker-at-requires
+    rem-put-index
+    put-index-requires
     add-i
     loop-less
     loop-again

@@ -1,0 +1,99 @@
+// Turns for the workers: steps of the busy ones, round and round by number, up to the first final answer.
+use fitness::refusal;
+use image::idle_at;
+use image::settings;
+use image::worker_at;
+use rules::Dispatched;
+use rules::Settings;
+use rules::Turn;
+use rules::numbers::NO_SUCH_WORKER;
+use step::answers::final_answer;
+use step::fit_answer;
+ghost use mathlib.Core.Path.{_≡_};
+ghost use Prim.Native.Nat.{_<_};
+ghost use Rattle.rules.specs.Fit.{Fit, FitPool, checkedOf};
+ghost use Rattle.rules.specs.Dispatch.{dispatched, turnFrom, endedOf, turnsOf, fitDispatch, dispatchOf};
+
+// The first busy worker from `from` on.
+fn turn_from(words: &[u32], g: Settings, from: u32) -> Turn
+    requires { ⌜ FitPool g (now words) ⌝ }
+    requires { ⌜ from < g .workers ⌝ }
+    ensures { λ r. ⌜ r ≡ turnFrom (now (words .entry)) g from ⌝ }
+{
+    let mut i = from;
+    let mut left = g.workers;
+    while 0 < left {
+        if idle_at(words, worker_at(g, i)) {
+            i = (i + 1) % g.workers;
+            left = left - 1;
+        } else {
+            return Turn::Worker(i);
+        }
+    }
+    Turn::NoneBusy
+}
+
+// What the turns come to with an answer of worker `j`, by its number, which is not 0, and its five fields.
+fn ended(j: u32, n: u32, five: [u32; 5]) -> Dispatched
+    ensures { λ r. ⌜ r ≡ endedOf j n five ⌝ }
+{
+    if n <= 4 {
+        Dispatched::Finished {
+            worker: j,
+            answer: final_answer(n, five),
+        }
+    } else {
+        Dispatched::Refused(n)
+    }
+}
+
+// Turns from worker `first` of a fit pool on, up to a count of steps. A step that answers 0 leaves the pool fit, so it is checked once.
+fn turns(words: &mut [u32], g: Settings, first: u32, steps: u32) -> Dispatched
+    requires { ⌜ checkedOf (now words) ≡ Fit g ⌝ }
+    requires { ⌜ first < g .workers ⌝ }
+    ensures { λ r. ⌜ dispatched r (now (words .exit)) ≡ turnsOf (now (words .entry)) g first steps ⌝ }
+{
+    let mut i = first;
+    let mut left = steps;
+    let mut five = [0, 0, 0, 0, 0];
+    while 0 < left {
+        let t = turn_from(words, g, i);
+        let Turn::Worker(j) = t else {
+            return Dispatched::NoneBusy;
+        };
+        let n = fit_answer(words, j, &mut five);
+        if n != 0 {
+            return ended(j, n, five);
+        }
+        i = (j + 1) % g.workers;
+        left = left - 1;
+    }
+    let t = turn_from(words, g, i);
+    match t {
+        Turn::NoneBusy => Dispatched::NoneBusy,
+        Turn::Worker(_) => Dispatched::RanOut { next: i },
+    }
+}
+
+// Turns from worker `i` of a fit pool on.
+fn fit_dispatch(words: &mut [u32], g: Settings, i: u32, steps: u32) -> Dispatched
+    requires { ⌜ checkedOf (now words) ≡ Fit g ⌝ }
+    ensures { λ r. ⌜ dispatched r (now (words .exit)) ≡ fitDispatch (now (words .entry)) g i steps ⌝ }
+{
+    if g.workers <= i {
+        return Dispatched::Refused(NO_SUCH_WORKER);
+    }
+    turns(words, g, i, steps)
+}
+
+// Steps the busy workers round and round by number, from `worker` on, up to `steps` steps or the first final answer.
+pub fn dispatch(words: &mut [u32], worker: u32, steps: u32) -> Dispatched
+    ensures { λ r. ⌜ dispatched r (now (words .exit)) ≡ dispatchOf (now (words .entry)) worker steps ⌝ }
+{
+    let n = refusal(words);
+    if n != 0 {
+        return Dispatched::Refused(n);
+    }
+    let g = settings(words);
+    fit_dispatch(words, g, worker, steps)
+}

@@ -1,0 +1,56 @@
+-- `held::passed::distance` meets its contract: the loop's invariant is the count over the subs passed.
+use Prim.Native.Nat.{_*_, _-_, _≤_}
+use mathlib.Core.Path.{sym, _≡_}
+use native.Mathlib.Omega.{arith}
+use borrow.Author.Needs.{needs}
+use Rattle.rules.proofs.Cells.{subs-more, subs-none}
+use Rattle.rules.specs.Held.{countItems, distanceOf, heldBelow, passedOver}
+use Rattle.rules.specs.Limits.{mostRows}
+use Rattle.held.proofs.passed.distance.Statement.{statement}
+use Rattle.held.proofs.passed.distance.Tie as tie
+
+abbrev Inv-loop : tie.InvT-loop
+Inv-loop words g s width n₀ j₀ n j = (j ≤ g .width) × (n ≤ mostRows * j) × (n ≡ countItems (passedOver (g .kind) (s .0)) (heldBelow words g j))
+
+abbrev μ-loop : tie.MeasureT-loop
+μ-loop words g s width n₀ j₀ n j = g .width - j
+
+loop-holds : tie.Need-loop-holds Inv-loop μ-loop
+loop-holds c = (search needs, search needs, sym (subs-none _ _ _))
+
+sub-passed-requires : tie.Need-sub-passed-requires Inv-loop μ-loop
+sub-passed-requires c κs = let p = c .before .before .before .pre in (p .bounds, ((p .enough, c .loop-test .taken), p .sub _ (c .loop-test .taken)))
+
+add-n : tie.Need-add-n Inv-loop μ-loop
+add-n c = search needs
+
+add-j : tie.Need-add-j Inv-loop μ-loop
+add-j c = search needs
+
+loop-less : tie.Need-loop-less Inv-loop μ-loop
+loop-less c = search needs
+
+loop-again : tie.Need-loop-again Inv-loop μ-loop
+loop-again c =
+    let a = c .before .before .before .before .args in
+    omega (arith, subs-more (passedOver (a .g .kind) (a .s .0)) (a .words .now) (a .g) (c .before .before .loop .j))
+
+returns : tie.Need-returns Inv-loop μ-loop
+unfolding distanceOf
+returns c =
+    let all : c .before .loop .j ≡ c .before .before .before .args .g .width = omega arith in
+    rw all at (c .before .loop .inv .2)
+
+pub distance-spec : {M : Type 1} → statement M
+distance-spec =
+    tie.close
+    (tie.spec
+    Inv-loop
+    μ-loop
+    loop-holds
+    sub-passed-requires
+    add-n
+    add-j
+    loop-less
+    loop-again
+    returns)

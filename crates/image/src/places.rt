@@ -1,0 +1,112 @@
+// "The pool's words": where each lies. The head, the subs, the workers, the cells.
+use laws::num::minus;
+use rules::Row;
+use rules::Settings;
+use rules::numbers::MOST_CELLS;
+use rules::numbers::MOST_WORKERS;
+use rules::numbers::WIDEST;
+ghost use mathlib.Core.Path.{_≡_};
+ghost use Prim.Native.Nat.{_+_, _<_, _≤_};
+ghost use Rattle.rules.specs.Layout.{cellWords, subAt, workerAt, subCellsAt, cellAt, needed};
+ghost use Rattle.rules.specs.Limits.{Bounds};
+
+// The head: the settings.
+pub const KIND: usize = 0;
+
+pub const WIDTH: usize = 1;
+
+pub const DEPTH: usize = 2;
+
+pub const SHIFT: usize = 3;
+
+pub const ROWS: usize = 4;
+
+pub const WORKER_COUNT: usize = 5;
+
+// Steps counted, puts made.
+pub const STEPS: usize = 6;
+
+pub const PUTS: usize = 7;
+
+// P or G; T or G's version.
+pub const TOP: usize = 8;
+
+pub const MARK: usize = 9;
+
+pub const FIRST_ZERO: usize = 10;
+
+pub const SECOND_ZERO: usize = 11;
+
+pub const HEAD_WORDS: usize = 12;
+
+// A sub: items put and items taken, or items held and version.
+pub const SUB_WORDS: usize = 2;
+
+// A worker's words, from the first of them.
+pub const PHASE: usize = 0;
+
+pub const VALUE: usize = 1;
+
+pub const INDEX: usize = 2;
+
+pub const SEEN_WINDOW: usize = 3;
+
+pub const EXTRA: usize = 4;
+
+pub const SCAN: usize = 5;
+
+pub const SEEN: usize = 6;
+
+pub const SUM: usize = 7;
+
+pub const WORKER_WORDS: usize = 8;
+
+// A cell: value, stamp.
+pub const CELL_WORDS: usize = 2;
+
+// Enough for every pool.
+pub const MOST_WORDS: usize = HEAD_WORDS
+    + SUB_WORDS * (WIDEST as usize)
+    + WORKER_WORDS * (MOST_WORKERS as usize)
+    + CELL_WORDS * (MOST_CELLS as usize);
+
+// Where sub `j` lies.
+pub fn sub_at(j: u32) -> usize
+    ensures { λ r. ⌜ r ≡ subAt j ⌝ }
+{
+    HEAD_WORDS + SUB_WORDS * (j as usize)
+}
+
+// Where worker `i` lies: behind the subs.
+pub fn worker_at(g: Settings, i: u32) -> usize
+    ensures { λ r. ⌜ r ≡ workerAt g i ⌝ }
+{
+    sub_at(g.width) + WORKER_WORDS * (i as usize)
+}
+
+// Where the cells of sub `j` lie: behind the workers.
+pub fn sub_cells_at(g: Settings, j: u32) -> usize
+    requires { ⌜ Bounds g ⌝ }
+    requires { ⌜ j ≤ g .width ⌝ }
+    ensures { λ r. ⌜ r ≡ subCellsAt g j ⌝ }
+{
+    worker_at(g, g.workers) + CELL_WORDS * ((j as usize) * (g.rows as usize))
+}
+
+// Where the cell of a row of sub `j` lies: among the words needed.
+pub fn cell_at(g: Settings, j: u32, row: Row) -> usize
+    requires { ⌜ Bounds g ⌝ }
+    requires { ⌜ j < g .width ⌝ }
+    ensures { λ r. ⌜ (r ≡ cellAt g j (row .0)) × (r + cellWords ≤ needed g) ⌝ }
+{
+    let below = minus(row.0, 1) % g.rows;
+    sub_cells_at(g, j) + CELL_WORDS * (below as usize)
+}
+
+// How many words a pool needs.
+pub fn words_needed(g: Settings) -> usize
+    requires { ⌜ Bounds g ⌝ }
+    ensures { λ r. ⌜ r ≡ needed g ⌝ }
+{
+    sub_cells_at(g, g.width)
+}

@@ -1,0 +1,102 @@
+// A worker's words as they lie, from `at` on.
+use crate::head::count_step;
+use crate::places::EXTRA;
+use crate::places::INDEX;
+use crate::places::PHASE;
+use crate::places::SCAN;
+use crate::places::SEEN;
+use crate::places::SEEN_WINDOW;
+use crate::places::SUM;
+use crate::places::VALUE;
+use rules::Effect;
+use rules::Slot;
+use rules::numbers::IDLE;
+ghost use mathlib.Core.Path.{_≡_};
+ghost use Prim.Native.Nat.{_+_, _<_, _≤_};
+ghost use lib.ListN.{length, getD, set};
+ghost use Rattle.rules.specs.Apply.{putWorker};
+ghost use Rattle.rules.specs.Begin.{idleAt};
+ghost use Rattle.rules.specs.Layout.{workerWords, indexAt};
+ghost use Rattle.rules.specs.Worker.{slotAt, putSlot};
+
+// Word `k` of the worker.
+fn word(words: &[u32], at: usize, k: usize) -> u32
+    requires { ⌜ (at + workerWords ≤ length (now words)) × (k < workerWords) ⌝ }
+    ensures { λ r. ⌜ r ≡ getD (now (words .entry)) (at + k) 0 ⌝ }
+{
+    words[at + k]
+}
+
+// Writes word `k` of the worker.
+fn put_word(words: &mut [u32], at: usize, k: usize, x: u32)
+    requires { ⌜ (at + workerWords ≤ length (now words)) × (k < workerWords) ⌝ }
+    ensures { λ r. ⌜ now (words .exit) ≡ set (now (words .entry)) (at + k) x ⌝ }
+{
+    words[at + k] = x;
+}
+
+// Whether the worker is idle.
+pub fn idle_at(words: &[u32], at: usize) -> bool
+    requires { ⌜ at + workerWords ≤ length (now words) ⌝ }
+    ensures { λ r. ⌜ r ≡ idleAt (now (words .entry)) at ⌝ }
+{
+    word(words, at, PHASE) == IDLE
+}
+
+// The worker's index.
+pub fn index_of(words: &[u32], at: usize) -> u32
+    requires { ⌜ at + workerWords ≤ length (now words) ⌝ }
+    ensures { λ r. ⌜ r ≡ getD (now (words .entry)) (indexAt at) 0 ⌝ }
+{
+    word(words, at, INDEX)
+}
+
+// Writes the worker's index.
+pub fn put_index(words: &mut [u32], at: usize, x: u32)
+    requires { ⌜ at + workerWords ≤ length (now words) ⌝ }
+    ensures { λ r. ⌜ now (words .exit) ≡ set (now (words .entry)) (indexAt at) x ⌝ }
+{
+    put_word(words, at, INDEX, x);
+}
+
+// All eight.
+pub fn load(words: &[u32], at: usize) -> Slot
+    requires { ⌜ at + workerWords ≤ length (now words) ⌝ }
+    ensures { λ r. ⌜ r ≡ slotAt (now (words .entry)) at ⌝ }
+{
+    Slot {
+        number: word(words, at, PHASE),
+        value: word(words, at, VALUE),
+        index: word(words, at, INDEX),
+        window: word(words, at, SEEN_WINDOW),
+        extra: word(words, at, EXTRA),
+        scan: word(words, at, SCAN),
+        seen: word(words, at, SEEN),
+        sum: word(words, at, SUM),
+    }
+}
+
+// Writes all eight.
+pub fn store(words: &mut [u32], at: usize, s: Slot)
+    requires { ⌜ at + workerWords ≤ length (now words) ⌝ }
+    ensures { λ r. ⌜ now (words .exit) ≡ putSlot (now (words .entry)) at s ⌝ }
+{
+    put_word(words, at, PHASE, s.number);
+    put_word(words, at, VALUE, s.value);
+    put_word(words, at, INDEX, s.index);
+    put_word(words, at, SEEN_WINDOW, s.window);
+    put_word(words, at, EXTRA, s.extra);
+    put_word(words, at, SCAN, s.scan);
+    put_word(words, at, SEEN, s.seen);
+    put_word(words, at, SUM, s.sum);
+}
+
+// Counts the step, and writes the worker's words.
+pub fn put_worker(words: &mut [u32], at: usize, e: Effect)
+    requires { ⌜ at + workerWords ≤ length (now words) ⌝ }
+    ensures { λ r. ⌜ now (words .exit) ≡ putWorker (now (words .entry)) at e ⌝ }
+{
+    count_step(words);
+    let slot = e.slot;
+    store(words, at, slot);
+}

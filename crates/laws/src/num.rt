@@ -1,0 +1,17 @@
+// Sums and differences modulo 2^32.
+use std::num::wrapping_add_u32;
+use std::num::wrapping_sub_u32;
+ghost use mathlib.Core.Path.{_≡_};
+ghost use Rattle.laws.specs.Wrap.{add32, sub32};
+
+pub fn plus(a: u32, b: u32) -> u32
+    ensures { λ r. ⌜ r ≡ add32 a b ⌝ }
+{
+    wrapping_add_u32(a, b)
+}
+
+pub fn minus(a: u32, b: u32) -> u32
+    ensures { λ r. ⌜ r ≡ sub32 a b ⌝ }
+{
+    wrapping_sub_u32(a, b)
+}

@@ -1,0 +1,3 @@
+-- What the proofs of the functions cite; in `Pieces` the theorems.
+pub mod Stretches
+pub mod Pieces

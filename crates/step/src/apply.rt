@@ -1,0 +1,81 @@
+// What an effect writes and answers.
+use held::distance;
+use image::item_of;
+use image::put_landed;
+use image::put_shifted;
+use image::put_sub;
+use image::put_worker;
+use rules::Answer;
+use rules::Effect;
+use rules::Outcome;
+use rules::Row;
+use rules::Settings;
+ghost use mathlib.Core.Path.{_≡_};
+ghost use Prim.Native.Nat.{_<_};
+ghost use Rattle.rules.specs.Answers.{out};
+ghost use Rattle.rules.specs.Fit.{FitPool};
+ghost use Rattle.rules.specs.Layout.{Lent};
+ghost use Rattle.rules.specs.Apply.{takenOf, applyOf};
+
+// The answer of a take: the row's item, and the distance just before.
+fn taken(words: &[u32], g: Settings, j: u32, row: Row) -> Answer
+    requires { ⌜ FitPool g (now words) ⌝ }
+    requires { ⌜ j < g .width ⌝ }
+    ensures { λ r. ⌜ r ≡ takenOf (now (words .entry)) g j row ⌝ }
+{
+    let it = item_of(words, g, j, row);
+    let stamp = it.stamp;
+    Answer::Taken {
+        value: it.value,
+        sub: j,
+        row,
+        stamp,
+        distance: distance(words, g, stamp),
+    }
+}
+
+// Writes an effect of the worker whose words start at `at` and whose sub is `j`.
+pub fn apply(words: &mut [u32], g: Settings, at: usize, j: u32, e: Effect) -> Answer
+    requires { ⌜ FitPool g (now words) ⌝ }
+    requires { ⌜ Lent g (now words) at ⌝ }
+    requires { ⌜ j < g .width ⌝ }
+    ensures { λ r. ⌜ out r (now (words .exit)) ≡ applyOf (now (words .entry)) g at j e ⌝ }
+{
+    let outcome = e.outcome;
+    match outcome {
+        Outcome::Refused(n) => Answer::Refused(n),
+        Outcome::Moving => {
+            put_worker(words, at, e);
+            Answer::Moving
+        }
+        Outcome::Shifted => {
+            put_shifted(words, e);
+            put_worker(words, at, e);
+            Answer::Moving
+        }
+        Outcome::Landed { value, row, stamp } => {
+            put_landed(words, g, j, value, row, stamp, e);
+            put_worker(words, at, e);
+            Answer::Put {
+                value,
+                sub: j,
+                row,
+                stamp,
+            }
+        }
+        Outcome::Removed { row } => {
+            let answer = taken(words, g, j, row);
+            put_sub(words, j, e);
+            put_worker(words, at, e);
+            answer
+        }
+        Outcome::Empty => {
+            put_worker(words, at, e);
+            Answer::Empty
+        }
+        Outcome::Full => {
+            put_worker(words, at, e);
+            Answer::Full
+        }
+    }
+}
