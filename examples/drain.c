@@ -34,7 +34,7 @@ int main(void) {
 
     pool_make(words, LENT, POOL_QUEUE, WIDTH, 1, 1, ROWS, 2, fields);
     /* This stands for a long search. A program reads the word, and does not write it. */
-    words[6] = POOL_STEP_LIMIT - TO_DRAIN - 50u;
+    words[POOL_STEPS_AT] = POOL_STEP_LIMIT - TO_DRAIN - 50u;
 
     /* Every third operation of the search is a take. */
     uint32_t number = POOL_PUT, begun = 0;

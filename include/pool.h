@@ -113,11 +113,15 @@ extern "C" {
  * examples/drain.c does it.
  */
 #define POOL_STEP_LIMIT 4000000000u
+#define POOL_STEPS_AT 6 /* the word that counts the steps taken */
 #define POOL_STEPS_TO_DRAIN(width, items) (((items) + 1u) * POOL_STEPS_ALONE(width))
 
-static inline uint32_t pool_steps_used(const uint32_t *words) { return words[6]; }
+static inline uint32_t pool_steps_used(const uint32_t *words) { return words[POOL_STEPS_AT]; }
 
-static inline uint32_t pool_steps_left(const uint32_t *words) { return words[6] < POOL_STEP_LIMIT ? POOL_STEP_LIMIT - words[6] : 0u; }
+static inline uint32_t pool_steps_left(const uint32_t *words) {
+    uint32_t used = pool_steps_used(words);
+    return used < POOL_STEP_LIMIT ? POOL_STEP_LIMIT - used : 0u;
+}
 
 /*
  * Of so many steps in a row that are not refused, on a queue from pool_make, by any workers in any order and with begins between them, at least
