@@ -1,10 +1,10 @@
 -- THE LISTING of a run file: its lines as numbers, and as text.
 -- "For each answer 1 to 4 and each refusal it prints word position, number, worker, value, sub, row, stamp, distance. [..]
 -- The lister stops after 22, 28, 29, 30, else ends with held H worst D."
-use Prim.Native.Nat.{ℕ, _+_, _*_, max}
+use Prim.Native.Nat.{ℕ, _+_, max}
 use mathlib.Core.List.{List, [], _∷_, _++_}
 use mathlib.Core.Bool.{Bool, true}
-use lib.ListN.{length, replicate}
+use lib.ListN.{replicate}
 use lib.Dec.{eqb, ltb}
 use Rattle.laws.specs.Choice.{cond}
 use Rattle.rules.specs.Answers.{Out, out, fieldsOf, noFields, offLimits, fileCut, badWord, overBound}

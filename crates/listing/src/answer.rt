@@ -10,7 +10,7 @@ use rules::numbers::OVER_BOUND;
 use runfile::item::Place;
 ghost use mathlib.Core.Path.{_≡_};
 ghost use Prim.Native.Nat.{max};
-ghost use Rattle.listing.specs.Listing.{distanceIn, cappedOf};
+ghost use Rattle.listing.specs.Listing.{distanceIn};
 ghost use Rattle.listing.specs.Listing.{stops as Listing·stops};
 ghost use Rattle.listing.specs.Turn.{newLister, plain, itemEntry, quietTurn, lineTurn, answerTurn, cappedTurn};
 

@@ -9,7 +9,6 @@ use rules::Settings;
 use rules::numbers::OFF_LIMITS;
 use rules::numbers::TOO_FEW_WORDS;
 ghost use mathlib.Core.Path.{_≡_};
-ghost use mathlib.Core.Bool.{true};
 ghost use Prim.Native.Nat.{_≤_};
 ghost use lib.ListN.{length};
 ghost use Rattle.rules.specs.Answers.{out};

@@ -2,7 +2,7 @@
 -- outcome stores less than all that a step may store, and leaves the same words (Writes).
 use mathlib.Core.Path.{_≡_, sym, ap, _∙_}
 use mathlib.Core.List.{List}
-use Prim.Native.Nat.{ℕ, _+_, _<_}
+use Prim.Native.Nat.{ℕ, _<_}
 use lib.ListN.{getD}
 use Rattle.rules.specs.Limits.{stepLimit}
 use Rattle.rules.specs.Layout.{subAt, workerAt, indexAt, secondAt}

@@ -1,6 +1,5 @@
 -- `step::work::fit_step` meets its contract: at each return the test that led there picks the same branch of `fitStep`, and each call stands for what it ensures.
 use mathlib.Core.Path.{_∙_}
-use native.Mathlib.Omega.{arith}
 use borrow.Author.Tests.{le-leb, lt-leb}
 use Rattle.laws.specs.Choice.{cond}
 use Rattle.rules.specs.Step.{fitStep}
