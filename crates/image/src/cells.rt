@@ -1,4 +1,5 @@
 // All that touches a cell: a value, and the stamp behind it.
+use crate::pair::put_pair;
 use crate::places::CELL_WORDS;
 use crate::places::PUTS;
 use crate::places::cell_at;
@@ -50,9 +51,7 @@ pub fn put_item(words: &mut [u32], g: Settings, j: u32, value: u32, row: Row, st
     requires { ⌜ (needed g ≤ length (now words)) × (j < g .width) ⌝ }
     ensures { λ r. ⌜ now (words .exit) ≡ putItem (now (words .entry)) g j value row stamp ⌝ }
 {
-    let cell = cell_at(g, j, row);
-    words[cell] = value;
-    words[cell + STAMP] = stamp.0;
+    put_pair(words, cell_at(g, j, row), value, stamp.0);
 }
 
 // Writes an item, the count of puts, and sub `j`.

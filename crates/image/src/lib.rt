@@ -1,6 +1,7 @@
 // Where a pool's words lie, and how they are read and written. Nothing outside this crate knows a place by its number.
 mod cells;
 mod head;
+mod pair;
 mod places;
 mod slot;
 mod sub;

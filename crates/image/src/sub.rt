@@ -1,4 +1,5 @@
 // The two words of a sub.
+use crate::pair::put_pair;
 use crate::places::sub_at;
 use rules::Effect;
 ghost use mathlib.Core.Path.{_≡_};
@@ -30,7 +31,5 @@ pub fn put_sub(words: &mut [u32], j: u32, e: Effect)
     requires { ⌜ subAt j + subWords ≤ length (now words) ⌝ }
     ensures { λ r. ⌜ now (words .exit) ≡ putSub (now (words .entry)) j e ⌝ }
 {
-    let at = sub_at(j);
-    words[at] = e.first;
-    words[at + 1] = e.second;
+    put_pair(words, sub_at(j), e.first, e.second);
 }
