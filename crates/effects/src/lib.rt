@@ -1,4 +1,4 @@
-// The ways in which a step can end: what it leaves of all that it read. Only here are the shared words handled by their places in a view.
+// The ways in which a step can end: what it leaves of all that it read.
 use laws::num::plus;
 use rules::Effect;
 use rules::Outcome;
