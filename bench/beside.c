@@ -2,6 +2,7 @@
  * Two archives of the library beside each other in one process: time per call, before / after, on the same operations and equal words. Built by
  * beside.sh, which gives each archive's functions a prefix of their own. A round makes OPERATIONS puts, each followed by a take, with one archive and then
  * with the other; the order changes from round to round. Each number is the median of the rounds, and a ratio the median of the rounds' ratios.
+ * The second archive makes the pools of both, so that the first may be one whose make has no stride.
  */
 #include "pool.h"
 #include <stdio.h>
@@ -14,8 +15,8 @@
 #define DEPTH 4u
 #define ROWS 64u
 
+uint32_t after_make(uint32_t *, size_t, uint32_t, uint32_t, uint32_t, uint32_t, uint32_t, uint32_t, uint32_t, uint32_t *);
 #define LIBRARY(name)                                                                                                                      \
-    uint32_t name##_make(uint32_t *, size_t, uint32_t, uint32_t, uint32_t, uint32_t, uint32_t, uint32_t, uint32_t *);                      \
     uint32_t name##_begin_put(uint32_t *, size_t, uint32_t, uint32_t, uint32_t *);                                                         \
     uint32_t name##_begin_take(uint32_t *, size_t, uint32_t, uint32_t *);                                                                  \
     uint32_t name##_step(uint32_t *, size_t, uint32_t, uint32_t *);
@@ -100,7 +101,7 @@ int main(void) {
             uint32_t held = row % 3 == 0 ? 0 : row % 3 == 1 ? width * ROWS / 2 : width * (ROWS - 2 * DEPTH);
             size_t len = POOL_WORDS(width, ROWS, workers);
             for (int side = 0; side < 2; side++) {
-                before_make(words[side], len, kind, width, DEPTH, shift, ROWS, workers, fields);
+                after_make(words[side], len, kind, width, DEPTH, shift, ROWS, workers, 0, fields);
                 for (uint32_t at = 0; at < held; at++) { put(&libraries[side], words[side], len, at % workers, at + 1); }
             }
             for (int round = 0; round < ROUNDS; round++) {

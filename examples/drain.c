@@ -32,7 +32,7 @@ int main(void) {
                POOL_STEPS_ALONE_QUEUE_TAKE(width), POOL_STEPS_ALONE_STACK(width));
     }
 
-    pool_make(words, LENT, POOL_QUEUE, WIDTH, 1, 1, ROWS, 2, fields);
+    pool_make(words, LENT, POOL_QUEUE, WIDTH, 1, 1, ROWS, 2, 0, fields);
     /* This stands for a long search. A program reads the word, and does not write it. */
     words[POOL_STEPS_AT] = POOL_STEP_LIMIT - TO_DRAIN - 50u;
 

@@ -26,8 +26,8 @@ int main(void) {
             printf(", an answer in %u, closest %u", POOL_STEPS_TO_ANSWER(w, n), POOL_STEPS_TO_ANSWER_CLOSEST(w, n));
         }
         /* Just the needed words are enough, and one less is not. */
-        int enough = pool_make(words, needed, kind, w, d, s, rows, n, fields) == POOL_MOVING;
-        int less = pool_make(words, needed - 1, kind, w, d, s, rows, n, fields) == POOL_TOO_FEW_WORDS;
+        int enough = pool_make(words, needed, kind, w, d, s, rows, n, 0, fields) == POOL_MOVING;
+        int less = pool_make(words, needed - 1, kind, w, d, s, rows, n, 0, fields) == POOL_TOO_FEW_WORDS;
         printf(enough && less ? "\n" : ": not so\n");
     }
     for (uint32_t number = 0; number <= POOL_STEPS_SPENT; number += number == POOL_RAN_OUT ? 15 : 1) {

@@ -14,7 +14,7 @@ static void finish(void) {
 }
 
 int main(void) {
-    shown("make", pool_make(words, POOL_WORDS(2, 4, 1), POOL_QUEUE, 2, 1, 1, 4, 1, fields));
+    shown("make", pool_make(words, POOL_WORDS(2, 4, 1), POOL_QUEUE, 2, 1, 1, 4, 1, 0, fields));
     shown("begin put", pool_begin_put(words, POOL_WORDS(2, 4, 1), 0, 7, fields));
     finish();
     shown("begin take", pool_begin_take(words, POOL_WORDS(2, 4, 1), 0, fields));

@@ -21,7 +21,7 @@ static int next_answer(uint32_t *turn, uint32_t *number) {
 }
 
 int main(void) {
-    uint32_t turn = 0, number = pool_make(words, LENT, POOL_QUEUE, WIDTH, 2, 2, 4, WORKERS, fields);
+    uint32_t turn = 0, number = pool_make(words, LENT, POOL_QUEUE, WIDTH, 2, 2, 4, WORKERS, 0, fields);
 
     for (uint32_t value = 1; value <= 2 * WORKERS; value++) {
         pool_begin_put(words, LENT, value % WORKERS, 10 * value, fields);

@@ -96,6 +96,7 @@ pub fn settings(kind: u32, width: u32, rows: u32, workers: u32) -> Settings {
         shift,
         rows,
         workers,
+        stride: 0,
     }
 }
 

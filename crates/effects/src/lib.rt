@@ -16,7 +16,8 @@ ghost use mathlib.Core.Path.{_≡_};
 ghost use Prim.Native.Nat.{_<_};
 ghost use Rattle.rules.specs.Commit.{landedOf, removedOf};
 ghost use Rattle.rules.specs.Shift.{shiftedOf};
-ghost use Rattle.rules.specs.Effects.{nextOf, keepOf, refusedOf, movedOf, restartOf, finishedOf, nothingFor, withPass};
+ghost use Rattle.rules.specs.Limits.{Bounds};
+ghost use Rattle.rules.specs.Effects.{nextOf, hopOf, keepOf, refusedOf, movedOf, restartOf, finishedOf, nothingFor, withPass};
 
 // The index after `x`.
 pub fn next(g: Settings, x: u32) -> u32
@@ -24,6 +25,18 @@ pub fn next(g: Settings, x: u32) -> u32
     ensures { λ r. ⌜ r ≡ nextOf g x ⌝ }
 {
     if x + 1 < g.width { x + 1 } else { 0 }
+}
+
+// The index for a worker that lost a commit at `x`: on by the stride, where 0 stands for 1.
+pub fn hop(g: Settings, x: u32) -> u32
+    requires { ⌜ Bounds g ⌝ }
+    requires { ⌜ x < g .width ⌝ }
+    ensures { λ r. ⌜ r ≡ hopOf g x ⌝ }
+{
+    if g.stride == 0 {
+        return next(g, x);
+    }
+    (x + g.stride) % g.width
 }
 
 // All that is shared stays.

@@ -18,6 +18,7 @@ pub fn settings_fit(g: Settings) -> bool
     let shift = g.shift;
     let rows = g.rows;
     let workers = g.workers;
+    let stride = g.stride;
     if 1 < kind {
         return false;
     }
@@ -52,6 +53,9 @@ pub fn settings_fit(g: Settings) -> bool
         return false;
     }
     if MOST_CELLS < width * rows {
+        return false;
+    }
+    if width <= stride {
         return false;
     }
     if kind == 0 {

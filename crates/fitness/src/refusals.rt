@@ -2,9 +2,8 @@
 use crate::limits::settings_fit;
 use crate::subs::subs_fit;
 use crate::workers::workers_fit;
-use image::FIRST_ZERO;
 use image::HEAD_WORDS;
-use image::SECOND_ZERO;
+use image::ZERO;
 use image::settings;
 use image::words_needed;
 use rules::Settings;
@@ -17,15 +16,13 @@ ghost use Rattle.rules.specs.Fit.{headFit, bodyChecked, checkedOf, refusalOf};
 ghost use Rattle.rules.specs.Layout.{headWords, settingsOf};
 ghost use Rattle.rules.specs.Limits.{Bounds};
 
-// Whether the settings and words 10 and 11 are fit.
+// Whether the settings and word 11 are fit.
 fn head_fit(words: &[u32], g: Settings) -> bool
     requires { ⌜ (headWords ≤ length (now words)) × (g ≡ settingsOf (now words)) ⌝ }
     ensures { λ r. ⌜ r ≡ headFit (now (words .entry)) ⌝ }
 {
     if settings_fit(g) {
-        if words[FIRST_ZERO] == 0 {
-            return words[SECOND_ZERO] == 0;
-        }
+        return words[ZERO] == 0;
     }
     false
 }

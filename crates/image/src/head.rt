@@ -6,6 +6,7 @@ use crate::places::PUTS;
 use crate::places::ROWS;
 use crate::places::SHIFT;
 use crate::places::STEPS;
+use crate::places::STRIDE;
 use crate::places::TOP;
 use crate::places::WIDTH;
 use crate::places::WORKER_COUNT;
@@ -35,6 +36,7 @@ pub fn settings(words: &[u32]) -> Settings
         shift: words[SHIFT],
         rows: words[ROWS],
         workers: words[WORKER_COUNT],
+        stride: words[STRIDE],
     }
 }
 
@@ -87,4 +89,5 @@ pub fn put_head(words: &mut [u32], g: Settings)
     words[PUTS] = 0;
     words[TOP] = g.depth;
     words[MARK] = mark;
+    words[STRIDE] = g.stride;
 }

@@ -10,7 +10,7 @@ ghost use Prim.Native.Nat.{_+_, _<_, _≤_};
 ghost use Rattle.rules.specs.Layout.{cellWords, subAt, workerAt, subCellsAt, cellAt, needed};
 ghost use Rattle.rules.specs.Limits.{Bounds};
 
-// The head: the settings.
+// The head: the settings but one.
 pub const KIND: usize = 0;
 
 pub const WIDTH: usize = 1;
@@ -33,9 +33,11 @@ pub const TOP: usize = 8;
 
 pub const MARK: usize = 9;
 
-pub const FIRST_ZERO: usize = 10;
+// The last setting.
+pub const STRIDE: usize = 10;
 
-pub const SECOND_ZERO: usize = 11;
+// Zero in every pool.
+pub const ZERO: usize = 11;
 
 pub const HEAD_WORDS: usize = 12;
 

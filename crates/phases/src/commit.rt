@@ -1,8 +1,8 @@
 // The commit phase.
 use crate::views::queue_view;
 use crate::views::stack_view;
+use effects::hop;
 use effects::landed;
-use effects::next;
 use effects::refused;
 use effects::removed;
 use effects::restart;
@@ -18,9 +18,11 @@ use rules::numbers::NOT_FIT;
 ghost use mathlib.Core.Path.{_≡_};
 ghost use Prim.Native.Nat.{_<_};
 ghost use Rattle.rules.specs.Commit.{commitBy, queueCommit, stackCommit};
+ghost use Rattle.rules.specs.Limits.{Bounds};
 
 // What a commit does that matches, if it is able to; a lost one hops.
 fn commit_by(g: Settings, v: View, side: Side, matches: bool, able: bool, done: Effect) -> Effect
+    requires { ⌜ Bounds g ⌝ }
     requires { ⌜ v .worker .index < g .width ⌝ }
     ensures { λ r. ⌜ r ≡ commitBy g v side matches able done ⌝ }
 {
@@ -30,10 +32,11 @@ fn commit_by(g: Settings, v: View, side: Side, matches: bool, able: bool, done: 
         }
         return refused(v, NOT_FIT);
     }
-    restart(v, next(g, v.worker.index), side)
+    restart(v, hop(g, v.worker.index), side)
 }
 
 pub fn queue_commit(g: Settings, v: View, side: Side, seen: u32) -> Effect
+    requires { ⌜ Bounds g ⌝ }
     requires { ⌜ v .worker .index < g .width ⌝ }
     ensures { λ r. ⌜ r ≡ queueCommit g v side seen ⌝ }
 {
@@ -68,6 +71,7 @@ pub fn queue_commit(g: Settings, v: View, side: Side, seen: u32) -> Effect
 }
 
 pub fn stack_commit(g: Settings, v: View, side: Side, seen: Version) -> Effect
+    requires { ⌜ Bounds g ⌝ }
     requires { ⌜ v .worker .index < g .width ⌝ }
     ensures { λ r. ⌜ r ≡ stackCommit g v side seen ⌝ }
 {

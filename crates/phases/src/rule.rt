@@ -16,12 +16,12 @@ use rules::Settings;
 use rules::View;
 use rules::numbers::WORKER_IDLE;
 ghost use mathlib.Core.Path.{_≡_};
-ghost use Prim.Native.Nat.{_≤_, _<_};
-ghost use Rattle.rules.specs.Limits.{deepest};
+ghost use Prim.Native.Nat.{_<_};
+ghost use Rattle.rules.specs.Limits.{Bounds};
 ghost use Rattle.rules.specs.Step.{ruleOf};
 
 pub fn rule(g: Settings, v: View) -> Effect
-    requires { ⌜ g .depth ≤ deepest ⌝ }
+    requires { ⌜ Bounds g ⌝ }
     requires { ⌜ v .worker .index < g .width ⌝ }
     ensures { λ r. ⌜ r ≡ ruleOf g v ⌝ }
 {

@@ -26,11 +26,12 @@ pub extern "C" fn pool_make(
     shift: u32,
     rows: u32,
     workers: u32,
+    stride: u32,
     fields: &mut [u32; 5],
 ) -> u32
-    ensures { λ r. ⌜ returned r (now (words .exit)) (now (fields .exit)) ≡ returnedOf (makeOf (now (words .entry)) (settingsFrom kind width depth shift rows workers)) ⌝ }
+    ensures { λ r. ⌜ returned r (now (words .exit)) (now (fields .exit)) ≡ returnedOf (makeOf (now (words .entry)) (settingsFrom kind width depth shift rows workers stride)) ⌝ }
 {
-    let a = make(words, kind, width, depth, shift, rows, workers);
+    let a = make(words, kind, width, depth, shift, rows, workers, stride);
     answered(a, fields)
 }
 

@@ -60,8 +60,9 @@ pub fn make(
     shift: u32,
     rows: u32,
     workers: u32,
+    stride: u32,
 ) -> Answer
-    ensures { λ r. ⌜ out r (now (words .exit)) ≡ makeOf (now (words .entry)) (settingsFrom kind width depth shift rows workers) ⌝ }
+    ensures { λ r. ⌜ out r (now (words .exit)) ≡ makeOf (now (words .entry)) (settingsFrom kind width depth shift rows workers stride) ⌝ }
 {
     let g = Settings {
         kind,
@@ -70,6 +71,7 @@ pub fn make(
         shift,
         rows,
         workers,
+        stride,
     };
     if settings_fit(g) {
         let n = words_needed(g);

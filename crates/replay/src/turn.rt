@@ -67,7 +67,16 @@ fn bound_in(g: Settings) -> u32
 fn make(words: &mut [u32], l: Lister, g: Settings) -> Turn
     ensures { λ r. ⌜ turned r (now (words .exit)) ≡ callTurn (now (words .entry)) l (Item.Make g) ⌝ }
 {
-    let a = pool::make(words, g.kind, g.width, g.depth, g.shift, g.rows, g.workers);
+    let a = pool::make(
+        words,
+        g.kind,
+        g.width,
+        g.depth,
+        g.shift,
+        g.rows,
+        g.workers,
+        g.stride,
+    );
     let made = Lister {
         place: Place::Later,
         position: l.position,

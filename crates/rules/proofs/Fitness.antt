@@ -6,11 +6,11 @@ use mathlib.Core.List.{List}
 use mathlib.Core.Bool.{Bool, true, false}
 use native.Mathlib.Omega.{arith}
 use lib.ListN.{getD, length}
-use lib.Dec.{ltb, leb, eqb, lit<}
+use lib.Dec.{ltb, leb, lit<}
 use borrow.Author.Tests.{ltb-true, ltb-false, leb-true, eq-eqb, ne-eqb, eqb-true}
 use Rattle.laws.specs.Choice.{cond, cases, both-true, all, all-holds, allBelow-at}
 use Rattle.rules.specs.Answers.{tooFewWords, notFit}
-use Rattle.rules.specs.Layout.{headWords, workerWords, workerAt, needed, settingsOf}
+use Rattle.rules.specs.Layout.{headWords, zeroAt, workerWords, workerAt, needed, settingsOf}
 use Rattle.rules.specs.Limits.{limits, queueLimits, settingsFit, Bounds}
 use Rattle.rules.specs.Fit.{Checked, Unfit, Fit, headFit, subFit, subsFit, phaseFit, wordFit, workersFit, bodyChecked, checkedOf, refusalOf, SubFits, FitPool}
 use Rattle.rules.specs.declared.Settings.{Settings}
@@ -33,6 +33,7 @@ settings-bounds g e =
       workers1 = leb-true _ _ (t .1 .1 .1 .1 .1 .1 .1 .1 .1 .0);
       workers32 = leb-true _ _ (t .1 .1 .1 .1 .1 .1 .1 .1 .1 .1 .0);
       cells = leb-true _ _ (t .1 .1 .1 .1 .1 .1 .1 .1 .1 .1 .1 .0);
+      stride-width = ltb-true _ _ (t .1 .1 .1 .1 .1 .1 .1 .1 .1 .1 .1 .1 .0);
     }
 
 -- a queue's shift is its depth, and its rows a multiple of it
@@ -108,18 +109,16 @@ fit-pool ws g e =
     let p = body-fit ws (settingsOf ws) g refl (both-true _ _ (head .0) .0) (head .1) in
     subst (λ (h : Settings). FitPool h ws) (p .1) (p .0)
 
--- its settings are within limits and its words 10 and 11 zero, and each worker is in a phase of its kind
-head-is : (ws : List ℕ) → headFit ws ≡ true → (settingsFit (settingsOf ws) ≡ true) × (getD ws 10 0 ≡ 0) × (getD ws 11 0 ≡ 0)
+-- its settings are within limits and its word 11 zero, and each worker is in a phase of its kind
+head-is : (ws : List ℕ) → headFit ws ≡ true → (settingsFit (settingsOf ws) ≡ true) × (getD ws zeroAt 0 ≡ 0)
 unfolding headFit
-head-is ws e =
-    let zeros = both-true (eqb (getD ws 10 0) 0) (eqb (getD ws 11 0) 0) (both-true (settingsFit (settingsOf ws)) _ e .1) in
-    (both-true (settingsFit (settingsOf ws)) _ e .0, eqb-true _ _ (zeros .0), eqb-true _ _ (zeros .1))
+head-is ws e = let t = both-true (settingsFit (settingsOf ws)) _ e in (t .0, eqb-true _ _ (t .1))
 
-pub fit-head : (ws : List ℕ) (g : Settings) → checkedOf ws ≡ Fit g → (settingsFit g ≡ true) × (getD ws 10 0 ≡ 0) × (getD ws 11 0 ≡ 0)
+pub fit-head : (ws : List ℕ) (g : Settings) → checkedOf ws ≡ Fit g → (settingsFit g ≡ true) × (getD ws zeroAt 0 ≡ 0)
 unfolding checkedOf
 fit-head ws g e =
     let h = head-is ws (passed (headFit ws) notFit _ g (passed-not (ltb (length ws) headWords) tooFewWords _ g e .1) .0) in
-    (subst (λ (x : Settings). settingsFit x ≡ true) (fit-pool ws g e .settings) (h .0), h .1, h .2)
+    (subst (λ (x : Settings). settingsFit x ≡ true) (fit-pool ws g e .settings) (h .0), h .1)
 
 body-workers : (ws : List ℕ) (h g : Settings) → bodyChecked ws h ≡ Fit g → (workersFit ws h ≡ true) × (h ≡ g)
 unfolding bodyChecked

@@ -1,4 +1,4 @@
--- "Commit": where the count or version differs from seen, the next index and a restart; else a put stores value and new
+-- "Commit": where the count or version differs from seen, a hop by the stride and a restart; else a put stores value and new
 -- stamp in the row above, and a take takes the oldest (queue) or top (stack) row. Counts change by one, and a stack's
 -- version grows by one. A commit that matches with no free cell or no item is refused.
 use Prim.Native.Nat.{ℕ}

@@ -2,6 +2,8 @@
 use Prim.Native.Nat.{ℕ, _+_, _%_}
 use mathlib.Core.List.{List}
 use lib.ListN.{getD}
+use lib.Dec.{eqb}
+use Rattle.laws.specs.Choice.{cond}
 use Rattle.rules.specs.Layout.{putsAt, topAt, markAt, indexAt, firstOf, secondOf}
 use Rattle.rules.specs.Worker.{slotAt, decode, encode, fresh}
 use Rattle.rules.specs.declared.Settings.{Settings}
@@ -72,9 +74,13 @@ stackView v = record { window = stackWindow v; version = windowVersion v; «item
 unfoldable pub nextOf : Settings → ℕ → ℕ
 nextOf g x = (x + 1) % g .width
 
--- where a worker goes that lost a commit
-abbrev pub hopOf : Settings → ℕ → ℕ
-hopOf g x = nextOf g x
+-- how far a worker moves on that lost a commit: "0 stands for 1"
+abbrev pub strideOf : Settings → ℕ
+strideOf g = cond (eqb (g .stride) 0) 1 (g .stride)
+
+-- where it goes: "the index moves on by the stride instead of by 1"
+unfoldable pub hopOf : Settings → ℕ → ℕ
+hopOf g x = (x + strideOf g) % g .width
 
 -- ---- how a step ends
 -- all that is shared stays

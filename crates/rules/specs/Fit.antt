@@ -7,15 +7,15 @@ use lib.ListN.{getD, length}
 use lib.Dec.{ltb, leb, eqb}
 use Rattle.laws.specs.Choice.{cond, both, allBelow}
 use Rattle.rules.specs.Answers.{tooFewWords, notFit}
-use Rattle.rules.specs.Layout.{headWords, firstZeroAt, secondZeroAt, workerWords, workerAt, phaseWord, indexWord, scanWord, indexAt, scanAt, needed, settingsOf, firstOf, secondOf}
+use Rattle.rules.specs.Layout.{headWords, zeroAt, workerWords, workerAt, phaseWord, indexWord, scanWord, indexAt, scanAt, needed, settingsOf, firstOf, secondOf}
 use Rattle.rules.specs.Limits.{settingsFit, Bounds}
 use Rattle.rules.specs.Worker.{checkPhase, confirmPhase, sideBase, numberFor}
 use Rattle.rules.specs.declared.Settings.{Settings}
 use Rattle.rules.specs.declared.Side.the-variants.{Putting, Taking}
 
--- settings within limits, words 10 and 11 zero
+-- settings within limits, the stride in word 10 among them; word 11 zero
 unfoldable pub headFit : List ℕ → Bool
-headFit ws = both (settingsFit (settingsOf ws)) (both (eqb (getD ws firstZeroAt 0) 0) (eqb (getD ws secondZeroAt 0) 0))
+headFit ws = both (settingsFit (settingsOf ws)) (eqb (getD ws zeroAt 0) 0)
 
 -- items taken at most items put, and put minus taken at most R
 abbrev pub queueSubFit : ℕ → ℕ → ℕ → Bool
@@ -58,7 +58,7 @@ bodyChecked ws g =
     cond (ltb (length ws) (needed g)) (Unfit tooFewWords)
     (cond (subsFit ws g) (cond (workersFit ws g) (Fit g) (Unfit notFit)) (Unfit notFit))
 
--- 21 for 12 words, 23 for the settings and words 10, 11, then the above
+-- 21 for 12 words, 23 for the settings and word 11, then the above
 unfoldable pub checkedOf : List ℕ → Checked
 checkedOf ws = cond (ltb (length ws) headWords) (Unfit tooFewWords) (cond (headFit ws) (bodyChecked ws (settingsOf ws)) (Unfit notFit))
 

@@ -7,7 +7,7 @@ use Rattle.rules.specs.Limits.{widest, mostWorkers, mostCells}
 use Rattle.rules.specs.declared.Settings.{Settings}
 
 -- ---- the head
--- words 0 to 5, the settings: kind, w, d, s, R, n
+-- words 0 to 5, the settings but one: kind, w, d, s, R, n
 abbrev pub kindAt : ℕ
 kindAt = 0
 
@@ -40,12 +40,13 @@ topAt = 8
 abbrev pub markAt : ℕ
 markAt = 9
 
--- "words 10 and 11 are zero"
-abbrev pub firstZeroAt : ℕ
-firstZeroAt = 10
+-- the last setting: "a stride, held in word 10"
+abbrev pub strideAt : ℕ
+strideAt = 10
 
-abbrev pub secondZeroAt : ℕ
-secondZeroAt = 11
+-- word 11 is zero
+abbrev pub zeroAt : ℕ
+zeroAt = 11
 
 abbrev pub headWords : ℕ
 headWords = 12
@@ -59,6 +60,7 @@ settingsOf ws =
       shift = getD ws shiftAt 0;
       rows = getD ws rowsAt 0;
       workers = getD ws workerCountAt 0;
+      stride = getD ws strideAt 0;
     }
 
 -- ---- the subs: items put and items taken, or items held and version

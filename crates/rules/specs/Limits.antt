@@ -1,8 +1,8 @@
 -- The limits of the settings, and of the step count.
-use Prim.Native.Nat.{ℕ, _*_, _%_, _≤_}
+use Prim.Native.Nat.{ℕ, _*_, _%_, _<_, _≤_}
 use mathlib.Core.List.{List, [], _∷_}
 use mathlib.Core.Bool.{Bool, true}
-use lib.Dec.{leb, eqb}
+use lib.Dec.{ltb, leb, eqb}
 use Rattle.laws.specs.Choice.{cond, both, all}
 use Rattle.rules.specs.declared.Settings.{Settings}
 
@@ -21,7 +21,8 @@ mostWorkers = 32
 abbrev pub mostCells : ℕ
 mostCells = 4096
 
--- kind 0 or 1, w 1 to 16, d 1 to 64, s 1 to d, R from 2 × d to 1,024, n 1 to 32, w × R at most 4,096
+-- kind 0 or 1, w 1 to 16, d 1 to 64, s 1 to d, R from 2 × d to 1,024, n 1 to 32, w × R at most 4,096; the stride "from 0
+-- to w - 1", so "a pool of width 1 has only 0"
 abbrev pub limits : Settings → List Bool
 limits g =
     leb (g .kind) 1 ∷
@@ -30,7 +31,8 @@ limits g =
     leb 1 (g .shift) ∷ leb (g .shift) (g .depth) ∷
     leb (2 * g .depth) (g .rows) ∷ leb (g .rows) mostRows ∷
     leb 1 (g .workers) ∷ leb (g .workers) mostWorkers ∷
-    leb (g .width * g .rows) mostCells ∷ []
+    leb (g .width * g .rows) mostCells ∷
+    ltb (g .stride) (g .width) ∷ []
 
 -- a queue has s = d, and R is a multiple of d
 abbrev pub queueLimits : Settings → List Bool
@@ -57,3 +59,4 @@ pub record Bounds (g : Settings) : Type 0 where
   pub workers1 : 1 ≤ g .workers
   pub workers32 : g .workers ≤ mostWorkers
   pub cells : g .width * g .rows ≤ mostCells
+  pub stride-width : g .stride < g .width

@@ -12,9 +12,9 @@ use Rattle.rules.specs.declared.Settings.{Settings}
 use Rattle.rules.specs.declared.Answer.the-variants.{Moving}
 
 -- the settings that a call of make names, in its order
-abbrev pub settingsFrom : ℕ → ℕ → ℕ → ℕ → ℕ → ℕ → Settings
-settingsFrom kind width depth shift rows workers =
-    record { kind = kind; width = width; depth = depth; shift = shift; rows = rows; workers = workers }
+abbrev pub settingsFrom : ℕ → ℕ → ℕ → ℕ → ℕ → ℕ → ℕ → Settings
+settingsFrom kind width depth shift rows workers stride =
+    record { kind = kind; width = width; depth = depth; shift = shift; rows = rows; workers = workers; stride = stride }
 
 -- the first n words zero
 unfoldable pub zeroed : List ℕ → ℕ → List ℕ
@@ -25,10 +25,10 @@ zeroed ws (suc i) = set (zeroed ws i) i 0
 abbrev pub newMark : Settings → ℕ
 newMark g = cond (eqb (g .kind) 0) (g .depth) 0
 
--- the first words of a new pool, in their order, up to T or the version
+-- the first words of a new pool, in their order, up to the stride
 abbrev pub newHead : Settings → List ℕ
 newHead g =
-    g .kind ∷ g .width ∷ g .depth ∷ g .shift ∷ g .rows ∷ g .workers ∷ 0 ∷ 0 ∷ g .depth ∷ newMark g ∷ []
+    g .kind ∷ g .width ∷ g .depth ∷ g .shift ∷ g .rows ∷ g .workers ∷ 0 ∷ 0 ∷ g .depth ∷ newMark g ∷ g .stride ∷ []
 
 -- each worker below n has its index
 unfoldable pub indexed : List ℕ → Settings → ℕ → List ℕ

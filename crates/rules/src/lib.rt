@@ -10,7 +10,7 @@ pub struct Stamp(pub u32);
 // How often a stack's window, or a sub of it, has changed.
 pub struct Version(pub u32);
 
-// A pool's settings, words 0 to 5. Kind 0 is a queue (paper 01's line), 1 a stack (its pile).
+// A pool's settings, words 0 to 5 and 10. Kind 0 is a queue (paper 01's line), 1 a stack (its pile).
 pub struct Settings {
     pub kind: u32,
     pub width: u32,
@@ -18,6 +18,7 @@ pub struct Settings {
     pub shift: u32,
     pub rows: u32,
     pub workers: u32,
+    pub stride: u32,
 }
 
 // What an operation was begun as.

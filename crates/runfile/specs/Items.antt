@@ -34,7 +34,7 @@ endKind = 6
 abbrev pub kindBit : ℕ
 kindBit = 28
 
--- the first word: "bits 0-4 w, 5-11 d, 12-18 s, 19 pile"
+-- the first word: "bits 0-4 w, 5-11 d, 12-18 s, 19 pile", and "bits 20-23 ... carry the stride"
 abbrev pub depthBit : ℕ
 depthBit = 5
 
@@ -44,8 +44,11 @@ shiftBit = 12
 abbrev pub stackBit : ℕ
 stackBit = 19
 
+abbrev pub strideBit : ℕ
+strideBit = 20
+
 abbrev pub firstSpareBit : ℕ
-firstSpareBit = 20
+firstSpareBit = 24
 
 -- the second: "bits 0-10 R, 11-16 n"
 abbrev pub workersBit : ℕ
@@ -79,10 +82,11 @@ firstOf word =
     ofKind openKind word (spare firstSpareBit kindBit word
     (Open
     record {
-      kind = bits stackBit firstSpareBit word;
+      kind = bits stackBit strideBit word;
       width = bits 0 depthBit word;
       depth = bits depthBit shiftBit word;
       shift = bits shiftBit stackBit word;
+      stride = bits strideBit firstSpareBit word;
     }))
     Bad
 
@@ -97,6 +101,7 @@ secondOf o word =
       shift = o .shift;
       rows = bits 0 workersBit word;
       workers = bits workersBit secondSpareBit word;
+      stride = o .stride;
     }))
     Bad
 

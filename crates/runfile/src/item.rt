@@ -30,7 +30,9 @@ const SHIFT_BIT: u32 = 1 << 12;
 
 const STACK_BIT: u32 = 1 << 19;
 
-const FIRST_SPARE_BIT: u32 = 1 << 20;
+const STRIDE_BIT: u32 = 1 << 20;
+
+const FIRST_SPARE_BIT: u32 = 1 << 24;
 
 // Of the second word, after the rows.
 const WORKERS_BIT: u32 = 1 << 11;
@@ -49,6 +51,7 @@ pub struct Opening {
     pub width: u32,
     pub depth: u32,
     pub shift: u32,
+    pub stride: u32,
 }
 
 // Where a word stands, with what was read before it that its meaning needs.
@@ -82,10 +85,11 @@ fn first(word: u32) -> Item
         return Item::Bad;
     }
     Item::Open(Opening {
-        kind: word % FIRST_SPARE_BIT / STACK_BIT,
+        kind: word % STRIDE_BIT / STACK_BIT,
         width: word % DEPTH_BIT,
         depth: word % SHIFT_BIT / DEPTH_BIT,
         shift: word % STACK_BIT / SHIFT_BIT,
+        stride: word % FIRST_SPARE_BIT / STRIDE_BIT,
     })
 }
 
@@ -106,6 +110,7 @@ fn second(opening: Opening, word: u32) -> Item
         shift: opening.shift,
         rows: word % WORKERS_BIT,
         workers: word % SECOND_SPARE_BIT / WORKERS_BIT,
+        stride: opening.stride,
     })
 }
 

@@ -16,7 +16,7 @@ use Rattle.rules.specs.Worker.{slotAt, putSlot, queuePhase, stackPhase, phaseOf
 use Rattle.rules.specs.Fit.{headFit, subFit, subsFit, phaseFit, wordFit, workersFit, bodyChecked, checkedOf}
 use Rattle.rules.specs.Make.{zeroed, indexed, madeWords, makeOf}
 use Rattle.rules.specs.Begin.{slotBegin, fitBegin, checkedBegin, beginOf}
-use Rattle.rules.specs.Effects.{viewOf, nextOf}
+use Rattle.rules.specs.Effects.{viewOf, nextOf, hopOf}
 use Rattle.rules.specs.Window.{windowRule}
 use Rattle.rules.specs.Read.{missOf, queuePutRead, queueTakeRead, stackRead}
 use Rattle.rules.specs.Check.{checkRule}
@@ -100,7 +100,7 @@ stretch-unanswered s t =
 
 -- ---- the tables
 tables-pass : (every holds table ≡ true) × (every reaches extremes ≡ true) × (every reaches solos ≡ true) × (every unanswered stretches ≡ true)
-unfolding table extremes solos stretches mostPassed leastFull frameworkBound exactBound thesisBound k14Bound countedSteps eventsOf runOf linesOf makeNumber settingsFit run callOf cond allBelow slotAt putSlot queuePhase stackPhase phaseOf encode encodePhase headFit subFit subsFit phaseFit wordFit workersFit bodyChecked checkedOf zeroed indexed madeWords makeOf slotBegin fitBegin checkedBegin beginOf viewOf nextOf windowRule missOf queuePutRead queueTakeRead stackRead checkRule commitBy queueCommit stackCommit shiftBy queueShift stackShift confirmedOf confirmRule itemsAbove heldSub heldBelow countItems distanceOf putItem putSub putLanded putShifted putWorker takenOf applyBy applyOf ruleBy ruleOf slotStep fitStep checkedStep stepOf
+unfolding table extremes solos stretches mostPassed leastFull frameworkBound exactBound thesisBound k14Bound countedSteps eventsOf runOf linesOf makeNumber settingsFit run callOf cond allBelow slotAt putSlot queuePhase stackPhase phaseOf encode encodePhase headFit subFit subsFit phaseFit wordFit workersFit bodyChecked checkedOf zeroed indexed madeWords makeOf slotBegin fitBegin checkedBegin beginOf viewOf nextOf hopOf windowRule missOf queuePutRead queueTakeRead stackRead checkRule commitBy queueCommit stackCommit shiftBy queueShift stackShift confirmedOf confirmRule itemsAbove heldSub heldBelow countItems distanceOf putItem putSub putLanded putShifted putWorker takenOf applyBy applyOf ruleBy ruleOf slotStep fitStep checkedStep stepOf
 tables-pass = (refl, refl, refl, refl)
 
 pub runs-hold : AllHold table × All Reaches extremes × All Reaches solos × All Unanswered stretches

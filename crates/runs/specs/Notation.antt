@@ -6,11 +6,12 @@ use Rattle.rules.specs.Run.{Call, beginPut, beginTake, step}
 use Rattle.rules.specs.declared.Settings.{Settings}
 use Rattle.runs.specs.Rows.{Line, Row}
 
+-- with stride 0, as paper 01 has them
 abbrev pub queue : ℕ → ℕ → ℕ → ℕ → Settings
-queue width depth rows workers = record { kind = 0; width = width; depth = depth; shift = depth; rows = rows; workers = workers }
+queue width depth rows workers = record { kind = 0; width = width; depth = depth; shift = depth; rows = rows; workers = workers; stride = 0 }
 
 abbrev pub stack : ℕ → ℕ → ℕ → ℕ → ℕ → Settings
-stack width depth shift rows workers = record { kind = 1; width = width; depth = depth; shift = shift; rows = rows; workers = workers }
+stack width depth shift rows workers = record { kind = 1; width = width; depth = depth; shift = shift; rows = rows; workers = workers; stride = 0 }
 
 -- ---- rows
 abbrev pub makes : Settings → ℕ → ℕ → Row

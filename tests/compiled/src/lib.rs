@@ -23,6 +23,7 @@ extern "C" {
         shift: u32,
         rows: u32,
         workers: u32,
+        stride: u32,
         fields: *mut u32,
     ) -> u32;
     fn pool_begin_put(
@@ -50,10 +51,15 @@ pub fn make_into(words: &mut [u32], settings: Settings, fields: &mut Fields) -> 
         shift,
         rows,
         workers,
+        stride,
     } = settings;
     let (start, len) = (words.as_mut_ptr(), words.len());
     let fields = fields.as_mut_ptr();
-    unsafe { pool_make(start, len, kind, width, depth, shift, rows, workers, fields) }
+    unsafe {
+        pool_make(
+            start, len, kind, width, depth, shift, rows, workers, stride, fields,
+        )
+    }
 }
 
 #[inline]

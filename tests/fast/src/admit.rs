@@ -22,8 +22,7 @@ pub fn admit(words: &mut [u32]) -> Result<Parts<'_>, u32> {
         return Err(TOO_SHORT);
     };
     let settings = Settings::of_words(header);
-    let zeros = header[layout::FIRST_ZERO] | header[layout::SECOND_ZERO];
-    if !settings.within_limits() || zeros != 0 {
+    if !settings.within_limits() || header[layout::ZERO] != 0 {
         return Err(UNFIT);
     }
     let needed = settings.needed_words();

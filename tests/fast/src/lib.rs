@@ -12,8 +12,8 @@ mod stack;
 
 use admit::{admit, Parts};
 pub use dispatch::dispatch;
-use second::layout::WORKER_WORDS;
 use second::layout::{self, HEADER_WORDS, INDEX, PHASE, PUTS_MADE, STEPS_COUNTED, SUM, VALUE};
+use second::layout::{STRIDE, WORKER_WORDS};
 use second::TOO_SHORT;
 use second::{Answer, Settings};
 use second::{BUSY, IDLE, MOVING, NO_WORKER, OFF_LIMITS, PUT, QUEUE, SPENT, STEP_LIMIT, TAKEN};
@@ -38,12 +38,14 @@ pub fn make(words: &mut [u32], settings: Settings) -> Answer {
         shift,
         rows,
         workers,
+        stride,
     } = settings;
     let take_window = if kind == QUEUE { depth } else { 0 };
     words[..settings.needed_words()].fill(0);
     words[..6].copy_from_slice(&[kind, width, depth, shift, rows, workers]);
     words[layout::PUT_WINDOW] = depth;
     words[layout::TAKE_WINDOW] = take_window;
+    words[STRIDE] = stride;
     let all = &mut words[settings.workers_at()..settings.cells_at()];
     for (i, worker) in all.chunks_exact_mut(WORKER_WORDS).enumerate() {
         worker[INDEX] = i as u32 % width;
@@ -121,9 +123,17 @@ fn scanned_all(worker: &mut Worker, width: usize) -> bool {
     all
 }
 
-/// A commit that another one came before.
-fn lost(worker: &mut Worker, width: usize, restart: u32) -> Answer {
-    next_index(worker, width);
+/// A commit that another one came before: a hop by the stride, where 0 stands
+/// for 1.
+fn lost(parts: &mut Parts, number: usize, restart: u32) -> Answer {
+    let width = parts.subs.len() as u32;
+    let worker = &mut parts.workers[number];
+    let hopped = worker[INDEX] + parts.header[STRIDE].max(1);
+    worker[INDEX] = if hopped < width {
+        hopped
+    } else {
+        hopped - width
+    };
     worker[PHASE] = restart;
     Answer::of(MOVING)
 }

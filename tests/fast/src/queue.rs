@@ -72,7 +72,7 @@ fn commit_put(parts: &mut Parts, number: usize) -> Answer {
     let sub = worker[INDEX];
     let [put, taken] = parts.subs[sub as usize];
     if put != worker[SEEN] {
-        return lost(worker, parts.subs.len(), PUT_WINDOW_PHASE);
+        return lost(parts, number, PUT_WINDOW_PHASE);
     }
     let rows = parts.header[ROWS];
     if put - taken == rows {
@@ -88,7 +88,7 @@ fn commit_take(parts: &mut Parts, number: usize) -> Answer {
     let sub = worker[INDEX];
     let [put, was_taken] = parts.subs[sub as usize];
     if was_taken != worker[SEEN] {
-        return lost(worker, parts.subs.len(), TAKE_WINDOW_PHASE);
+        return lost(parts, number, TAKE_WINDOW_PHASE);
     }
     if put == was_taken {
         return Answer::of(UNFIT);

@@ -71,7 +71,7 @@ fn commit_put(parts: &mut Parts, number: usize) -> Answer {
     let sub = worker[INDEX];
     let [held, version] = parts.subs[sub as usize];
     if version != worker[SEEN] {
-        return lost(worker, parts.subs.len(), PUT_WINDOW_PHASE);
+        return lost(parts, number, PUT_WINDOW_PHASE);
     }
     let rows = parts.header[ROWS];
     if held == rows {
@@ -86,7 +86,7 @@ fn commit_take(parts: &mut Parts, number: usize) -> Answer {
     let sub = worker[INDEX];
     let [row, version] = parts.subs[sub as usize];
     if version != worker[SEEN] {
-        return lost(worker, parts.subs.len(), TAKE_WINDOW_PHASE);
+        return lost(parts, number, TAKE_WINDOW_PHASE);
     }
     if row == 0 {
         return Answer::of(UNFIT);

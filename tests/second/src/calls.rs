@@ -24,6 +24,7 @@ pub fn make(words: &mut [u32], settings: Settings) -> Answer {
     words[layout::SHIFT] = settings.shift;
     words[layout::ROWS] = settings.rows;
     words[layout::WORKERS] = settings.workers;
+    words[layout::STRIDE] = settings.stride;
     if settings.kind == QUEUE {
         words[layout::PUT_WINDOW] = settings.depth;
         words[layout::TAKE_WINDOW] = settings.depth;

@@ -71,7 +71,7 @@ fn a_kind_out_of_place_and_a_spare_bit() {
         }
     }
     let spare = [
-        (0, 20),
+        (0, 24),
         (0, 27),
         (1, 17),
         (1, 27),
@@ -105,6 +105,7 @@ fn settings_off_limits_stop_at_position_1() {
         (0x10001021, 0x20000002), // n 0
         (0x10001021, 0x20010802), // n 33
         (0x10002041, 0x20000805), // queue, d 2, R 5
+        (0x10101021, 0x20000802), // stride 1, w 1
     ];
     for (first, second) in headers {
         // A word after the header changes nothing, not even a faulty one.
@@ -119,6 +120,45 @@ fn settings_off_limits_stop_at_position_1() {
         "1 29 0 0 0 0 0 0\n"
     );
     assert_eq!(listing(&bytes(&[0x10001020])), "1 28 0 0 0 0 0 0\n");
+}
+
+/// Bits 20-23 are the stride, 24-27 are spare.
+#[test]
+fn every_value_of_the_first_words_top_bits() {
+    for width in 1..=16 {
+        for top_bits in 0..1 << 8 {
+            let (stride, spare) = (top_bits & 15, top_bits >> 4);
+            let words = [0x10001020 | width | top_bits << 20, 0x20000802, 0x60000000];
+            let expected = if spare != 0 {
+                "0 29 0 0 0 0 0 0\n"
+            } else if stride >= width {
+                "1 22 0 0 0 0 0 0\n"
+            } else {
+                "held 0 worst 0\n"
+            };
+            assert_eq!(listing(&bytes(&words)), expected, "{:08x}", words[0]);
+        }
+    }
+}
+
+/// Two puts at commit in sub 0 of three: the second one's fails, and it lands in
+/// the sub that is the stride further on.
+#[test]
+fn a_lost_commit_by_the_stride() {
+    for (stride, sub) in [(0, 1), (1, 1), (2, 2)] {
+        let mut words = vec![
+            0x10001023 | stride << 20,
+            0x20002002,
+            0x30000014,
+            0x30c00017,
+        ];
+        let [zero, three] = [0x50000000, 0x50c00000];
+        words.extend([zero, zero, three, three, zero]);
+        words.extend([three; 4]);
+        words.push(0x60000000);
+        let expected = format!("8 1 0 20 0 1 1 0\n12 1 3 23 {sub} 1 2 0\nheld 2 worst 0\n");
+        assert_eq!(listing(&bytes(&words)), expected);
+    }
 }
 
 #[test]

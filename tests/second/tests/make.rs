@@ -2,7 +2,7 @@
 
 mod common;
 
-use common::{queue, stack};
+use common::{queue, stack, strided};
 use second::{make, Answer, Settings, MOVING, OFF_LIMITS, TOO_SHORT};
 
 const JUNK: u32 = 0x5eed_5eed;
@@ -11,10 +11,10 @@ const JUNK: u32 = 0x5eed_5eed;
 fn every_needed_word_and_none_beyond() {
     // w 2, d 2, R 4, n 3: 12 + 4 + 24 + 16 words.
     let of_queue = [0, 2, 2, 2, 4, 3, 0, 0, 2, 2, 0, 0];
-    let of_stack = [1, 2, 2, 1, 4, 3, 0, 0, 2, 0, 0, 0];
+    let of_stack = [1, 2, 2, 1, 4, 3, 0, 0, 2, 0, 1, 0];
     for (settings, header) in [
         (queue(2, 2, 4, 3), of_queue),
-        (stack(2, 2, 1, 4, 3), of_stack),
+        (strided(1, stack(2, 2, 1, 4, 3)), of_stack),
     ] {
         let mut expected = vec![0; 56];
         expected[..12].copy_from_slice(&header);
@@ -35,6 +35,7 @@ fn limits() {
         queue(4, 64, 1024, 32),
         stack(1, 64, 1, 128, 1),
         stack(16, 64, 64, 255, 32),
+        strided(15, queue(16, 64, 256, 32)),
     ];
     let off = [
         Settings {
@@ -58,6 +59,8 @@ fn limits() {
         queue(1, 1, 2, 0),
         queue(1, 1, 2, 33),
         stack(5, 1, 1, 820, 1),
+        strided(1, queue(1, 1, 2, 1)),
+        strided(16, stack(16, 1, 1, 2, 1)),
         queue(1 << 16, 1, 1 << 16, 1),
         stack(u32::MAX, u32::MAX, u32::MAX, u32::MAX, u32::MAX),
     ];

@@ -5,7 +5,7 @@ mod common;
 
 use common::normal::normal;
 use common::states::{every_state, CALLS};
-use common::{made, queue, stack, Numbers};
+use common::{made, queue, stack, strided, Numbers};
 use second::{Answer, Settings};
 
 /// Each call of each worker answers with the same number, and at the same sub.
@@ -29,8 +29,10 @@ fn they_go_on_alike() {
     let pools = [
         queue(1, 2, 4, 3),
         queue(3, 1, 4, 4),
+        strided(2, queue(3, 1, 4, 4)),
         stack(1, 1, 1, 3, 3),
         stack(3, 2, 1, 6, 4),
+        strided(2, stack(3, 2, 1, 6, 4)),
     ];
     for settings in pools {
         let workers = settings.workers as usize;

@@ -5,7 +5,7 @@
 mod common;
 
 use common::solo::{begin, every_solo_operation, is_idle, solo, Operation, SIDES};
-use common::{queue, stack};
+use common::{queue, stack, strided};
 use second::{solo_steps, solo_steps_bound, step};
 use second::{Answer, Settings, BUSY, IDLE, MOVING, NO_WORKER, SPENT};
 
@@ -62,6 +62,7 @@ fn queues_reach_the_figures() {
         queue(2, 1, 3, 2),
         queue(2, 2, 4, 2),
         queue(3, 1, 2, 2),
+        strided(2, queue(3, 1, 2, 2)),
     ];
     for settings in queues {
         assert_eq!(most_steps(settings), figures(&settings), "{settings:?}");
@@ -78,6 +79,7 @@ fn stacks_reach_the_figures() {
         stack(2, 1, 1, 3, 2),
         stack(2, 2, 1, 4, 2),
         stack(3, 1, 1, 3, 2),
+        strided(2, stack(3, 1, 1, 3, 2)),
     ];
     for settings in stacks {
         assert_eq!(most_steps(settings), figures(&settings), "{settings:?}");

@@ -8,7 +8,7 @@ mod common;
 use common::solo::is_idle;
 use common::states::every_state;
 use common::stretch::most_steps_of_stretch;
-use common::{made, put, queue, stack, take};
+use common::{made, put, queue, stack, strided, take};
 use second::{begin_put, begin_take, dispatch, layout, longest_stretch, step, stretch_bound};
 use second::{Answer, Dispatched, EMPTY, MOVING, STEP_LIMIT};
 
@@ -58,6 +58,7 @@ fn queues_reach_the_figure() {
         queue(2, 1, 3, 2),
         queue(2, 2, 4, 2),
         queue(3, 1, 2, 2),
+        strided(2, queue(3, 1, 2, 2)),
         queue(1, 1, 2, 3),
         queue(1, 2, 4, 3),
     ];

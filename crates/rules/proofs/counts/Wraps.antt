@@ -6,7 +6,7 @@ use native.Mathlib.Nat.{eq-or-lt-of-le, mod-eq-of-lt, mod-self, mod-lt, lt-of-mu
 use native.Mathlib.Numerals.{add-one}
 use native.Mathlib.Omega.{arith}
 use Rattle.laws.specs.Wrap.{add32, sub32}
-use Rattle.rules.specs.Effects.{nextOf}
+use Rattle.rules.specs.Effects.{nextOf, strideOf, hopOf}
 use Rattle.rules.proofs.Types.{Settings}
 
 pub add32-is : (a b : ℕ) → a + b < 2 ^ 32 → add32 a b ≡ a + b
@@ -33,6 +33,10 @@ next-cases g x l = go (eq-or-lt-of-le l)
 pub next-lt : (g : Settings) (x : ℕ) → 1 ≤ g .width → nextOf g x < g .width
 unfolding nextOf
 next-lt g x l = mod-lt (x + 1) l
+
+pub hop-lt : (g : Settings) (x : ℕ) → 1 ≤ g .width → hopOf g x < g .width
+unfolding hopOf
+hop-lt g x l = mod-lt (x + strideOf g) l
 
 -- ---- multiples
 -- a multiple of d that is below the next one is at most this one

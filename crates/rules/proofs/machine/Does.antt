@@ -31,7 +31,7 @@ use Rattle.rules.proofs.Types.{Settings, Side, Putting, Taking, Phase, 
 use Rattle.rules.proofs.Cells.{queue-below, stack-below}
 use Rattle.rules.specs.declared.Outcome.the-variants.{Refused, Moving, Shifted, Landed, Removed, Empty, Full}
 use Rattle.rules.proofs.counts.Sums.{upd, upd-all}
-use Rattle.rules.proofs.counts.Wraps.{add32-suc, sub32-is, next-lt}
+use Rattle.rules.proofs.counts.Wraps.{add32-suc, sub32-is, next-lt, hop-lt}
 use Rattle.rules.proofs.order.Law.{Next}
 use Rattle.rules.proofs.machine.Machine.{State, subIn, viewIn, applyIn, applyInBy, stepIn, beginIn, nextIn, madeIn}
 use Rattle.rules.proofs.machine.Phases.{scanIn}
@@ -169,7 +169,7 @@ module _ (g : Settings) (b : Bounds g) (v : View) (at : v .worker .index < g .wi
   unfolding commitBy
   commit-by side matches able done l w d =
       cases D matches _ _ (λ e. cases D able _ _ (λ e. record { slot = l; shared = d e; busy = w }) (λ e. record { slot = fits; shared = inl refl; busy = tt }))
-      (λ e. again _ on side _ (fits .scan))
+      (λ e. again _ (hop-lt g (v .worker .index) (b .width1)) side _ (fits .scan))
 
   queue-does : g .kind ≡ 0 → (side : Side) (seen : ℕ) → D (queueCommit g v side seen)
   unfolding queueCommit

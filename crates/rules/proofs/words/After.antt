@@ -10,7 +10,7 @@ use native.Mathlib.Omega.{arith}
 use lib.ListN.{length, getD}
 use Rattle.laws.specs.Wrap.{add32}
 use Rattle.rules.specs.Limits.{stepLimit}
-use Rattle.rules.specs.Layout.{subAt, workerAt, cellsAt, cellAt, settingsOf, firstOf, secondOf, kindAt, widthAt, depthAt, shiftAt, rowsAt, workerCountAt, firstZeroAt, secondZeroAt, secondAt, workerWords, stampAt}
+use Rattle.rules.specs.Layout.{subAt, workerAt, cellsAt, cellAt, firstOf, secondOf, zeroAt, secondAt, workerWords, stampAt}
 use Rattle.rules.specs.Worker.{slotAt}
 use Rattle.rules.specs.Held.{itemAt, rowsBelow}
 use Rattle.rules.proofs.Types.{Settings, Effect}
@@ -19,7 +19,7 @@ use Rattle.rules.proofs.counts.Wraps.{add32-suc}
 use Rattle.rules.proofs.machine.Machine.{State, subIn, viewIn, belowIn, afterIn}
 use Rattle.rules.proofs.machine.Does.{Keeps}
 use Rattle.rules.proofs.words.Says.{Says}
-use Rattle.rules.proofs.words.Writes.{allSet, slot-kept, all-length, all-off, all-steps, all-puts, all-top, all-mark, all-first, all-second, all-slot}
+use Rattle.rules.proofs.words.Writes.{allSet, still-high, HeadKept, settings-kept, slot-kept, all-length, all-off, all-steps, all-puts, all-top, all-mark, all-first, all-second, all-slot}
 
 -- the cells of the held rows have their items
 abbrev pub CellsSay : Settings → List ℕ → State → Type 0
@@ -41,9 +41,8 @@ module _ (g : Settings) (ws : List ℕ) (s : State) (says : Says g ws s) (i : �
   long : at + workerWords ≤ length ws
   long = omega (arith, says .long)
 
-  -- words 0 to 5, 10 and 11
-  head : (m : ℕ) → m < 12 → m ≢ 6 → m ≢ 7 → m ≢ 8 → m ≢ 9 → getD vs m 0 ≡ getD ws m 0
-  head m l a b c d = all-off ws at j e m a b c d (λ u. omega arith) (λ u. omega arith) (inl (omega arith))
+  head : HeadKept ws vs
+  head m s = let l = s .below in all-off ws at j e m (s .steps) (s .puts) (s .top) (s .mark) (λ u. omega arith) (λ u. omega arith) (inl (omega arith))
 
   other-sub : (k : ℕ) → k < g .width → k ≢ j → (firstOf vs k ≡ firstOf ws k) × (secondOf vs k ≡ secondOf ws k)
   other-sub k l n = (
@@ -70,26 +69,12 @@ module _ (g : Settings) (ws : List ℕ) (s : State) (says : Says g ws s) (i : �
       let t = cells-off (stampAt (cellAt g k r)) (omega arith) in
       λ u. record { value = v u; stamp = t u }
 
-  settings-kept : settingsOf vs ≡ settingsOf ws
-  settings-kept =
-      let word : (m : ℕ) → m < 6 → getD vs m 0 ≡ getD ws m 0 =
-      λ m l. head m (omega arith) (λ u. omega arith) (λ u. omega arith) (λ u. omega arith) (λ u. omega arith) in
-      λ u. record {
-        kind = word kindAt (omega arith) u;
-        width = word widthAt (omega arith) u;
-        depth = word depthAt (omega arith) u;
-        shift = word shiftAt (omega arith) u;
-        rows = word rowsAt (omega arith) u;
-        workers = word workerCountAt (omega arith) u;
-      }
-
   pub after-says : s .steps < stepLimit → CellsSay g ws (afterIn s i e) → Says g vs (afterIn s i e)
   after-says few cells =
       record {
         long = rw (all-length ws at j e) (says .long);
-        settings = settings-kept ∙ says .settings;
-        tenth = head firstZeroAt (omega arith) (λ u. omega arith) (λ u. omega arith) (λ u. omega arith) (λ u. omega arith) ∙ says .tenth;
-        eleventh = head secondZeroAt (omega arith) (λ u. omega arith) (λ u. omega arith) (λ u. omega arith) (λ u. omega arith) ∙ says .eleventh;
+        settings = settings-kept ws vs head ∙ says .settings;
+        eleventh = head zeroAt (still-high _ (omega arith) (omega arith)) ∙ says .eleventh;
         steps = all-steps ws at j e above long ∙ ap (λ (x : ℕ). add32 x 1) (says .steps) ∙ add32-suc (s .steps) (omega arith);
         puts = all-puts ws at j e above long;
         top = all-top ws at j e above long;

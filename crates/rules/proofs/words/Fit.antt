@@ -8,7 +8,7 @@ use lib.ListN.{length, getD}
 use lib.Dec.{eqb}
 use borrow.Author.Tests.{le-ltb, le-leb, lt-ltb, eq-eqb, eqb-true, eqb-false}
 use Rattle.laws.specs.Choice.{cond, cases, allBelow}
-use Rattle.rules.specs.Layout.{headWords, workerWords, workerAt, needed}
+use Rattle.rules.specs.Layout.{headWords, zeroAt, workerWords, workerAt, needed}
 use Rattle.rules.specs.Limits.{settingsFit}
 use Rattle.rules.specs.Worker.{slotAt}
 use Rattle.rules.specs.Fit.{Fit, headFit, subFit, subsFit, wordFit, workersFit, bodyChecked, checkedOf, SubFits}
@@ -64,7 +64,7 @@ module _ (g : Settings) (limits : settingsFit g ≡ true) (kind1 : g .kind ≤ 1
 
   head-fit : headFit ws ≡ true
   unfolding headFit
-  head-fit = rw (says .settings, limits, eq-eqb (getD ws 10 0) 0 (says .tenth), eq-eqb (getD ws 11 0) 0 (says .eleventh)) refl
+  head-fit = rw (says .settings, limits, eq-eqb (getD ws zeroAt 0) 0 (says .eleventh)) refl
 
   pub checked-fit : checkedOf ws ≡ Fit g
   unfolding checkedOf cond

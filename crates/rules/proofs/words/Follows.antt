@@ -13,7 +13,7 @@ use borrow.Author.Tests.{leb-false}
 use Rattle.laws.specs.Choice.{cond}
 use Rattle.rules.specs.Answers.{Out, refuse, noSuchWorker, workerBusy, workerIdle, stepsSpent}
 use Rattle.rules.specs.Limits.{settingsFit, Bounds, stepLimit}
-use Rattle.rules.specs.Layout.{subAt, workerAt, cellAt, settingsOf, kindAt, widthAt, depthAt, shiftAt, rowsAt, workerCountAt, stepsAt, putsAt, topAt, markAt, firstZeroAt, secondZeroAt, indexAt, secondAt, workerWords, stampAt}
+use Rattle.rules.specs.Layout.{subAt, workerAt, cellAt, stepsAt, putsAt, topAt, markAt, zeroAt, indexAt, secondAt, workerWords, stampAt}
 use Rattle.rules.specs.Worker.{putSlot, fresh, idlePhase}
 use Rattle.rules.specs.Held.{Item, itemAt, distanceOf}
 use Rattle.rules.specs.Fit.{Fit, checkedOf}
@@ -33,7 +33,7 @@ use Rattle.rules.proofs.machine.Machine.{State, next, subIn, viewIn, be
 use Rattle.rules.proofs.machine.Turns.{Common, Counts}
 use Rattle.rules.proofs.machine.Does.{SharedAfter, rule-in, counted-in}
 use Rattle.rules.proofs.words.Says.{Says, distance-same}
-use Rattle.rules.proofs.words.Writes.{slot-length, slot-off, slot-on, slot-kept, SameTop, landed-shared, removed-shared}
+use Rattle.rules.proofs.words.Writes.{settings-kept, slot-length, slot-off, slot-on, slot-kept, SameTop, landed-shared, removed-shared}
 use Rattle.rules.proofs.words.Fit.{checked-fit}
 use Rattle.rules.proofs.words.After.{after-says}
 use Rattle.rules.proofs.words.Stores.{index-same, number-same, view-same, puts-as, top-as, stores, stores-worker, stores-shifted}
@@ -125,20 +125,10 @@ module _ (g : Settings) (limits : settingsFit g ≡ true) (ws : List ℕ) (s : S
         let high : (m : ℕ) → at + workerWords ≤ m → getD vs m 0 ≡ getD ws m 0 = λ m l. slot-off ws at x m (inr l) in
         let item : (j r : ℕ) → itemAt vs g j r ≡ itemAt ws g j r =
         λ j r. let v = high (cellAt g j r) (omega arith) in let t = high (stampAt (cellAt g j r)) (omega arith) in λ u. record { value = v u; stamp = t u } in
-        let settings : settingsOf vs ≡ settingsOf ws =
-        λ u. record {
-          kind = low kindAt (omega arith) u;
-          width = low widthAt (omega arith) u;
-          depth = low depthAt (omega arith) u;
-          shift = low shiftAt (omega arith) u;
-          rows = low rowsAt (omega arith) u;
-          workers = low workerCountAt (omega arith) u;
-        } in
         record {
           long = rw (slot-length ws at x) (says .long);
-          settings = settings ∙ says .settings;
-          tenth = low firstZeroAt (omega arith) ∙ says .tenth;
-          eleventh = low secondZeroAt (omega arith) ∙ says .eleventh;
+          settings = settings-kept ws vs (λ m s. low m (omega (arith, s .below))) ∙ says .settings;
+          eleventh = low zeroAt (omega arith) ∙ says .eleventh;
           steps = low stepsAt (omega arith) ∙ says .steps;
           puts = low putsAt (omega arith) ∙ says .puts;
           top = low topAt (omega arith) ∙ says .top;

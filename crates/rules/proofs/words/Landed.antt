@@ -8,7 +8,7 @@ use native.Mathlib.Omega.{arith}
 use lib.ListN.{length, getD}
 use Rattle.laws.specs.Wrap.{sub32}
 use Rattle.rules.specs.Limits.{Bounds, stepLimit}
-use Rattle.rules.specs.Layout.{subAt, workerAt, cellsAt, cellAt, settingsOf, kindAt, widthAt, depthAt, shiftAt, rowsAt, workerCountAt, stepsAt, putsAt, topAt, markAt, firstZeroAt, secondZeroAt, secondAt, stampAt}
+use Rattle.rules.specs.Layout.{subAt, workerAt, cellsAt, cellAt, stepsAt, putsAt, topAt, markAt, zeroAt, secondAt, stampAt}
 use Rattle.rules.specs.Held.{Item, itemAt, rowsBelow}
 use Rattle.rules.specs.Apply.{putItem}
 use Rattle.rules.proofs.Types.{Settings, Row, Stamp, Effect}
@@ -18,7 +18,7 @@ use Rattle.rules.proofs.counts.Stamps.{item-new, item-old}
 use Rattle.rules.proofs.machine.Machine.{State, subIn, viewIn, belowIn, afterIn, withItem}
 use Rattle.rules.proofs.machine.Does.{Lands}
 use Rattle.rules.proofs.words.Says.{Says}
-use Rattle.rules.proofs.words.Writes.{slot-kept}
+use Rattle.rules.proofs.words.Writes.{settings-kept, slot-kept}
 use Rattle.rules.proofs.words.Places.{place, places-apart, item-length, item-off, item-here, item-there}
 use Rattle.rules.proofs.words.After.{CellsSay}
 
@@ -69,9 +69,8 @@ module _ (g : Settings) (ws : List ℕ) (s : State) (says : Says g ws s) (bounds
   landed-says =
       record {
         long = rw (item-length ws g j value at stamp) (says .long);
-        settings = settings-kept ∙ says .settings;
-        tenth = before firstZeroAt (omega arith) ∙ says .tenth;
-        eleventh = before secondZeroAt (omega arith) ∙ says .eleventh;
+        settings = settings-kept ws vs (λ m s. before m (omega (arith, s .below))) ∙ says .settings;
+        eleventh = before zeroAt (omega arith) ∙ says .eleventh;
         steps = before stepsAt (omega arith) ∙ says .steps;
         puts = before putsAt (omega arith) ∙ says .puts;
         top = before topAt (omega arith) ∙ says .top;
@@ -81,17 +80,6 @@ module _ (g : Settings) (ws : List ℕ) (s : State) (says : Says g ws s) (bounds
         slot = λ m l. slot-kept ws vs (workerAt g m) (λ k a. before (workerAt g m + k) (omega arith)) ∙ says .slot m l;
         cell = old-cell;
       }
-    where
-      settings-kept : settingsOf vs ≡ settingsOf ws
-      settings-kept =
-          λ u. record {
-            kind = before kindAt (omega arith) u;
-            width = before widthAt (omega arith) u;
-            depth = before depthAt (omega arith) u;
-            shift = before shiftAt (omega arith) u;
-            rows = before rowsAt (omega arith) u;
-            workers = before workerCountAt (omega arith) u;
-          }
 
   -- the held rows after it: the new one, and the old ones
   pub landed-cells : CellsSay g vs (afterIn t i e)

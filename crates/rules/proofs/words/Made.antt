@@ -13,7 +13,7 @@ use lib.Dec.{ltb}
 use borrow.Author.Tests.{ltb-false}
 use Rattle.laws.specs.Choice.{cond}
 use Rattle.rules.specs.Answers.{out, refuse, numberOf, tooFewWords, offLimits}
-use Rattle.rules.specs.Layout.{workersAt, workerAt, needed, kindAt, widthAt, depthAt, shiftAt, rowsAt, workerCountAt, stepsAt, putsAt, topAt, markAt, firstZeroAt, secondZeroAt, valueWord, indexWord, windowWord, extraWord, scanWord, seenWord, sumWord, indexAt, workerWords}
+use Rattle.rules.specs.Layout.{workersAt, workerAt, needed, kindAt, widthAt, depthAt, shiftAt, rowsAt, workerCountAt, stepsAt, putsAt, topAt, markAt, strideAt, zeroAt, valueWord, indexWord, windowWord, extraWord, scanWord, seenWord, sumWord, indexAt, workerWords}
 use Rattle.rules.specs.Limits.{settingsFit}
 use Rattle.rules.specs.Worker.{slotAt}
 use Rattle.rules.specs.Make.{zeroed, newHead, indexed, madeWords, makeOf}
@@ -88,14 +88,14 @@ module _ (ws : List ℕ) (g : Settings) (enough : needed g ≤ length ws) where
   headed-length : length headed ≡ length ws
   headed-length = length-sets (zeroed ws (needed g)) 0 (newHead g) ∙ zeroed-length ws (needed g)
 
-  -- words 0 to 9
-  head : (m : ℕ) → m < 10 → getD made m 0 ≡ getD (newHead g) m 0
+  -- words 0 to 10
+  head : (m : ℕ) → m < zeroAt → getD made m 0 ≡ getD (newHead g) m 0
   head m l =
       let a : getD headed (0 + m) 0 ≡ getD (newHead g) m 0 = sets-in (newHead g) (zeroed ws (needed g)) 0 m l (rw (zeroed-length ws (needed g)) (omega arith)) in
       indexed-off headed g (g .workers) m (λ i u. omega arith) ∙ (rw (zero-add m) at a)
 
   -- a needed word beyond them, but a worker's index
-  zero-word : (m : ℕ) → firstZeroAt ≤ m → m < needed g → ((i : ℕ) → m ≢ indexAt (workerAt g i)) → getD made m 0 ≡ 0
+  zero-word : (m : ℕ) → zeroAt ≤ m → m < needed g → ((i : ℕ) → m ≢ indexAt (workerAt g i)) → getD made m 0 ≡ 0
   zero-word m a b h =
       indexed-off headed g (g .workers) m h
       ∙ sets-out (newHead g) (zeroed ws (needed g)) 0 m (inr (omega arith)) ∙ zeroed-at ws (needed g) m enough b
@@ -130,9 +130,9 @@ module _ (ws : List ℕ) (g : Settings) (enough : needed g ≤ length ws) where
           shift = head shiftAt (omega arith) u;
           rows = head rowsAt (omega arith) u;
           workers = head workerCountAt (omega arith) u;
+          stride = head strideAt (omega arith) u;
         };
-        tenth = zero-word firstZeroAt (omega arith) (omega arith) (λ i u. omega arith);
-        eleventh = zero-word secondZeroAt (omega arith) (omega arith) (λ i u. omega arith);
+        eleventh = zero-word zeroAt (omega arith) (omega arith) (λ i u. omega arith);
         steps = head stepsAt (omega arith);
         puts = head putsAt (omega arith);
         top = head topAt (omega arith);

@@ -80,8 +80,7 @@ module _ (ws : List ℕ) (g : Settings) (fit : checkedOf ws ≡ Fit g) where
       record {
         long = pool .enough;
         settings = pool .settings;
-        tenth = fit-head ws g fit .1;
-        eleventh = fit-head ws g fit .2;
+        eleventh = fit-head ws g fit .1;
         steps = refl;
         puts = refl;
         top = refl;

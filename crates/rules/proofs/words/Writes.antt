@@ -8,11 +8,42 @@ use native.Mathlib.Omega.{arith}
 use lib.ListN.{length, getD, set, length-set}
 use lib.Seq.{getD-set-same, getD-set-other, set-getD, length-sets}
 use Rattle.laws.specs.Wrap.{add32}
-use Rattle.rules.specs.Layout.{stepsAt, putsAt, topAt, markAt, subAt, phaseWord, valueWord, indexWord, windowWord, extraWord, scanWord, seenWord, sumWord, secondAt, workerWords}
+use Rattle.rules.specs.Layout.{headWords, kindAt, widthAt, depthAt, shiftAt, rowsAt, workerCountAt, stepsAt, putsAt, topAt, markAt, strideAt, settingsOf, subAt, phaseWord, valueWord, indexWord, windowWord, extraWord, scanWord, seenWord, sumWord, secondAt, workerWords}
 use Rattle.rules.specs.Worker.{slotAt, putSlot, wordsOf}
 use Rattle.rules.specs.Apply.{putSub, putShifted, putWorker}
 use Rattle.rules.proofs.Types.{Slot, Effect}
 use Rattle.rules.proofs.words.Lists.{sets-out, sets-in}
+
+-- ---- the head
+-- a place that no step and no begin stores into: of a setting, or of word 11
+pub record Still (p : ℕ) : Type 0 where
+  pub below : p < headWords
+  pub steps : p ≢ stepsAt
+  pub puts : p ≢ putsAt
+  pub top : p ≢ topAt
+  pub mark : p ≢ markAt
+
+pub still-low : (p : ℕ) → p < stepsAt → Still p
+still-low p l = record { below = omega arith; steps = λ u. omega arith; puts = λ u. omega arith; top = λ u. omega arith; mark = λ u. omega arith }
+
+pub still-high : (p : ℕ) → markAt < p → p < headWords → Still p
+still-high p l h = record { below = h; steps = λ u. omega arith; puts = λ u. omega arith; top = λ u. omega arith; mark = λ u. omega arith }
+
+-- the words there are as they were
+abbrev pub HeadKept : List ℕ → List ℕ → Type 0
+HeadKept ws vs = (m : ℕ) → Still m → getD vs m 0 ≡ getD ws m 0
+
+pub settings-kept : (ws vs : List ℕ) → HeadKept ws vs → settingsOf vs ≡ settingsOf ws
+settings-kept ws vs h =
+    λ u. record {
+      kind = h kindAt (still-low _ (omega arith)) u;
+      width = h widthAt (still-low _ (omega arith)) u;
+      depth = h depthAt (still-low _ (omega arith)) u;
+      shift = h shiftAt (still-low _ (omega arith)) u;
+      rows = h rowsAt (still-low _ (omega arith)) u;
+      workers = h workerCountAt (still-low _ (omega arith)) u;
+      stride = h strideAt (still-high _ (omega arith) (omega arith)) u;
+    }
 
 -- ---- a worker's eight words
 pub slot-length : (ws : List ℕ) (at : ℕ) (x : Slot) → length (putSlot ws at x) ≡ length ws
@@ -110,7 +141,7 @@ module _ (ws : List ℕ) (j : ℕ) (e : Effect) where
     shared-second = getD-set-same firsts (secondAt j) (e .second) 0 (simp length-set (omega arith))
 
 -- ---- an outcome that leaves some of them alone stores the others: to store those too, as they are, would change nothing
-set-kept : (xs : List ℕ) (m x : ℕ) → getD xs m 0 ≡ x → set xs m x ≡ xs
+pub set-kept : (xs : List ℕ) (m x : ℕ) → getD xs m 0 ≡ x → set xs m x ≡ xs
 set-kept xs m x h = ap (λ (y : ℕ). set xs m y) (sym h) ∙ set-getD xs m 0
 
 module _ (ws : List ℕ) (j : ℕ) (e : Effect) where

@@ -1,6 +1,7 @@
 //! Run files: the program `lister` beside the second implementation's lister,
 //! byte for byte.
 
+use crate::coverage::Strides;
 use crate::failure::Failure;
 use crate::make_up::run_file;
 use crate::rng::Rng;
@@ -28,8 +29,9 @@ impl Lister {
         }
     }
 
-    /// A random run file whole, damaged, cut and with bytes after its end.
-    pub fn run(&mut self, rng: &mut Rng) -> Result<(), Failure> {
+    /// A random run file whole, damaged, cut and with bytes after its end; and one
+    /// of a pool of this width with each stride.
+    pub fn run(&mut self, rng: &mut Rng, width: u32, strides: &mut Strides) -> Result<(), Failure> {
         let file = run_file::whole(rng);
         self.compare(&file)?;
         for _ in 0..6 {
@@ -46,6 +48,10 @@ impl Lister {
                 let len = rng.below(file.len() as u32) as usize;
                 self.compare(&file[..len])?;
             }
+        }
+        for (bits, file) in run_file::of_every_stride(rng, width) {
+            self.compare(&file)?;
+            strides.record_file(width, bits);
         }
         fs::remove_file(&self.input).map_err(|error| self.trouble(&error.to_string()))
     }

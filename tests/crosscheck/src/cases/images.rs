@@ -9,8 +9,12 @@ use sides::Call;
 
 pub fn run(rng: &mut Rng, checks: &mut Checks) -> Result<(), Failure> {
     let words = image::any(rng);
+    calls_on(rng, &words, checks)
+}
+
+pub fn calls_on(rng: &mut Rng, words: &[u32], checks: &mut Checks) -> Result<(), Failure> {
     let workers = words.get(layout::WORKERS).copied().unwrap_or(1);
-    let mut pools = SideBySide::new(&words, checks);
+    let mut pools = SideBySide::new(words, checks);
     let mut worker = junk::worker(rng, workers);
     for _ in 0..rng.between(1, 16) {
         if rng.chance(40) {

@@ -10,6 +10,10 @@ use sides::Call;
 
 pub fn run(rng: &mut Rng, checks: &mut Checks) -> Result<(), Failure> {
     let settings = settings::any(rng);
+    with(rng, settings, checks)
+}
+
+pub fn with(rng: &mut Rng, settings: Settings, checks: &mut Checks) -> Result<(), Failure> {
     let len = length(rng, &settings);
     let words = junk::words(rng, len);
     let mut pools = SideBySide::new(&words, checks);

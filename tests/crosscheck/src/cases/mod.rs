@@ -10,3 +10,4 @@ pub mod runs;
 pub mod scripts;
 pub mod solo;
 pub mod stretch;
+pub mod strides;

@@ -3,8 +3,9 @@
 //! where the paper's text is about words that no make leads to, each sort of
 //! settings that a script can have, each phase in which others may have stopped
 //! beside a solo operation, and the most steps of one; each corner of a
-//! dispatch, and the most steps of a stretch; and an empty of each kind that
-//! cannot stand at its last step.
+//! dispatch, and the most steps of a stretch; a lost commit with each stride of
+//! each width, and the refusals for the stride alone; and an empty of each kind
+//! that cannot stand at its last step.
 
 mod corners;
 mod counts;
@@ -15,6 +16,7 @@ mod places;
 mod scripts;
 mod solo;
 mod stretch;
+mod strides;
 
 use corners::CORNERS;
 use counts::Counts;
@@ -23,10 +25,11 @@ use numbers::Numbers;
 use phases::Phases;
 use places::Places;
 use scripts::SCRIPTS;
-use second::{layout, Answer, Dispatched, Settings, NO_WORKER, UNFIT};
+use second::{layout, Answer, Dispatched, Settings, UNFIT};
 use sides::{Call, Dispatch, SECOND};
 use solo::Solo;
 use stretch::Stretch;
+pub use strides::Strides;
 
 /// A call on a fit pool that was not refused, or only by its commit.
 struct Seen<'a> {
@@ -50,6 +53,7 @@ pub struct Coverage {
     pub solo: Solo,
     dispatch: Counts<{ DISPATCHES.len() }>,
     pub stretch: Stretch,
+    pub strides: Strides,
     pub places: Places,
 }
 
@@ -57,7 +61,10 @@ impl Coverage {
     pub fn record(&mut self, call: Call, answer: Answer, before: &[u32], after: &[u32]) {
         self.calls += 1;
         let (name, worker) = match call {
-            Call::Make(_) => ("make", None),
+            Call::Make(settings) => {
+                self.strides.record_make(&settings, answer.number);
+                ("make", None)
+            }
             Call::BeginPut { worker, .. } => ("begin put", Some(worker)),
             Call::BeginTake { worker } => ("begin take", Some(worker)),
             Call::Step { worker } => ("step", Some(worker)),
@@ -66,7 +73,11 @@ impl Coverage {
         let Some(worker) = worker else {
             return;
         };
-        if answer.is_refusal() && !(answer.number == UNFIT && is_fit(before)) {
+        if answer.number == UNFIT && fitness(before) == UNFIT {
+            self.strides.record_unfit(before);
+            return;
+        }
+        if answer.is_refusal() && answer.number != UNFIT {
             return;
         }
         let settings = Settings::of_words(before);
@@ -80,6 +91,7 @@ impl Coverage {
             answer,
         };
         self.phases.record(&seen);
+        self.strides.record(&seen);
         self.corners.add(CORNERS.map(|(_, reached)| reached(&seen)));
     }
 
@@ -116,13 +128,14 @@ impl Coverage {
         missing.extend(self.solo.report());
         missing.extend(self.dispatch.report(DISPATCHES));
         missing.extend(self.stretch.report());
+        missing.extend(self.strides.report());
         missing.extend(self.places.report());
         missing
     }
 }
 
-/// A worker number that no pool has is refused with 24 by a fit pool alone.
-fn is_fit(words: &[u32]) -> bool {
+/// 21 or 23; 24 for a fit pool, which has no worker of this number.
+fn fitness(words: &[u32]) -> u32 {
     let no_worker = Call::Step { worker: u32::MAX };
-    SECOND.call(&mut words.to_vec(), no_worker).number == NO_WORKER
+    SECOND.call(&mut words.to_vec(), no_worker).number
 }

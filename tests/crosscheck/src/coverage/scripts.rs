@@ -4,7 +4,7 @@ use second::{closer_distance_bound, framework_figure, thesis_figure, worst_dista
 
 pub type Script = (&'static str, fn(&Settings) -> bool);
 
-pub const SCRIPTS: [Script; 8] = [
+pub const SCRIPTS: [Script; 9] = [
     ("a script to K14's bound", |settings| {
         settings.width > 1 && worst_distance(settings) == closer_distance_bound(settings)
     }),
@@ -26,6 +26,7 @@ pub const SCRIPTS: [Script; 8] = [
         settings.workers > settings.width && settings.width > 1
     }),
     ("a script: one sub", |settings| settings.width == 1),
+    ("a script: a stride above 1", |settings| settings.stride > 1),
 ];
 
 fn has_one_shift(settings: &Settings) -> bool {

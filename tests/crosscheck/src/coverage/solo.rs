@@ -101,6 +101,7 @@ fn figure(kind: u32, side: Side, width: u32) -> u32 {
         shift: 1,
         rows: 2,
         workers: 1,
+        stride: 0,
     };
     solo_steps(&settings, side)
 }

@@ -83,6 +83,7 @@ fn beside_figure((width, workers): (u32, u32), steps: u32) -> String {
         shift: 1,
         rows: 2,
         workers,
+        stride: 0,
     };
     let figure = longest_stretch(&settings);
     format!("{width}x{workers}: {steps}/{figure}")

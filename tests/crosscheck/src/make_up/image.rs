@@ -21,16 +21,21 @@ pub fn any(rng: &mut Rng) -> Vec<u32> {
 fn fit(rng: &mut Rng) -> Vec<u32> {
     let size = rng.pick(&[Size::Small, Size::Small, Size::Small, Size::Medium]);
     let settings = within(rng, size);
+    of(rng, &settings)
+}
+
+/// Fit but for the stride, which may be off limits.
+pub fn of(rng: &mut Rng, settings: &Settings) -> Vec<u32> {
     let beyond = rng.below(4) as usize;
     let mut words = junk::words(rng, settings.needed_words() + beyond);
-    header(rng, &settings, &mut words);
+    header(rng, settings, &mut words);
     for j in 0..settings.width as usize {
         let at = settings.subs_at() + layout::SUB_WORDS * j;
-        sub(rng, &settings, &mut words, at);
+        sub(rng, settings, &mut words, at);
     }
     for i in 0..settings.workers as usize {
         let at = settings.workers_at() + layout::WORKER_WORDS * i;
-        worker(rng, &settings, &mut words, at);
+        worker(rng, settings, &mut words, at);
     }
     if rng.chance(80) {
         for stamp in words[settings.cells_at()..].iter_mut().skip(1).step_by(2) {
@@ -93,8 +98,8 @@ fn header(rng: &mut Rng, settings: &Settings, words: &mut [u32]) {
     words[layout::ROWS] = settings.rows;
     words[layout::WORKERS] = settings.workers;
     words[layout::STEPS_COUNTED] = junk::step_count(rng);
-    words[layout::FIRST_ZERO] = 0;
-    words[layout::SECOND_ZERO] = 0;
+    words[layout::STRIDE] = settings.stride;
+    words[layout::ZERO] = 0;
     windows(rng, settings, words);
 }
 

@@ -6,6 +6,7 @@ pub mod dispatches;
 pub mod image;
 pub mod junk;
 pub mod longest_stretch;
+pub mod lost_commit;
 pub mod most_steps;
 pub mod run_file;
 pub mod schedule;

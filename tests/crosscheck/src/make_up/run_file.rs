@@ -1,10 +1,11 @@
 //! Run files, whole and damaged (paper 01, The run file and its listing).
 
 use super::schedule::{Numbers, Schedule};
-use super::settings::{any, of_script, within, Size};
-use super::worst_distance;
+use super::settings::{any, of_script, of_stride, within, Size};
+use super::{lost_commit, worst_distance};
 use crate::rng::Rng;
-use second::Settings;
+use second::phase::Side;
+use second::{Settings, QUEUE, STACK};
 use sides::{Call, SECOND};
 
 /// Mostly a run under a schedule; some have no call, some play a script.
@@ -38,6 +39,25 @@ fn scheduled_file(rng: &mut Rng) -> Vec<u8> {
     })
 }
 
+/// A run of a pool of this width in which a commit fails, with values of the first
+/// word's bits 20-27: all of the stride's four, and all of the spare four above
+/// them. The sixteen widths come to all of the eight.
+pub fn of_every_stride(rng: &mut Rng, width: u32) -> Vec<(u32, Vec<u8>)> {
+    let kind = rng.pick(&[QUEUE, STACK]);
+    let settings = of_stride(rng, kind, width, 0);
+    let side = rng.pick(&[Side::Put, Side::Take]);
+    let mut script = lost_commit::script(rng, settings, side);
+    let file = of_run(settings, |words| script.next(rng, words));
+    let spare_bits = (1..16).map(|spare| (spare << 4) | (width + spare) % 16);
+    let with = |bits: u32| {
+        let mut file = file.clone();
+        file[2] |= (bits << 4) as u8;
+        file[3] |= (bits >> 4) as u8;
+        (bits, file)
+    };
+    (0..16).chain(spare_bits).map(with).collect()
+}
+
 /// The calls that follow a make, each made up from the words before it.
 fn of_run(settings: Settings, mut next: impl FnMut(&[u32]) -> Option<Call>) -> Vec<u8> {
     let mut words = vec![0; settings.needed_words()];
@@ -60,13 +80,18 @@ fn of_run_file(rng: &mut Rng) -> Settings {
         shift: settings.shift % 128,
         rows: settings.rows % 2048,
         workers: settings.workers % 64,
+        stride: settings.stride % 16,
     }
 }
 
 /// The bytes of a run of calls after a make with these settings.
 fn encode(settings: &Settings, calls: &[Call]) -> Vec<u8> {
-    let first =
-        1 << 28 | settings.kind << 19 | settings.shift << 12 | settings.depth << 5 | settings.width;
+    let first = 1 << 28
+        | settings.stride << 20
+        | settings.kind << 19
+        | settings.shift << 12
+        | settings.depth << 5
+        | settings.width;
     let second = 2 << 28 | settings.workers << 11 | settings.rows;
     let header = [first, second].into_iter();
     let words = header.chain(calls.iter().map(word)).chain([6 << 28]);

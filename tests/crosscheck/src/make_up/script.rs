@@ -1,4 +1,5 @@
-//! A script: acts one after the other.
+//! A script: acts one after the other. In those that lead to a figure no commit
+//! fails, so they do with every stride.
 
 use super::acts::Act;
 use super::workers::Workers;

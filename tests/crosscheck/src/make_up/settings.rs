@@ -3,6 +3,10 @@
 use super::junk;
 use crate::rng::Rng;
 use second::{Settings, QUEUE, STACK};
+use std::ops::Range;
+
+/// Within and off the limits of each width.
+pub const STRIDES: Range<u32> = 0..17;
 
 #[derive(Clone, Copy, PartialEq, Eq)]
 pub enum Size {
@@ -67,6 +71,16 @@ pub fn of_stretch_script(rng: &mut Rng, width: u32, crew: u32, size: Size) -> Se
     }
 }
 
+/// With this stride, within its limits or off, and the workers for a lost commit.
+pub fn of_stride(rng: &mut Rng, kind: u32, width: u32, stride: u32) -> Settings {
+    let settings = of_width(rng, kind, width, Size::Small);
+    Settings {
+        workers: settings.workers.max(2),
+        stride,
+        ..settings
+    }
+}
+
 /// Settings of this kind within limits.
 pub fn of_kind(rng: &mut Rng, kind: u32, size: Size) -> Settings {
     let widths = match size {
@@ -101,6 +115,7 @@ fn of_width(rng: &mut Rng, kind: u32, width: u32, size: Size) -> Settings {
         shift,
         rows,
         workers: up_to(rng, workers, size),
+        stride: rng.below(width),
     }
 }
 
@@ -119,13 +134,14 @@ pub fn any(rng: &mut Rng) -> Settings {
     let size = rng.pick(&[Size::Small, Size::Medium, Size::Large]);
     let mut settings = within(rng, size);
     for _ in 0..rng.below(3) {
-        let field = match rng.below(6) {
+        let field = match rng.below(7) {
             0 => &mut settings.kind,
             1 => &mut settings.width,
             2 => &mut settings.depth,
             3 => &mut settings.shift,
             4 => &mut settings.rows,
-            _ => &mut settings.workers,
+            5 => &mut settings.workers,
+            _ => &mut settings.stride,
         };
         *field = near_a_limit(rng, *field);
     }

@@ -9,6 +9,7 @@ pub(super) struct Shape {
     width: u32,
     depth: u32,
     shift: u32,
+    stride: u32,
 }
 
 pub(super) enum Call {
@@ -18,9 +19,9 @@ pub(super) enum Call {
     End,
 }
 
-/// Kind 1: bits 0-4 w, 5-11 d, 12-18 s, 19 pile.
+/// Kind 1: bits 0-4 w, 5-11 d, 12-18 s, 19 pile, 20-23 stride.
 pub(super) fn first(word: u32) -> Option<Shape> {
-    if kind(word) != 1 || bits(word, 20, 27) != 0 {
+    if kind(word) != 1 || bits(word, 24, 27) != 0 {
         return None;
     }
     Some(Shape {
@@ -28,6 +29,7 @@ pub(super) fn first(word: u32) -> Option<Shape> {
         width: bits(word, 0, 4),
         depth: bits(word, 5, 11),
         shift: bits(word, 12, 18),
+        stride: bits(word, 20, 23),
     })
 }
 
@@ -43,6 +45,7 @@ pub(super) fn second(shape: Shape, word: u32) -> Option<Settings> {
         shift: shape.shift,
         rows: bits(word, 0, 10),
         workers: bits(word, 11, 16),
+        stride: shape.stride,
     })
 }
 

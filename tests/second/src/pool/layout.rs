@@ -18,8 +18,8 @@ pub const WINDOW: usize = 8;
 /// Stack: the window's version.
 pub const WINDOW_VERSION: usize = 9;
 
-pub const FIRST_ZERO: usize = 10;
-pub const SECOND_ZERO: usize = 11;
+pub const STRIDE: usize = 10;
+pub const ZERO: usize = 11;
 pub const HEADER_WORDS: usize = 12;
 
 /// Two words per sub. Queue: items put and items taken.

@@ -15,6 +15,8 @@ pub struct Settings {
     pub shift: u32,
     pub rows: u32,
     pub workers: u32,
+    /// How far a commit that failed moves the index on; 0 stands for 1.
+    pub stride: u32,
 }
 
 impl Settings {
@@ -27,6 +29,7 @@ impl Settings {
             shift: words[layout::SHIFT],
             rows: words[layout::ROWS],
             workers: words[layout::WORKERS],
+            stride: words[layout::STRIDE],
         }
     }
 
@@ -39,6 +42,7 @@ impl Settings {
             && (2 * self.depth..=1024).contains(&self.rows)
             && (1..=32).contains(&self.workers)
             && self.width * self.rows <= 4096
+            && self.stride < self.width
             && (self.kind == STACK || self.suits_a_queue())
     }
 

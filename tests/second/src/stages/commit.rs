@@ -1,14 +1,14 @@
 //! Paper 01, Commit.
 
 use super::distance::distance;
-use super::{next_index, restart};
+use super::restart;
 use crate::answer::{Answer, MOVING, PUT, TAKEN, UNFIT};
 use crate::pool::phase::Side;
 use crate::pool::{layout, Pool, Worker};
 
 pub(super) fn commit(pool: &mut Pool, worker: &mut Worker, side: Side) -> Answer {
     if now(pool, worker.index, side) != worker.seen {
-        next_index(pool, worker);
+        hop(pool, worker);
         restart(worker, side);
         return Answer::of(MOVING);
     }
@@ -18,6 +18,13 @@ pub(super) fn commit(pool: &mut Pool, worker: &mut Worker, side: Side) -> Answer
         Side::Take if pool.items(worker.index) == 0 => Answer::of(UNFIT),
         Side::Take => commit_take(pool, worker),
     }
+}
+
+/// "After a commit that failed, only there the index moves on by the stride
+/// instead of by 1", and a stride of 0 stands for 1.
+fn hop(pool: &Pool, worker: &mut Worker) {
+    let stride = pool.settings.stride.max(1);
+    worker.index = (worker.index + stride) % pool.settings.width;
 }
 
 /// Items put (queue put), items taken (queue take) or the version (stack).

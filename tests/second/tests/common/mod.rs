@@ -17,6 +17,7 @@ pub fn queue(width: u32, depth: u32, rows: u32, workers: u32) -> Settings {
         shift: depth,
         rows,
         workers,
+        stride: 0,
     }
 }
 
@@ -28,7 +29,12 @@ pub fn stack(width: u32, depth: u32, shift: u32, rows: u32, workers: u32) -> Set
         shift,
         rows,
         workers,
+        stride: 0,
     }
+}
+
+pub fn strided(stride: u32, settings: Settings) -> Settings {
+    Settings { stride, ..settings }
 }
 
 pub fn made(settings: Settings) -> Vec<u32> {

@@ -68,12 +68,12 @@ returns-13 : tie.Need-returns-13
 unfolding settingsFit cond
 returns-13 c = search tests
 
-rem-if15 : tie.Need-rem-if15
-rem-if15 c = search needs
-
 returns-14 : tie.Need-returns-14
 unfolding settingsFit cond
 returns-14 c = search tests
+
+rem-if16 : tie.Need-rem-if16
+rem-if16 c = search needs
 
 returns-15 : tie.Need-returns-15
 unfolding settingsFit cond
@@ -82,6 +82,10 @@ returns-15 c = search tests
 returns-16 : tie.Need-returns-16
 unfolding settingsFit cond
 returns-16 c = search tests
+
+returns-17 : tie.Need-returns-17
+unfolding settingsFit cond
+returns-17 c = search tests
 
 pub settings-fit-spec : {M : Type 1} → statement M
 settings-fit-spec =
@@ -102,7 +106,8 @@ settings-fit-spec =
     mul-if12
     returns-12
     returns-13
-    rem-if15
     returns-14
+    rem-if16
     returns-15
-    returns-16)
+    returns-16
+    returns-17)

@@ -37,6 +37,9 @@ slice-write-words-9 c = simp length-set (search needs)
 slice-write-words-10 : tie.Need-slice-write-words-10
 slice-write-words-10 c = simp length-set (search needs)
 
+slice-write-words-11 : tie.Need-slice-write-words-11
+slice-write-words-11 c = simp length-set (search needs)
+
 same-length : tie.Need-same-length
 same-length c = search needs
 
@@ -58,5 +61,6 @@ put-head-spec =
     slice-write-words-8
     slice-write-words-9
     slice-write-words-10
+    slice-write-words-11
     same-length
     returns)

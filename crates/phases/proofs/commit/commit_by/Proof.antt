@@ -17,17 +17,17 @@ returns-2 : tie.Need-returns-2
 unfolding commitBy cond
 returns-2 c = c .refused .ensures ∙ simp (c .before .if2 .left, c .before .before .if1 .taken)
 
-next-requires : tie.Need-next-requires
-next-requires c κs = search needs
+hop-requires : tie.Need-hop-requires
+hop-requires c κs = search needs
 
 restart-requires : tie.Need-restart-requires
 restart-requires c κs = search needs
 
 returns-3 : tie.Need-returns-3
 unfolding commitBy cond
-returns-3 c = c .restart .ensures ∙ simp (c .before .before .if1 .left, c .before .next .ensures)
+returns-3 c = c .restart .ensures ∙ simp (c .before .before .if1 .left, c .before .hop .ensures)
 
 pub commit-by-spec : {M : Type 1} → statement M
 commit-by-spec =
     tie.close
-    (tie.spec returns refused-requires returns-2 next-requires restart-requires returns-3)
+    (tie.spec returns refused-requires returns-2 hop-requires restart-requires returns-3)

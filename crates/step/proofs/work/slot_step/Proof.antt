@@ -39,7 +39,7 @@ rule-requires : tie.Need-rule-requires
 unfolding viewOf slotAt
 rule-requires c κs =
     let s = c .before .before .before .before .before .before .before .before .before .before .before in
-    (s .pre .0 .bounds .depth64, rw (ap (λ (v : View). v .worker .index) (c .view .ensures)) (s .pre .1 .1))
+    (s .pre .0 .bounds, rw (ap (λ (v : View). v .worker .index) (c .view .ensures)) (s .pre .1 .1))
 
 apply-requires : tie.Need-apply-requires
 apply-requires c κs =
