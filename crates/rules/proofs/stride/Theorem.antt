@@ -1,0 +1,166 @@
+-- Strides 0 and 1 are one: they hop alike, and at a width other than 1 both are within limits or neither, so that the pool is found fit
+-- with either or with neither. Then each call passes by the store of the stride (Calls), and so does every list of calls.
+use Prim.Native.Nat.{ℕ, zero, suc, _≤_, _<_}
+use mathlib.Core.Path.{_≡_, refl, sym, ap, _∙_}
+use mathlib.Core.Logic.{_≢_}
+use mathlib.Core.Bool.{true}
+use mathlib.Core.List.{List, [], _∷_}
+use native.Mathlib.Decide.{decLe}
+use native.Mathlib.Omega.{arith}
+use lib.ListN.{getD, set, length, length-set}
+use lib.Seq.{getD-set-same, getD-set-other, set-set, sets}
+use borrow.Author.Tests.{lt-ltb, le-ltb}
+use Rattle.laws.specs.Choice.{cond, cond-under}
+use Rattle.rules.specs.Answers.{out, numberOf}
+use Rattle.rules.specs.Layout.{headWords, kindAt, widthAt, depthAt, shiftAt, rowsAt, workerCountAt, strideAt, zeroAt, needed, settingsOf}
+use Rattle.rules.specs.Limits.{settingsFit}
+use Rattle.rules.specs.Fit.{Checked, Unfit, Fit, headFit, checkedOf}
+use Rattle.rules.specs.Make.{zeroed, newMark, indexed, madeWords, makeOf}
+use Rattle.rules.specs.Effects.{hopOf}
+use Rattle.rules.specs.Run.{Call, callOf, run}
+use Rattle.rules.specs.Consequences.{wordsAfter}
+use Rattle.rules.specs.Stride.{StrideOneOnWords, withStride, AsStrideZero, StrideOne, WidthTwo}
+use Rattle.rules.specs.declared.Answer.the-variants.{Moving}
+use Rattle.rules.proofs.Types.{Settings}
+use Rattle.rules.proofs.Fitness.{settings-bounds, fit-pool}
+use Rattle.rules.proofs.words.Writes.{Still, still-low, still-high, set-kept}
+use Rattle.rules.proofs.words.Made.{accepted, made-says}
+use Rattle.rules.proofs.stride.Stores.{strided, indexed-commutes, body-same}
+use Rattle.rules.proofs.stride.Calls.{thenSet, checkedCall, call-is, unfit-call, call-commutes, kept}
+
+stride-still : Still strideAt
+stride-still = still-high strideAt (omega arith) (omega arith)
+
+width-still : Still widthAt
+width-still = still-low widthAt (omega arith)
+
+-- ---- settings
+hops-alike : (g : Settings) → g .stride ≡ 0 → (k : ℕ) → hopOf (withStride g 1) k ≡ hopOf g k
+unfolding hopOf cond
+hops-alike g z k = rw z refl
+
+-- a width of 0 is off limits itself
+limits-alike : (g : Settings) → g .stride ≡ 0 → g .width ≢ 1 → settingsFit (withStride g 1) ≡ settingsFit g
+unfolding settingsFit
+limits-alike g z n = elim (decLe 2 (g .width)) [
+  | yes l ↦ rw (z, lt-ltb 1 (g .width) l, lt-ltb 0 (g .width) (omega arith)) refl
+  | no l ↦ let none : g .width ≡ 0 = omega arith in rw none refl
+]
+
+settings-set : (ws : List ℕ) (x : ℕ) → strideAt < length ws → settingsOf (set ws strideAt x) ≡ withStride (settingsOf ws) x
+settings-set ws x l =
+    let low : (m : ℕ) → m < strideAt → getD (set ws strideAt x) m 0 ≡ getD ws m 0 = λ m a. getD-set-other ws strideAt m x 0 (λ u. omega arith) in
+    λ u. record {
+      kind = low kindAt (omega arith) u;
+      width = low widthAt (omega arith) u;
+      depth = low depthAt (omega arith) u;
+      shift = low shiftAt (omega arith) u;
+      rows = low rowsAt (omega arith) u;
+      workers = low workerCountAt (omega arith) u;
+      stride = getD-set-same ws strideAt x 0 l u;
+    }
+
+-- ---- a call, and a run
+module _ (ws : List ℕ) (z : getD ws strideAt 0 ≡ 0) (n : getD ws widthAt 0 ≢ 1) where
+  abbrev one : List ℕ
+  one = set ws strideAt 1
+
+  head-alike : strideAt < length ws → headFit one ≡ headFit ws
+  unfolding headFit
+  head-alike l =
+      rw (settings-set ws 1 l, limits-alike (settingsOf ws) z n, getD-set-other ws strideAt zeroAt 1 0 (λ u. omega arith)) refl
+
+  checked-alike : checkedOf one ≡ strided 1 (checkedOf ws)
+  unfolding checkedOf cond
+  checked-alike = elim (decLe headWords (length ws)) [
+    | yes l ↦
+        rw (
+          length-set ws strideAt 1,
+          le-ltb (length ws) headWords l,
+          head-alike (omega arith),
+          settings-set ws 1 (omega arith),
+          body-same strideAt stride-still 1 (settingsOf ws) 1 ws,
+          cond-under (strided 1) (headFit ws) _ _,
+        )
+        refl
+    | no l ↦ rw (length-set ws strideAt 1, lt-ltb (length ws) headWords (omega arith)) refl
+  ]
+
+  call-alike : (c : Call) → callOf one c ≡ thenSet strideAt 1 (callOf ws c)
+  call-alike c = rw (call-is ws c, call-is one c, checked-alike) (go (checkedOf ws) refl)
+    where
+      go : (k : Checked) → checkedOf ws ≡ k → checkedCall one (strided 1 k) c ≡ thenSet strideAt 1 (checkedCall ws k c)
+      go (Unfit n) e = rw (unfit-call ws n c, unfit-call one n c) refl
+      go (Fit g) e =
+          let zero-stride : g .stride ≡ 0 = ap (λ (h : Settings). h .stride) (sym (fit-pool ws g e .settings)) ∙ z in
+          call-commutes strideAt stride-still 1 g 1 (hops-alike g zero-stride) ws c
+
+record Alike (ws : List ℕ) (cs : List Call) : Type 0 where
+  answers : run (set ws strideAt 1) cs ≡ run ws cs
+  words : wordsAfter (set ws strideAt 1) cs ≡ set (wordsAfter ws cs) strideAt 1
+
+runs-alike : (ws : List ℕ) → getD ws strideAt 0 ≡ 0 → getD ws widthAt 0 ≢ 1 → (cs : List Call) → Alike ws cs
+unfolding run wordsAfter
+runs-alike ws z n [] = record { answers = refl; words = refl }
+runs-alike ws z n (c ∷ cs) =
+    let rest = runs-alike (callOf ws c .words) (kept strideAt stride-still ws c ∙ z) (λ u. n (sym (kept widthAt width-still ws c) ∙ u)) cs in
+    record { answers = rw (call-alike ws z n c, rest .answers) refl; words = rw (call-alike ws z n c, rest .words) refl }
+
+-- ---- on any words
+zero-set : (ws : List ℕ) (m : ℕ) → getD (set ws m 0) m 0 ≡ 0
+zero-set [] m = refl
+zero-set (w ∷ ws) zero = refl
+zero-set (w ∷ ws) (suc m) = zero-set ws m
+
+pub stride-one-on-words : StrideOneOnWords
+stride-one-on-words ws cs n =
+    let width : getD (set ws strideAt 0) widthAt 0 ≡ getD ws widthAt 0 = getD-set-other ws strideAt widthAt 0 0 (λ u. omega arith) in
+    let r = runs-alike (set ws strideAt 0) (zero-set ws strideAt) (λ u. n (sym width ∙ u)) cs in
+    record { answers = rw (set-set ws strideAt 0 1) at (r .answers); words = rw (set-set ws strideAt 0 1) at (r .words) }
+
+-- ---- on a new pool
+made-is : (ws : List ℕ) (g : Settings) → settingsFit g ≡ true → needed g ≤ length ws → makeOf ws g ≡ out Moving (madeWords ws g)
+unfolding makeOf cond
+made-is ws g limits enough = rw (limits, le-ltb (length ws) (needed g) enough) refl
+
+-- the stride is the last word of the head that make stores
+made-set : (ws : List ℕ) (g : Settings) (x : ℕ) → madeWords ws (withStride g x) ≡ set (madeWords ws (withStride g 0)) strideAt x
+unfolding madeWords
+made-set ws g x =
+    let head : List ℕ = sets (zeroed ws (needed g)) 0 (g .kind ∷ g .width ∷ g .depth ∷ g .shift ∷ g .rows ∷ g .workers ∷ 0 ∷ 0 ∷ g .depth ∷ newMark g ∷ []) in
+    ap (λ (vs : List ℕ). indexed vs (withStride g x) (g .workers)) (sym (set-set head strideAt 0 x))
+    ∙ indexed-commutes strideAt stride-still x (withStride g 0) x (g .workers) (set head strideAt 0)
+
+stride-after : (ws : List ℕ) (cs : List Call) → getD (wordsAfter ws cs) strideAt 0 ≡ getD ws strideAt 0
+unfolding wordsAfter
+stride-after ws [] = refl
+stride-after ws (c ∷ cs) = stride-after (callOf ws c .words) cs ∙ kept strideAt stride-still ws c
+
+by-stride : (ws : List ℕ) (g : Settings) (cs : List Call) (x : ℕ) → x ≤ 1 → numberOf (makeOf ws (withStride g x) .answer) ≡ 0 → AsStrideZero ws (withStride g x) cs
+by-stride ws g cs zero l made =
+    let a = accepted ws (withStride g 0) made in
+    let says = made-says ws (withStride g 0) (a .enough) in
+    let z : getD (makeOf ws (withStride g 0) .words) strideAt 0 ≡ 0 = rw (a .words) (ap (λ (h : Settings). h .stride) (says .settings)) in
+    record { made = refl; answers = refl; words = sym (set-kept _ strideAt 0 (stride-after _ cs ∙ z)) }
+by-stride ws g cs (suc zero) l made =
+    let a = accepted ws (withStride g 1) made in
+    let wide = settings-bounds (withStride g 1) (a .limits) .stride-width in
+    let limits = sym (limits-alike (withStride g 0) refl (λ u. omega arith)) ∙ a .limits in
+    let made0 = made-is ws (withStride g 0) limits (a .enough) in
+    let says = made-says ws (withStride g 0) (a .enough) in
+    let width = ap (λ (h : Settings). h .width) (says .settings) in
+    let r = runs-alike (madeWords ws (withStride g 0)) (ap (λ (h : Settings). h .stride) (says .settings)) (λ u. omega arith) cs in
+    record {
+      made = rw (made-is ws (withStride g 1) (a .limits) (a .enough), made0) refl;
+      answers = rw (a .words, made-set ws g 1, made0) (r .answers);
+      words = rw (a .words, made-set ws g 1, made0) (r .words);
+    }
+by-stride ws g cs (suc (suc x)) l made = absurd (omega arith)
+
+pub stride-one : StrideOne
+stride-one ws g cs made one = by-stride ws g cs (g .stride) (omega arith) made
+
+pub width-two : WidthTwo
+width-two ws g cs made narrow =
+    let below = settings-bounds g (accepted ws g made .limits) .stride-width in
+    by-stride ws g cs (g .stride) (omega arith) made
