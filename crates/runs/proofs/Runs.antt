@@ -36,6 +36,7 @@ use Rattle.rules.specs.declared.Answer.the-variants.{Moving}
 use Rattle.runs.specs.Rows.{Row, makeNumber, linesOf, eventsOf, runOf, Holds, AllHold}
 use Rattle.runs.specs.Reach.{Reach, Reaches, Gives}
 use Rattle.runs.specs.Table.{table}
+use Rattle.runs.specs.Strides.{strides}
 use Rattle.runs.specs.Extremes.{extremes}
 use Rattle.runs.specs.Solos.{solos}
 use Rattle.runs.specs.Stretches.{Stretch, Unanswered, stretches}
@@ -99,14 +100,15 @@ stretch-unanswered s t =
     }
 
 -- ---- the tables
-tables-pass : (every holds table ≡ true) × (every reaches extremes ≡ true) × (every reaches solos ≡ true) × (every unanswered stretches ≡ true)
-unfolding table extremes solos stretches mostPassed leastFull frameworkBound exactBound thesisBound k14Bound countedSteps eventsOf runOf linesOf makeNumber settingsFit run callOf cond allBelow slotAt putSlot queuePhase stackPhase phaseOf encode encodePhase headFit subFit subsFit phaseFit wordFit workersFit bodyChecked checkedOf zeroed indexed madeWords makeOf slotBegin fitBegin checkedBegin beginOf viewOf nextOf hopOf windowRule missOf queuePutRead queueTakeRead stackRead checkRule commitBy queueCommit stackCommit shiftBy queueShift stackShift confirmedOf confirmRule itemsAbove heldSub heldBelow countItems distanceOf putItem putSub putLanded putShifted putWorker takenOf applyBy applyOf ruleBy ruleOf slotStep fitStep checkedStep stepOf
-tables-pass = (refl, refl, refl, refl)
+tables-pass : (every holds table ≡ true) × (every holds strides ≡ true) × (every reaches extremes ≡ true) × (every reaches solos ≡ true) × (every unanswered stretches ≡ true)
+unfolding table strides extremes solos stretches mostPassed leastFull frameworkBound exactBound thesisBound k14Bound countedSteps eventsOf runOf linesOf makeNumber settingsFit run callOf cond allBelow slotAt putSlot queuePhase stackPhase phaseOf encode encodePhase headFit subFit subsFit phaseFit wordFit workersFit bodyChecked checkedOf zeroed indexed madeWords makeOf slotBegin fitBegin checkedBegin beginOf viewOf nextOf hopOf windowRule missOf queuePutRead queueTakeRead stackRead checkRule commitBy queueCommit stackCommit shiftBy queueShift stackShift confirmedOf confirmRule itemsAbove heldSub heldBelow countItems distanceOf putItem putSub putLanded putShifted putWorker takenOf applyBy applyOf ruleBy ruleOf slotStep fitStep checkedStep stepOf
+tables-pass = (refl, refl, refl, refl, refl)
 
-pub runs-hold : AllHold table × All Reaches extremes × All Reaches solos × All Unanswered stretches
+pub runs-hold : AllHold table × AllHold strides × All Reaches extremes × All Reaches solos × All Unanswered stretches
 runs-hold = (
   all-from-tests holds row-holds table (tables-pass .0),
-  all-from-tests reaches row-reaches extremes (tables-pass .1),
-  all-from-tests reaches row-reaches solos (tables-pass .2),
-  all-from-tests unanswered stretch-unanswered stretches (tables-pass .3),
+  all-from-tests holds row-holds strides (tables-pass .1),
+  all-from-tests reaches row-reaches extremes (tables-pass .2),
+  all-from-tests reaches row-reaches solos (tables-pass .3),
+  all-from-tests unanswered stretch-unanswered stretches (tables-pass .4),
 )

@@ -2,6 +2,7 @@ pub mod Rows
 pub mod Notation
 pub mod Reach
 pub mod Table
+pub mod Strides
 pub mod Extremes
 pub mod Solos
 pub mod Stretches
