@@ -54,7 +54,7 @@ const fn lister_fault(
     }
 }
 
-pub const FAULTS: [Fault; 26] = [
+pub const FAULTS: [Fault; 30] = [
     trap(
         "empty after one pass, without confirm",
         "stages/read.rs",
@@ -148,8 +148,26 @@ pub const FAULTS: [Fault; 26] = [
     fault(
         "a failed commit keeps its index",
         "stages/commit.rs",
-        "        next_index(pool, worker);\n",
+        "        hop(pool, worker);\n",
         "",
+    ),
+    fault(
+        "a failed commit that hops by 1 whatever the stride",
+        "stages/commit.rs",
+        "pool.settings.stride.max(1)",
+        "1",
+    ),
+    fault(
+        "a miss that hops by the stride",
+        "stages/read.rs",
+        "    next_index(pool, worker);\n    if",
+        "    for _ in 0..pool.settings.stride.max(1) {\n        next_index(pool, worker);\n    }\n    if",
+    ),
+    fault(
+        "a stride of w within limits",
+        "pool/settings.rs",
+        "self.stride < self.width",
+        "self.stride <= self.width",
     ),
     fault(
         "a stack take that reads >= for >",
@@ -204,6 +222,12 @@ pub const FAULTS: [Fault; 26] = [
         "bounds.rs",
         "2 * settings.depth + 2 * settings.shift)",
         "settings.depth + 2 * settings.shift)",
+    ),
+    lister_fault(
+        "the stride's top bit is spare",
+        "listing/decode.rs",
+        "bits(word, 24, 27) != 0",
+        "bits(word, 23, 27) != 0",
     ),
     lister_fault(
         "a spare bit of a step passes",
