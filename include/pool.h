@@ -138,7 +138,7 @@ static inline uint32_t pool_steps_left(const uint32_t *words) {
  * Makes a new pool in the lent words. Limits: kind 0 or 1, width 1 to 16, depth 1 to 64, shift 1 to depth (a queue has
  * shift = depth), rows from 2 * depth to 1,024 (in a queue a multiple of depth), workers 1 to 32, width * rows at most 4,096,
  * stride 0 to width - 1. A worker whose commit failed, since another one's came first, goes on at the sub that is the stride
- * further; 0 stands for 1, the next sub. No figure above depends on the stride.
+ * further, modulo width; 0 stands for 1, the next sub. No figure above depends on the stride.
  * Words beyond the needed ones are not touched, by this call or any other.
  */
 uint32_t pool_make(uint32_t *words, size_t len, uint32_t kind, uint32_t width, uint32_t depth, uint32_t shift, uint32_t rows,

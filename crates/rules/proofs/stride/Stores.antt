@@ -18,7 +18,7 @@ use Rattle.rules.specs.Apply.{putItem, putSub, putLanded, putShifted, pu
 use Rattle.rules.specs.Stride.{withStride}
 use Rattle.rules.specs.declared.Answer.the-variants.{Taken}
 use Rattle.rules.proofs.Types.{Settings, Slot, Row, Stamp, Effect}
-use Rattle.rules.proofs.words.Writes.{Still, slot-kept}
+use Rattle.rules.proofs.words.Writes.{Still, slot-kept, item-kept}
 
 -- what is checked, with another stride
 abbrev pub strided : ℕ → Checked → Checked
@@ -100,9 +100,7 @@ module _ (p : ℕ) (still : Still p) (x : ℕ) where
     second-same j = high (secondAt j) (omega arith)
 
     item-same : (j r : ℕ) → itemAt vs h j r ≡ itemAt ws g j r
-    item-same j r =
-        let v = high (cellAt g j r) (omega arith) in let t = high (stampAt (cellAt g j r)) (omega arith) in
-        λ u. record { value = v u; stamp = t u }
+    item-same = item-kept g ws vs (λ m l. high m (omega arith))
 
     items-same : (j t k : ℕ) → itemsAbove vs h j t k ≡ itemsAbove ws g j t k
     unfolding itemsAbove

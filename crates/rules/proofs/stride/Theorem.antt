@@ -7,7 +7,7 @@ use mathlib.Core.Bool.{true}
 use mathlib.Core.List.{List, [], _∷_}
 use native.Mathlib.Decide.{decLe}
 use native.Mathlib.Omega.{arith}
-use lib.ListN.{getD, set, length, length-set}
+use lib.ListN.{getD, set, take, length, length-set}
 use lib.Seq.{getD-set-same, getD-set-other, set-set, sets}
 use borrow.Author.Tests.{lt-ltb, le-ltb}
 use Rattle.laws.specs.Choice.{cond, cond-under}
@@ -15,7 +15,7 @@ use Rattle.rules.specs.Answers.{out, numberOf}
 use Rattle.rules.specs.Layout.{headWords, kindAt, widthAt, depthAt, shiftAt, rowsAt, workerCountAt, strideAt, zeroAt, needed, settingsOf}
 use Rattle.rules.specs.Limits.{settingsFit}
 use Rattle.rules.specs.Fit.{Checked, Unfit, Fit, headFit, checkedOf}
-use Rattle.rules.specs.Make.{zeroed, newMark, indexed, madeWords, makeOf}
+use Rattle.rules.specs.Make.{zeroed, newHead, indexed, madeWords, makeOf}
 use Rattle.rules.specs.Effects.{hopOf}
 use Rattle.rules.specs.Run.{Call, callOf, run}
 use Rattle.rules.specs.Consequences.{wordsAfter}
@@ -127,7 +127,7 @@ made-is ws g limits enough = rw (limits, le-ltb (length ws) (needed g) enough) r
 made-set : (ws : List ℕ) (g : Settings) (x : ℕ) → madeWords ws (withStride g x) ≡ set (madeWords ws (withStride g 0)) strideAt x
 unfolding madeWords
 made-set ws g x =
-    let head : List ℕ = sets (zeroed ws (needed g)) 0 (g .kind ∷ g .width ∷ g .depth ∷ g .shift ∷ g .rows ∷ g .workers ∷ 0 ∷ 0 ∷ g .depth ∷ newMark g ∷ []) in
+    let head : List ℕ = sets (zeroed ws (needed g)) 0 (take strideAt (newHead g)) in
     ap (λ (vs : List ℕ). indexed vs (withStride g x) (g .workers)) (sym (set-set head strideAt 0 x))
     ∙ indexed-commutes strideAt stride-still x (withStride g 0) x (g .workers) (set head strideAt 0)
 

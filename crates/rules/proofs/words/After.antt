@@ -10,7 +10,7 @@ use native.Mathlib.Omega.{arith}
 use lib.ListN.{length, getD}
 use Rattle.laws.specs.Wrap.{add32}
 use Rattle.rules.specs.Limits.{stepLimit}
-use Rattle.rules.specs.Layout.{subAt, workerAt, cellsAt, cellAt, firstOf, secondOf, zeroAt, secondAt, workerWords, stampAt}
+use Rattle.rules.specs.Layout.{subAt, workerAt, cellsAt, firstOf, secondOf, zeroAt, secondAt, workerWords}
 use Rattle.rules.specs.Worker.{slotAt}
 use Rattle.rules.specs.Held.{itemAt, rowsBelow}
 use Rattle.rules.proofs.Types.{Settings, Effect}
@@ -19,7 +19,7 @@ use Rattle.rules.proofs.counts.Wraps.{add32-suc}
 use Rattle.rules.proofs.machine.Machine.{State, subIn, viewIn, belowIn, afterIn}
 use Rattle.rules.proofs.machine.Does.{Keeps}
 use Rattle.rules.proofs.words.Says.{Says}
-use Rattle.rules.proofs.words.Writes.{allSet, still-high, HeadKept, settings-kept, slot-kept, all-length, all-off, all-steps, all-puts, all-top, all-mark, all-first, all-second, all-slot}
+use Rattle.rules.proofs.words.Writes.{allSet, still-high, HeadKept, settings-kept, slot-kept, item-kept, all-length, all-off, all-steps, all-puts, all-top, all-mark, all-first, all-second, all-slot}
 
 -- the cells of the held rows have their items
 abbrev pub CellsSay : Settings → List ℕ → State → Type 0
@@ -63,12 +63,6 @@ module _ (g : Settings) (ws : List ℕ) (s : State) (says : Says g ws s) (i : �
   cells-off m l =
       all-off ws at j e m (λ u. omega arith) (λ u. omega arith) (λ u. omega arith) (λ u. omega arith) (λ u. omega arith) (λ u. omega arith) (inr (omega arith))
 
-  same-item : (k r : ℕ) → itemAt vs g k r ≡ itemAt ws g k r
-  same-item k r =
-      let v = cells-off (cellAt g k r) (omega arith) in
-      let t = cells-off (stampAt (cellAt g k r)) (omega arith) in
-      λ u. record { value = v u; stamp = t u }
-
   pub after-says : s .steps < stepLimit → CellsSay g ws (afterIn s i e) → Says g vs (afterIn s i e)
   after-says few cells =
       record {
@@ -91,7 +85,7 @@ module _ (g : Settings) (ws : List ℕ) (s : State) (says : Says g ws s) (i : �
           | yes y ↦ rw y (all-slot ws at j e above long ∙ sym (upd-same (s .slot) i (e .slot)))
           | no n ↦ other-slot m n ∙ says .slot m l ∙ sym (upd-other (s .slot) i (e .slot) m n)
         ];
-        cell = λ k r l a b. same-item k r ∙ cells k r l a b;
+        cell = λ k r l a b. item-kept g ws vs cells-off k r ∙ cells k r l a b;
       }
 
   -- a step that adds no held row

@@ -13,9 +13,9 @@ use borrow.Author.Tests.{leb-false}
 use Rattle.laws.specs.Choice.{cond}
 use Rattle.rules.specs.Answers.{Out, refuse, noSuchWorker, workerBusy, workerIdle, stepsSpent}
 use Rattle.rules.specs.Limits.{settingsFit, Bounds, stepLimit}
-use Rattle.rules.specs.Layout.{subAt, workerAt, cellAt, stepsAt, putsAt, topAt, markAt, zeroAt, indexAt, secondAt, workerWords, stampAt}
+use Rattle.rules.specs.Layout.{subAt, workerAt, stepsAt, putsAt, topAt, markAt, zeroAt, indexAt, secondAt, workerWords}
 use Rattle.rules.specs.Worker.{putSlot, fresh, idlePhase}
-use Rattle.rules.specs.Held.{Item, itemAt, distanceOf}
+use Rattle.rules.specs.Held.{Item, distanceOf}
 use Rattle.rules.specs.Fit.{Fit, checkedOf}
 use Rattle.rules.specs.Effects.{viewOf}
 use Rattle.rules.specs.Apply.{putItem, putLanded, takenOf, applyBy, applyOf}
@@ -33,7 +33,7 @@ use Rattle.rules.proofs.machine.Machine.{State, next, subIn, viewIn, be
 use Rattle.rules.proofs.machine.Turns.{Common, Counts}
 use Rattle.rules.proofs.machine.Does.{SharedAfter, rule-in, counted-in}
 use Rattle.rules.proofs.words.Says.{Says, distance-same}
-use Rattle.rules.proofs.words.Writes.{settings-kept, slot-length, slot-off, slot-on, slot-kept, SameTop, landed-shared, removed-shared}
+use Rattle.rules.proofs.words.Writes.{settings-kept, slot-length, slot-off, slot-on, slot-kept, item-kept, SameTop, landed-shared, removed-shared}
 use Rattle.rules.proofs.words.Fit.{checked-fit}
 use Rattle.rules.proofs.words.After.{after-says}
 use Rattle.rules.proofs.words.Stores.{index-same, number-same, view-same, puts-as, top-as, stores, stores-worker, stores-shifted}
@@ -123,8 +123,6 @@ module _ (g : Settings) (limits : settingsFit g ≡ true) (ws : List ℕ) (s : S
         let at = workerAt g i in
         let low : (m : ℕ) → m < at → getD vs m 0 ≡ getD ws m 0 = λ m l. slot-off ws at x m (inl l) in
         let high : (m : ℕ) → at + workerWords ≤ m → getD vs m 0 ≡ getD ws m 0 = λ m l. slot-off ws at x m (inr l) in
-        let item : (j r : ℕ) → itemAt vs g j r ≡ itemAt ws g j r =
-        λ j r. let v = high (cellAt g j r) (omega arith) in let t = high (stampAt (cellAt g j r)) (omega arith) in λ u. record { value = v u; stamp = t u } in
         record {
           long = rw (slot-length ws at x) (says .long);
           settings = settings-kept ws vs (λ m s. low m (omega (arith, s .below))) ∙ says .settings;
@@ -139,7 +137,7 @@ module _ (g : Settings) (limits : settingsFit g ≡ true) (ws : List ℕ) (s : S
             | yes y ↦ rw y (slot-on ws at x (omega (arith, says .long)) ∙ sym (upd-same (s .slot) i x))
             | no n ↦ slot-kept ws vs (workerAt g m) (λ k a. slot-off ws at x (workerAt g m + k) (side m k a n (decLe m i))) ∙ says .slot m l ∙ sym (upd-other (s .slot) i x m n)
           ];
-          cell = λ j r l a b. item j r ∙ says .cell j r l a b;
+          cell = λ j r l a b. item-kept g ws vs (λ m c. high m (omega arith)) j r ∙ says .cell j r l a b;
         }
       where
         side : (m k : ℕ) → k < workerWords → m ≢ i → Dec (m ≤ i) → (workerAt g m + k < workerAt g i) ⊎ (workerAt g i + workerWords ≤ workerAt g m + k)

@@ -8,10 +8,11 @@ use native.Mathlib.Omega.{arith}
 use lib.ListN.{length, getD, set, length-set}
 use lib.Seq.{getD-set-same, getD-set-other, set-getD, length-sets}
 use Rattle.laws.specs.Wrap.{add32}
-use Rattle.rules.specs.Layout.{headWords, kindAt, widthAt, depthAt, shiftAt, rowsAt, workerCountAt, stepsAt, putsAt, topAt, markAt, strideAt, settingsOf, subAt, phaseWord, valueWord, indexWord, windowWord, extraWord, scanWord, seenWord, sumWord, secondAt, workerWords}
+use Rattle.rules.specs.Layout.{headWords, kindAt, widthAt, depthAt, shiftAt, rowsAt, workerCountAt, stepsAt, putsAt, topAt, markAt, strideAt, settingsOf, subAt, phaseWord, valueWord, indexWord, windowWord, extraWord, scanWord, seenWord, sumWord, secondAt, workerWords, cellsAt, cellAt, stampAt}
 use Rattle.rules.specs.Worker.{slotAt, putSlot, wordsOf}
+use Rattle.rules.specs.Held.{itemAt}
 use Rattle.rules.specs.Apply.{putSub, putShifted, putWorker}
-use Rattle.rules.proofs.Types.{Slot, Effect}
+use Rattle.rules.proofs.Types.{Settings, Slot, Effect}
 use Rattle.rules.proofs.words.Lists.{sets-out, sets-in}
 
 -- ---- the head
@@ -87,6 +88,12 @@ slot-kept ws vs at h =
       seen = h 6 (omega arith) u;
       sum = h 7 (omega arith) u;
     }
+
+-- an item whose cell's words are as they were
+pub item-kept : (g : Settings) (ws vs : List ℕ) → ((m : ℕ) → cellsAt g ≤ m → getD vs m 0 ≡ getD ws m 0) → (j r : ℕ) → itemAt vs g j r ≡ itemAt ws g j r
+item-kept g ws vs h j r =
+    let v = h (cellAt g j r) (omega arith) in let t = h (stampAt (cellAt g j r)) (omega arith) in
+    λ u. record { value = v u; stamp = t u }
 
 -- ---- the shared words and the sub's
 abbrev Apart : ℕ → ℕ → Type 0
