@@ -2,10 +2,9 @@
 use image::Sub;
 use rules::Settings;
 ghost use mathlib.Core.Path.{_≡_};
-ghost use Prim.Native.Nat.{_%_, _<_, _≤_};
+ghost use Prim.Native.Nat.{_≤_};
 ghost use Rattle.rules.specs.Fit.{SubFits};
-ghost use Rattle.rules.specs.Held.{rowsBelow, rowsHeld};
-ghost use Rattle.rules.specs.Limits.{Bounds};
+ghost use Rattle.rules.specs.Held.{rowsHeld};
 
 // How many rows a sub holds: at most R.
 pub fn rows_held(g: Settings, sub: Sub) -> u32
@@ -17,15 +16,4 @@ pub fn rows_held(g: Settings, sub: Sub) -> u32
     } else {
         sub.first
     }
-}
-
-// Which of a sub's cells has the first of the rows held.
-pub fn first_cell(g: Settings, sub: Sub) -> u32
-    requires { ⌜ Bounds g ⌝ }
-    ensures { λ r. ⌜ (r ≡ rowsBelow g (sub .second) % g .rows) × (r < g .rows) ⌝ }
-{
-    if g.kind == 0 {
-        return sub.second % g.rows;
-    }
-    0
 }

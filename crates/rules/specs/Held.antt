@@ -1,11 +1,11 @@
 -- "Distance": held items of all subs with a smaller stamp (queue) or a greater one (stack) just before the take.
-use Prim.Native.Nat.{ℕ, zero, suc, _+_, _*_, _-_}
+use Prim.Native.Nat.{ℕ, zero, suc, _+_, _-_}
 use mathlib.Core.List.{List, [], _∷_, _++_}
 use mathlib.Core.Bool.{Bool}
 use lib.ListN.{getD, length}
 use lib.Dec.{ltb, eqb}
 use Rattle.laws.specs.Choice.{cond}
-use Rattle.rules.specs.Layout.{cellWords, cellAt, stampAt, firstOf, secondOf}
+use Rattle.rules.specs.Layout.{cellAt, stampAt, firstOf, secondOf}
 use Rattle.rules.specs.Fit.{Checked, Unfit, Fit, checkedOf}
 use Rattle.rules.specs.declared.Settings.{Settings}
 use Rattle.rules.specs.declared.Stamp.{Stamp}
@@ -14,9 +14,13 @@ pub record Item : Type 0 where
   pub value : ℕ
   pub stamp : ℕ
 
+-- the item in the cell at a place
+abbrev pub cellItem : List ℕ → ℕ → Item
+cellItem ws cell = record { value = getD ws cell 0; stamp = getD ws (stampAt cell) 0 }
+
 -- the item in the cell of a row
 abbrev pub itemAt : List ℕ → Settings → ℕ → ℕ → Item
-itemAt ws g j row = record { value = getD ws (cellAt g j row) 0; stamp = getD ws (stampAt (cellAt g j row)) 0 }
+itemAt ws g j row = cellItem ws (cellAt g j row)
 
 -- a sub's held rows are the `rowsHeld` ones above `rowsBelow`: in a queue those above the taken ones, in a stack all
 abbrev pub rowsBelow : Settings → ℕ → ℕ
@@ -60,8 +64,3 @@ passedOver kind s x = cond (eqb kind 0) (ltb (x .stamp) s) (ltb s (x .stamp))
 
 unfoldable pub distanceOf : List ℕ → Settings → Stamp → ℕ
 distanceOf ws g s = countItems (passedOver (g .kind) (s .0)) (heldItems ws g)
-
--- the items in the k cells from word `at` on, one after the other
-unfoldable pub cellItems : List ℕ → ℕ → ℕ → List Item
-cellItems ws at zero = []
-cellItems ws at (suc k) = cellItems ws at k ++ (record { value = getD ws (at + cellWords * k) 0; stamp = getD ws (stampAt (at + cellWords * k)) 0 } ∷ [])

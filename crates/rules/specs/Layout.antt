@@ -149,13 +149,20 @@ cellWords = 2
 abbrev pub cellsAt : Settings → ℕ
 cellsAt g = workersAt g + workerWords * g .workers
 
--- row r of sub j is cell j × R + (r - 1) mod R
+-- row r of sub j is cell j × R + (r - 1) mod R; of the sub's own cells, from 0, it is this one
+abbrev pub cellOf : Settings → ℕ → ℕ
+cellOf g row = sub32 row 1 % g .rows
+
 abbrev pub cellAt : Settings → ℕ → ℕ → ℕ
-cellAt g j row = cellsAt g + cellWords * (j * g .rows + sub32 row 1 % g .rows)
+cellAt g j row = cellsAt g + cellWords * (j * g .rows + cellOf g row)
 
 -- the first cell of sub j
 abbrev pub subCellsAt : Settings → ℕ → ℕ
 subCellsAt g j = cellsAt g + cellWords * (j * g .rows)
+
+-- cell c, from 0, of those from a place on
+abbrev pub nthCellAt : ℕ → ℕ → ℕ
+nthCellAt at c = at + cellWords * c
 
 -- of the cell at a place; its value is its first word
 abbrev pub stampAt : ℕ → ℕ

@@ -21,6 +21,18 @@ pub struct Settings {
     pub stride: u32,
 }
 
+// So many of a sub's cells, one after the other, from its cell `start` on, counted from 0: paper 02's straight run.
+pub struct Segment {
+    pub start: u32,
+    pub count: u32,
+}
+
+// At most two of them, one after the other: up to the sub's last cell, and on from its first. One without cells is none.
+pub struct Segments {
+    pub first: Segment,
+    pub second: Segment,
+}
+
 // What an operation was begun as.
 pub enum Side {
     Putting,

@@ -10,7 +10,7 @@ use native.Mathlib.Omega.{arith}
 use lib.ListN.{length, getD, set, length-set}
 use lib.Seq.{getD-set-same, getD-set-other}
 use Rattle.laws.specs.Wrap.{sub32}
-use Rattle.rules.specs.Layout.{cellAt, stampAt}
+use Rattle.rules.specs.Layout.{cellOf, cellAt, stampAt}
 use Rattle.rules.specs.Held.{itemAt}
 use Rattle.rules.specs.Apply.{putItem}
 use Rattle.rules.proofs.Types.{Settings, Row}
@@ -27,7 +27,7 @@ grid-one R j k a b la lb e =
     omega arith
 
 -- R rows in a row have R different places
-ring-one : (R t r r′ : ℕ) → 1 ≤ R → t < r → r ≤ t + R → t < r′ → r′ ≤ t + R → (r - 1) % R ≡ (r′ - 1) % R → r ≡ r′
+pub ring-one : (R t r r′ : ℕ) → 1 ≤ R → t < r → r ≤ t + R → t < r′ → r′ ≤ t + R → (r - 1) % R ≡ (r′ - 1) % R → r ≡ r′
 ring-one R t r r′ pos a b a′ b′ e =
     let d1 = div-add-mod' (r - 1) R in
     let d2 = div-add-mod' (r′ - 1) R in
@@ -41,7 +41,7 @@ ring-one R t r r′ pos a b a′ b′ e =
 
 -- the cell of a row, counted from the first
 abbrev pub place : Settings → ℕ → ℕ → ℕ
-place g j row = j * g .rows + sub32 row 1 % g .rows
+place g j row = j * g .rows + cellOf g row
 
 -- rows t + 1 to t + R of sub j, and any row of another sub, lie apart
 pub places-apart : (g : Settings) (j k t r n : ℕ) → 1 ≤ g .rows → (k ≡ j → (t < n) × (n ≤ t + g .rows) × (n ≢ r))

@@ -5,19 +5,20 @@ use mathlib.Core.Path.{sym, _∙_, _≡_}
 use native.Mathlib.Omega.{arith}
 use borrow.Author.Needs.{needs}
 use Rattle.laws.specs.Choice.{cond-true, cond-false}
-use Rattle.rules.proofs.Cells.{cells-none, cells-passed}
-use Rattle.rules.specs.Held.{cellItems, countItems, passedOver}
+use Rattle.rules.proofs.Walk.{cells-none, cells-passed}
+use Rattle.rules.specs.Held.{countItems, passedOver}
+use Rattle.rules.specs.Segments.{upFrom, cellItems}
 use Rattle.held.proofs.passed.cells_passed.Statement.{statement}
 use Rattle.held.proofs.passed.cells_passed.Tie as tie
 
 abbrev Inv-loop : tie.InvT-loop
-Inv-loop cells count kind s n₀ k₀ n k = (k ≤ count) × (n ≤ k) × (n ≡ countItems (passedOver kind (s .0)) (cellItems cells 0 k))
+Inv-loop cells count kind s n₀ k₀ n k = (k ≤ count) × (n ≤ k) × (n ≡ countItems (passedOver kind (s .0)) (cellItems cells 0 (upFrom 0 k)))
 
 abbrev μ-loop : tie.MeasureT-loop
 μ-loop cells count kind s n₀ k₀ n k = count - k
 
 loop-holds : tie.Need-loop-holds Inv-loop μ-loop
-loop-holds c = (search needs, search needs, sym (cells-none _ _ _))
+loop-holds c = (search needs, search needs, sym (cells-none _ (c .before .args .cells .now) 0 0))
 
 stamp-of-requires : tie.Need-stamp-of-requires Inv-loop μ-loop
 stamp-of-requires c κs = search needs

@@ -3,14 +3,15 @@ use Prim.Native.Nat.{_*_, _-_, _≤_}
 use mathlib.Core.Path.{sym, _≡_}
 use native.Mathlib.Omega.{arith}
 use borrow.Author.Needs.{needs}
-use Rattle.rules.proofs.Cells.{subs-more, subs-none}
-use Rattle.rules.specs.Held.{countItems, distanceOf, heldBelow, passedOver}
+use Rattle.rules.proofs.Walk.{subs-more, subs-none}
+use Rattle.rules.specs.Held.{countItems, passedOver}
 use Rattle.rules.specs.Limits.{mostRows}
+use Rattle.rules.specs.Segments.{walkedBelow, walkedDistance}
 use Rattle.held.proofs.passed.distance.Statement.{statement}
 use Rattle.held.proofs.passed.distance.Tie as tie
 
 abbrev Inv-loop : tie.InvT-loop
-Inv-loop words g s width n₀ j₀ n j = (j ≤ g .width) × (n ≤ mostRows * j) × (n ≡ countItems (passedOver (g .kind) (s .0)) (heldBelow words g j))
+Inv-loop words g s width n₀ j₀ n j = (j ≤ g .width) × (n ≤ mostRows * j) × (n ≡ countItems (passedOver (g .kind) (s .0)) (walkedBelow words g j))
 
 abbrev μ-loop : tie.MeasureT-loop
 μ-loop words g s width n₀ j₀ n j = g .width - j
@@ -36,7 +37,7 @@ loop-again c =
     omega (arith, subs-more (passedOver (a .g .kind) (a .s .0)) (a .words .now) (a .g) (c .before .before .loop .j))
 
 returns : tie.Need-returns Inv-loop μ-loop
-unfolding distanceOf
+unfolding walkedDistance
 returns c =
     let all : c .before .loop .j ≡ c .before .before .before .args .g .width = omega arith in
     rw all at (c .before .loop .inv .2)

@@ -1,51 +1,67 @@
--- `held::passed::sub_passed` meets its contract: a stack's held rows are one straight run from its first cell on, and its count is what the call ensures.
-use Prim.Native.Nat.{ℕ, _%_}
-use mathlib.Core.Path.{_≡_, ap, sym, _∙_}
-use native.Mathlib.Nat.{zero-mod}
+-- `held::passed::sub_passed` meets its contract: the segments are those of the sub's words, and its kind is the number that stands in the call.
+use Prim.Native.Nat.{ℕ}
+use mathlib.Core.Path.{_≡_, ap₂, sym, _∙_}
 use native.Mathlib.Omega.{arith}
-use Rattle.rules.proofs.Cells.{held-one-run, stack-below}
-use Rattle.rules.specs.Held.{countItems, rowsBelow, rowsHeld}
-use Rattle.rules.specs.Layout.{subAt, firstOf, secondOf}
 use borrow.Author.Needs.{needs}
+use Rattle.rules.proofs.Cells.{held-fits, rows-pos}
+use Rattle.rules.proofs.Ring.{segments-within}
+use Rattle.rules.specs.Held.{countItems, passedOver}
+use Rattle.rules.specs.Layout.{subCellsAt}
+use Rattle.rules.specs.Segments.{Within, heldSegments, cellsOf, cellItems, walkedSub}
+use Rattle.rules.specs.declared.Segments.{Segments}
 use Rattle.held.proofs.passed.sub_passed.Statement.{statement}
 use Rattle.held.proofs.passed.sub_passed.Tie as tie
 
-runs-passed-requires : tie.Need-runs-passed-requires
-runs-passed-requires c κs = search needs
+-- the segments of the sub's words, and that they lie within its cells
+read : (c : tie.After-held-segments)
+    → let a = c .before .before .before .args in c .held-segments .result ≡ heldSegments (a .words .now) (a .g) (a .j)
+read c = let sub = c .before .sub-of .ensures in rw (sub .0, sub .1) at (c .held-segments .ensures)
 
-returns : tie.Need-returns
-returns c = search needs
+within : (c : tie.After-held-segments) → Within (c .before .before .before .args .g .rows) (c .held-segments .result)
+within c =
+    let s = c .before .before .before in
+    rw (read c) (segments-within (s .args .g .rows) _ _ (rows-pos (s .args .g) (s .pre .0)) (held-fits (s .args .g) _ _ (s .pre .1 .1) .1))
+
+-- what is counted in them with the kind as a number is what the sub's kind has passed over
+by-kind : (c : tie.After-held-segments) (kind : ℕ) → let a = c .before .before .before .args in
+    a .g .kind ≡ kind
+    → countItems (passedOver kind (a .s .0)) (cellItems (a .words .now) (subCellsAt (a .g) (a .j)) (cellsOf (c .held-segments .result)))
+    ≡ countItems (passedOver (a .g .kind) (a .s .0)) (walkedSub (a .words .now) (a .g) (a .j))
+by-kind c kind e =
+    let a = c .before .before .before .args in
+    ap₂ (λ (k : ℕ) (x : Segments). countItems (passedOver k (a .s .0)) (cellItems (a .words .now) (subCellsAt (a .g) (a .j)) (cellsOf x))) (sym e) (read c)
 
 sub-of-requires : tie.Need-sub-of-requires
 sub-of-requires c κs = search needs
 
-rows-held-requires : tie.Need-rows-held-requires
-rows-held-requires c κs = rw (c .sub-of .ensures .0, c .sub-of .ensures .1) (c .before .before .before .before .pre .1 .1)
+held-segments-requires : tie.Need-held-segments-requires
+held-segments-requires c κs = rw (c .sub-of .ensures .0, c .sub-of .ensures .1) (c .before .before .pre .0, c .before .before .pre .1 .1)
 
-run-passed-requires : tie.Need-run-passed-requires
-run-passed-requires c κs = search needs
+segments-passed-requires : tie.Need-segments-passed-requires
+segments-passed-requires c κs = let r = c .before .before in let p = r .before .before .before .pre in (p .0, (p .1 .0, within r))
+
+returns : tie.Need-returns
+returns c =
+    let r = c .before .before .before in
+    (c .segments-passed .ensures .0 ∙ by-kind r 0 (c .before .if1 .taken), c .segments-passed .ensures .1)
+
+segments-passed-requires-2 : tie.Need-segments-passed-requires-2
+segments-passed-requires-2 c κs = let r = c .before .before in let p = r .before .before .before .pre in (p .0, (p .1 .0, within r))
 
 returns-2 : tie.Need-returns-2
 returns-2 c =
-    let s = c .before .before .before .before .before .before in
-    let a = s .args in
-    let sub = c .before .before .sub-of .ensures in
-    let kind : a .g .kind ≡ 1 = omega (arith, s .pre .0 .kind1, c .before .before .before .if1 .left) in
-    let start : 0 ≡ rowsBelow (a .g) (secondOf (a .words .now) (a .j)) % a .g .rows =
-    sym (ap (λ (x : ℕ). x % a .g .rows) (stack-below (a .g) kind _) ∙ zero-mod _) in
-    let held : c .before .rows-held .result ≡ rowsHeld (a .g) (firstOf (a .words .now) (a .j)) (secondOf (a .words .now) (a .j)) =
-    rw (sub .0, sub .1) at (c .before .rows-held .ensures .0) in
-    let few = c .before .before .before .before .before .shared-slice-known .given (subAt (a .j)) .fits in
-    let run = held-one-run (a .words .now) (a .g) (a .j) (s .pre .0) few (s .pre .1 .1) _ 0 held start (omega (arith, c .before .rows-held .ensures .1)) in
-    (rw (← kind) at (c .run-passed .ensures .0 ∙ ap (countItems _) (sym run)), omega arith)
+    let r = c .before .before .before in
+    let s = r .before .before .before in
+    let kind : s .args .g .kind ≡ 1 = omega (arith, s .pre .0 .kind1, c .before .if1 .left) in
+    (c .segments-passed2 .ensures .0 ∙ by-kind r 1 kind, c .segments-passed2 .ensures .1)
 
 pub sub-passed-spec : {M : Type 1} → statement M
 sub-passed-spec =
     tie.close
     (tie.spec
-    runs-passed-requires
-    returns
     sub-of-requires
-    rows-held-requires
-    run-passed-requires
+    held-segments-requires
+    segments-passed-requires
+    returns
+    segments-passed-requires-2
     returns-2)

@@ -1,0 +1,57 @@
+// The straight runs of cells that hold a sub's rows: whatever goes through held cells goes through these.
+use crate::rows::rows_held;
+use image::Sub;
+use rules::Segment;
+use rules::Segments;
+use rules::Settings;
+ghost use mathlib.Core.Path.{_≡_};
+ghost use Prim.Native.Nat.{_≤_};
+ghost use Rattle.rules.specs.Fit.{SubFits};
+ghost use Rattle.rules.specs.Limits.{Bounds};
+ghost use Rattle.rules.specs.Segments.{segment, only, segmentsAbove, subSegments};
+
+// One segment alone.
+fn only(start: u32, count: u32) -> Segments
+    ensures { λ r. ⌜ r ≡ only (segment start count) ⌝ }
+{
+    Segments {
+        first: Segment { start, count },
+        second: Segment { start: 0, count: 0 },
+    }
+}
+
+// Those of the cells of `held` rows above row `below`: up to the last cell, and on from the first. The only remainder is for
+// the lowest row's cell; where no row is held, none is taken.
+fn segments_above(rows: u32, below: u32, held: u32) -> Segments
+    requires { ⌜ 1 ≤ rows ⌝ }
+    ensures { λ r. ⌜ r ≡ segmentsAbove rows below held ⌝ }
+{
+    if held == 0 {
+        return only(0, 0);
+    }
+    let start = below % rows;
+    let room = rows - start;
+    if held <= room {
+        return only(start, held);
+    }
+    Segments {
+        first: Segment { start, count: room },
+        second: Segment {
+            start: 0,
+            count: held - room,
+        },
+    }
+}
+
+// Those of the held rows of a sub. A stack's lie in its first cells.
+pub fn held_segments(g: Settings, sub: Sub) -> Segments
+    requires { ⌜ Bounds g ⌝ }
+    requires { ⌜ SubFits g (sub .first) (sub .second) ⌝ }
+    ensures { λ r. ⌜ r ≡ subSegments g (sub .first) (sub .second) ⌝ }
+{
+    let held = rows_held(g, sub);
+    if g.kind == 0 {
+        return segments_above(g.rows, sub.second, held);
+    }
+    only(0, held)
+}

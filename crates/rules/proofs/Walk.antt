@@ -1,0 +1,63 @@
+-- What is counted on the way through the segments: one cell more, the cells of a part of the words, two segments, one sub more.
+use Prim.Native.Nat.{ℕ, zero, suc, _+_, _*_, _≤_, _<_}
+use mathlib.Core.Path.{_≡_, refl, sym, ap, _∙_}
+use mathlib.Core.Bool.{Bool}
+use mathlib.Core.List.{List, _++_, map-append}
+use native.Mathlib.Numerals.{add-one}
+use native.Mathlib.Omega.{arith}
+use lib.ListN.{getD, take, drop}
+use lib.Seq.{getD-drop, getD-take}
+use Rattle.laws.specs.Choice.{cond}
+use Rattle.rules.specs.Layout.{cellWords, stampAt}
+use Rattle.rules.specs.Held.{Item, countItems, passedOver}
+use Rattle.rules.specs.Segments.{upFrom, cellItems, walkedSub, walkedBelow}
+use Rattle.rules.specs.declared.Settings.{Settings}
+use Rattle.rules.proofs.Cells.{count-append}
+
+-- ---- cells
+pub cells-none : (p : Item → Bool) (ws : List ℕ) (at n : ℕ) → countItems p (cellItems ws at (upFrom n 0)) ≡ 0
+unfolding upFrom countItems
+cells-none p ws at n = refl
+
+pub cells-two : (p : Item → Bool) (ws : List ℕ) (at : ℕ) (cs ds : List ℕ)
+    → countItems p (cellItems ws at (cs ++ ds)) ≡ countItems p (cellItems ws at cs) + countItems p (cellItems ws at ds)
+cells-two p ws at cs ds = ap (countItems p) (map-append _ cs ds) ∙ count-append p (cellItems ws at cs) (cellItems ws at ds)
+
+-- one cell more from the first word on, by its stamp x
+pub cells-passed : (kind s : ℕ) (ws : List ℕ) (k x : ℕ) → x ≡ getD ws (stampAt (cellWords * k)) 0
+    → countItems (passedOver kind s) (cellItems ws 0 (upFrom 0 (k + 1)))
+    ≡ countItems (passedOver kind s) (cellItems ws 0 (upFrom 0 k)) + cond (passedOver kind s (record { value = 0; stamp = x })) 1 0
+unfolding upFrom countItems
+cells-passed kind s ws k x e =
+    let place : stampAt (0 + cellWords * (0 + k)) ≡ stampAt (cellWords * k) = omega arith in
+    rw (add-one k) (cells-two (passedOver kind s) ws 0 (upFrom 0 k) _ ∙ rw (place, e) (omega arith))
+
+-- the first cells of a part of the words are those from its start on
+pub cells-part : (ws : List ℕ) (n at start k : ℕ) → cellWords * k ≤ n
+    → cellItems (take n (drop (at + cellWords * start) ws)) 0 (upFrom 0 k) ≡ cellItems ws at (upFrom start k)
+unfolding upFrom
+cells-part ws n at start zero h = refl
+cells-part ws n at start (suc k) h =
+    map-append _ (upFrom 0 k) _
+    ∙ rw (
+      cells-part ws n at start k (omega arith),
+      word (0 + cellWords * (0 + k)) (at + cellWords * (start + k)) (omega arith) (omega arith),
+      word (stampAt (0 + cellWords * (0 + k))) (stampAt (at + cellWords * (start + k))) (omega arith) (omega arith),
+    )
+    (sym (map-append _ (upFrom start k) _))
+  where
+    word : (i m : ℕ) → i < n → at + cellWords * start + i ≡ m → getD (take n (drop (at + cellWords * start) ws)) i 0 ≡ getD ws m 0
+    word i m l e =
+        getD-take n (drop (at + cellWords * start) ws) i 0 l
+        ∙ getD-drop (at + cellWords * start) ws i 0
+        ∙ ap (λ (x : ℕ). getD ws x 0) e
+
+-- ---- subs
+pub subs-none : (p : Item → Bool) (ws : List ℕ) (g : Settings) → countItems p (walkedBelow ws g 0) ≡ 0
+unfolding walkedBelow countItems
+subs-none p ws g = refl
+
+pub subs-more : (p : Item → Bool) (ws : List ℕ) (g : Settings) (j : ℕ)
+    → countItems p (walkedBelow ws g (j + 1)) ≡ countItems p (walkedBelow ws g j) + countItems p (walkedSub ws g j)
+unfolding walkedBelow
+subs-more p ws g j = rw (add-one j) (count-append p (walkedBelow ws g j) (walkedSub ws g j))

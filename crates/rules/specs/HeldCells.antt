@@ -1,0 +1,58 @@
+-- Paper 02, K2: "please let the distance take no remainder for each row, and go through a sub's held cells in at most two straight
+-- runs, up to the last cell and on from the first. Show that these runs are exactly its held cells, once each, and that no answer
+-- changes."
+-- The runs are `heldSegments`, the distance along them is `walkedDistance` (specs/Segments); the code's contracts cite both. The
+-- answers' own definition, over the held list, is `distanceOf` (specs/Held), and no rule names a segment.
+use Prim.Native.Nat.{ℕ, _+_, _^_, _≤_, _<_}
+use mathlib.Core.Path.{_≡_}
+use mathlib.Core.Logic.{_↔_}
+use mathlib.Core.List.{List, List·Memᴰ}
+use lib.ListN.{getD, length}
+use Rattle.rules.specs.Layout.{cellOf, subCellsAt, firstOf, secondOf}
+use Rattle.rules.specs.Fit.{Fit, checkedOf}
+use Rattle.rules.specs.Held.{rowsBelow, rowsHeld, heldSub, heldItems, heldOf, distanceOf}
+use Rattle.rules.specs.Segments.{Within, heldSegments, cellsOf, cellItems, walkedItems, walkedDistance}
+use Rattle.rules.specs.declared.Settings.{Settings}
+use Rattle.rules.specs.declared.Stamp.{Stamp}
+use Rattle.rules.specs.declared.Segments.{Segments}
+
+-- "lent 32-bit words", and fit, with these settings
+pub record FitImage (ws : List ℕ) (g : Settings) : Type 0 where
+  pub words : (k : ℕ) → getD ws k 0 < 2 ^ 32
+  pub fit : checkedOf ws ≡ Fit g
+
+-- ---- the held cells of a sub
+-- a row that sub j holds: in a queue above those taken and up to those put, in a stack from 1 up to those held
+pub record HeldRow (ws : List ℕ) (g : Settings) (j row : ℕ) : Type 0 where
+  pub above : rowsBelow g (secondOf ws j) < row
+  pub up-to : row ≤ firstOf ws j
+
+pub record HeldCells (ws : List ℕ) (g : Settings) (j : ℕ) (x : Segments) : Type 0 where
+  -- "in at most two straight runs, up to the last cell and on from the first"
+  pub within : Within (g .rows) x
+  -- "exactly its held cells": a cell is in them if and only if it is that of a held row
+  pub exactly : (c : ℕ) → List·Memᴰ c (cellsOf x) ↔ ((row : ℕ) × HeldRow ws g j row × (cellOf g row ≡ c))
+  -- "once each": no two places in their list have the same cell
+  pub once : (a b : ℕ) → a < length (cellsOf x) → b < length (cellsOf x) → getD (cellsOf x) a 0 ≡ getD (cellsOf x) b 0 → a ≡ b
+  -- as many as the sub holds, in the order of their rows
+  pub number : length (cellsOf x) ≡ rowsHeld g (firstOf ws j) (secondOf ws j)
+  pub in-order : (k : ℕ) → k < rowsHeld g (firstOf ws j) (secondOf ws j) → getD (cellsOf x) k 0 ≡ cellOf g (rowsBelow g (secondOf ws j) + k + 1)
+  -- and the items in them are the sub's in the held list
+  pub items : cellItems ws (subCellsAt g j) (cellsOf x) ≡ heldSub ws g j
+
+-- of every fit image and every sub of it, queue and stack
+abbrev pub HeldInSegments : Type 0
+HeldInSegments = (ws : List ℕ) (g : Settings) (j : ℕ) → FitImage ws g → j < g .width → HeldCells ws g j (heldSegments ws g j)
+
+-- ---- "no answer changes"
+-- the walk meets the held list, item by item in its order
+abbrev pub WalkMeetsHeld : Type 0
+WalkMeetsHeld = (ws : List ℕ) (g : Settings) → FitImage ws g → walkedItems ws g ≡ heldItems ws g
+
+-- so the distance along the segments is the answers' own
+abbrev pub SameDistance : Type 0
+SameDistance = (ws : List ℕ) (g : Settings) (s : Stamp) → FitImage ws g → walkedDistance ws g s ≡ distanceOf ws g s
+
+-- and as many are met as the pool holds
+abbrev pub SameNumber : Type 0
+SameNumber = (ws : List ℕ) (g : Settings) → FitImage ws g → length (walkedItems ws g) ≡ heldOf ws
