@@ -24,6 +24,7 @@ use Rattle.rules.specs.Commit.{commitBy, queueCommit, stackCommit}
 use Rattle.rules.specs.Shift.{shiftBy, queueShift, stackShift}
 use Rattle.rules.specs.Confirm.{confirmedOf, confirmRule}
 use Rattle.rules.specs.Held.{itemsAbove, heldSub, heldBelow, countItems, distanceOf}
+use Rattle.rules.specs.Segments.{segmentsFrom, segmentsAbove, upFrom}
 use Rattle.rules.specs.Apply.{putItem, putSub, putLanded, putShifted, putWorker, takenOf, applyBy, applyOf}
 use Rattle.rules.specs.Step.{ruleBy, ruleOf, slotStep, fitStep, checkedStep, stepOf}
 use Rattle.rules.specs.Sequential.{mostPassed, leastFull}
@@ -36,6 +37,7 @@ use Rattle.rules.specs.declared.Answer.the-variants.{Moving}
 use Rattle.runs.specs.Rows.{Row, makeNumber, linesOf, eventsOf, runOf, Holds, AllHold}
 use Rattle.runs.specs.Reach.{Reach, Reaches, Gives}
 use Rattle.runs.specs.Table.{table}
+use Rattle.runs.specs.HeldCells.{SegmentsByHand}
 use Rattle.runs.specs.Strides.{strides}
 use Rattle.runs.specs.Extremes.{extremes}
 use Rattle.runs.specs.Solos.{solos}
@@ -111,4 +113,20 @@ runs-hold = (
   all-from-tests reaches row-reaches extremes (tables-pass .2),
   all-from-tests reaches row-reaches solos (tables-pass .3),
   all-from-tests unanswered stretch-unanswered stretches (tables-pass .4),
+)
+
+-- ---- a sub's segments
+pub segments-by-hand : SegmentsByHand
+unfolding segmentsAbove segmentsFrom upFrom cond
+segments-by-hand = (
+  (refl, refl),
+  (refl, refl),
+  (refl, refl),
+  (refl, refl),
+  (refl, refl),
+  (refl, refl),
+  (refl, refl),
+  (refl, refl),
+  (refl, refl),
+  (refl, refl),
 )

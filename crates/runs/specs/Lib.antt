@@ -3,6 +3,7 @@ pub mod Notation
 pub mod Reach
 pub mod Table
 pub mod Strides
+pub mod HeldCells
 pub mod Extremes
 pub mod Solos
 pub mod Stretches
