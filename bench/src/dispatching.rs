@@ -2,7 +2,7 @@
 //! the pool once.
 
 use crate::busy::{busy, Busy, MANY};
-use crate::measure::{median, ROUNDS};
+use crate::measure::{in_turn, medians};
 use crate::tables::{print_range, settings, CELLS, KINDS};
 use compiled::{dispatch_into, step_into, DispatchFields, Fields};
 use second::{Dispatched, MOVING};
@@ -55,27 +55,14 @@ pub fn table() {
 /// Nanoseconds per step by dispatches, by step calls and by dispatches of `fast`,
 /// and the ratio of the second to the first: medians over the rounds.
 fn measure(busy: &Busy, workers: u32) -> [f64; 4] {
-    let mut rounds = [(); 4].map(|()| Vec::new());
-    // One round to warm up.
-    for round in 0..=ROUNDS {
-        let mut times = [0.0; 3];
-        for place in 0..times.len() {
-            let way = (round + place) % times.len();
-            times[way] = match way {
-                0 => time(busy, workers, by_dispatch()),
-                1 => time(busy, workers, by_steps(workers)),
-                _ => time(busy, workers, by_fast_dispatch),
-            };
-        }
-        if round > 0 {
-            let [dispatch, steps, fast] = times;
-            let ratio = steps / dispatch;
-            for (all, one) in rounds.iter_mut().zip([dispatch, steps, fast, ratio]) {
-                all.push(one);
-            }
-        }
-    }
-    rounds.map(median)
+    let rounds = in_turn(|way| match way {
+        0 => time(busy, workers, by_dispatch()),
+        1 => time(busy, workers, by_steps(workers)),
+        _ => time(busy, workers, by_fast_dispatch),
+    });
+    medians(&rounds, |[dispatch, steps, fast]| {
+        [dispatch, steps, fast, steps / dispatch]
+    })
 }
 
 /// `finish` steps from a worker on, up to a final answer: whose it is.

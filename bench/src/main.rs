@@ -2,13 +2,16 @@
 //! implementation made fast, as Markdown for a page in docs. With `reading`, the
 //! last table alone.
 
+mod again;
 mod busy;
+mod commit;
 mod dispatching;
 mod machine;
 mod measure;
 mod reading;
 mod side;
 mod tables;
+mod walks;
 mod workload;
 
 fn main() {

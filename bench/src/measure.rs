@@ -94,6 +94,29 @@ fn per_call(time: Duration, calls: usize) -> f64 {
     time.as_nanos() as f64 / calls as f64
 }
 
+/// The times of several ways in each round. The ways take turns, and which of them
+/// is the first changes from round to round; one round more comes before, to warm up.
+pub fn in_turn<const WAYS: usize>(mut time: impl FnMut(usize) -> f64) -> Vec<[f64; WAYS]> {
+    let rounds = (0..=ROUNDS).map(|round| {
+        let mut times = [0.0; WAYS];
+        for place in 0..WAYS {
+            let way = (round + place) % WAYS;
+            times[way] = time(way);
+        }
+        times
+    });
+    rounds.skip(1).collect()
+}
+
+/// Figures that each round's times give, each the median over the rounds.
+pub fn medians<const WAYS: usize, const FIGURES: usize>(
+    rounds: &[[f64; WAYS]],
+    figures: impl Fn([f64; WAYS]) -> [f64; FIGURES],
+) -> [f64; FIGURES] {
+    let rounds: Vec<_> = rounds.iter().map(|times| figures(*times)).collect();
+    std::array::from_fn(|figure| median(rounds.iter().map(|round| round[figure]).collect()))
+}
+
 pub fn median(mut times: Vec<f64>) -> f64 {
     times.sort_by(f64::total_cmp);
     times[times.len() / 2]

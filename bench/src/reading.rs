@@ -2,26 +2,25 @@
 //! them, in a loop of Rust's. Each is how much longer a call takes on a larger
 //! pool; both pools are timed in every round, and the median round counts.
 
+use crate::again::{per_call, walk_again, Again};
+use crate::commit::{before_commit, STEP};
 use crate::measure::{median, ROUNDS};
-use crate::side::{Compiled, Fast, Side};
+use crate::side::{Compiled, Fast};
 use crate::tables::{settings, CELLS, KINDS};
-use crate::workload::{before_commit, held, Commit};
+use crate::walks::{sum_of_stamps, sum_of_words};
+use crate::workload::held;
 use second::layout::CELL_WORDS;
 use second::Settings;
 use sides::Call;
-use std::hint::black_box;
 use std::ops::Range;
-use std::time::Instant;
 
 /// Calls timed per round.
 const CALLS: u32 = 2_000;
 
-/// A call that leaves the words as they were, once those that it changes are
-/// put back, and the words that it has to read.
+/// A call, and the words that it has to read.
 struct Case {
     words: Vec<u32>,
-    call: Call,
-    changed: Vec<(usize, u32)>,
+    again: Again,
     reads: Reads,
 }
 
@@ -72,71 +71,43 @@ fn print_row(kind: &str, what: &str, each: &str, sizes: [u32; 2], case: impl Fn(
 
 /// A step of a worker that is not there: the whole check, then refusal 24.
 fn check(settings: &Settings) -> Case {
+    let words = held(settings, 256);
+    let worker = settings.workers;
+    let again = Again::of(&words, Call::Step { worker });
+    let reads = Reads::All(0..settings.cells_at());
     Case {
-        words: held(settings, 256),
-        call: Call::Step {
-            worker: settings.workers,
-        },
-        changed: Vec::new(),
-        reads: Reads::All(0..settings.cells_at()),
+        words,
+        again,
+        reads,
     }
 }
 
 /// The last step of a take.
 fn distance(settings: &Settings, items: u32) -> Case {
-    let Commit {
-        words,
-        call,
-        changed,
-    } = before_commit(settings, items);
+    let words = before_commit(held(settings, items));
+    let again = Again::of(&words, STEP);
     let cells = settings.cells_at();
+    let reads = Reads::Stamps(cells..cells + CELL_WORDS * items as usize);
     Case {
         words,
-        call,
-        changed,
-        reads: Reads::Stamps(cells..cells + CELL_WORDS * items as usize),
+        again,
+        reads,
     }
 }
 
 /// Nanoseconds per call: compiled, fast, and reading.
 fn times(case: &mut Case) -> [f64; 3] {
+    let Case {
+        words,
+        again,
+        reads,
+    } = case;
     [
-        per_call(|| make_calls(&mut Compiled::default(), case)),
-        per_call(|| make_calls(&mut Fast, case)),
-        per_call(|| match &case.reads {
-            Reads::All(range) => add_up(&case.words[range.clone()], sum_of_words),
-            Reads::Stamps(range) => add_up(&case.words[range.clone()], sum_of_stamps),
+        per_call(CALLS, |n| again.make(&mut Compiled::default(), words, n)),
+        per_call(CALLS, |n| again.make(&mut Fast, words, n)),
+        per_call(CALLS, |n| match reads {
+            Reads::All(range) => walk_again(&words[range.clone()], sum_of_words, n),
+            Reads::Stamps(range) => walk_again(&words[range.clone()], sum_of_stamps, n),
         }),
     ]
-}
-
-fn per_call(calls: impl FnOnce()) -> f64 {
-    let start = Instant::now();
-    calls();
-    start.elapsed().as_nanos() as f64 / f64::from(CALLS)
-}
-
-fn make_calls(side: &mut impl Side, case: &mut Case) {
-    let words = &mut case.words;
-    for _ in 0..CALLS {
-        side.call(black_box(&mut *words), case.call);
-        for (at, word) in &case.changed {
-            words[*at] = *word;
-        }
-    }
-}
-
-fn add_up(words: &[u32], sum: impl Fn(&[u32]) -> u32) {
-    for _ in 0..CALLS {
-        black_box(sum(black_box(words)));
-    }
-}
-
-fn sum_of_words(words: &[u32]) -> u32 {
-    words.iter().fold(0, |sum, word| sum.wrapping_add(*word))
-}
-
-fn sum_of_stamps(cells: &[u32]) -> u32 {
-    let cells = cells.chunks_exact(CELL_WORDS);
-    cells.fold(0, |sum, cell| sum.wrapping_add(cell[1]))
 }

@@ -1,7 +1,7 @@
 //! The calls to be timed: recorded once on the second implementation, so that
 //! every side makes exactly the same calls on exactly the same words.
 
-use second::{Settings, FULL, MOVING, TAKEN};
+use second::{Settings, FULL, MOVING};
 use sides::{Call, SECOND};
 
 #[derive(Clone, Copy)]
@@ -86,32 +86,4 @@ pub fn held(settings: &Settings, items: u32) -> Vec<u32> {
     SECOND.call(&mut words, Call::Make(*settings));
     record(&mut words, settings, Operation::Put, items);
     words
-}
-
-/// A pool in which the next step of a worker takes an item.
-pub struct Commit {
-    pub words: Vec<u32>,
-    pub call: Call,
-    /// The words that the step changes, as they are before it.
-    pub changed: Vec<(usize, u32)>,
-}
-
-pub fn before_commit(settings: &Settings, items: u32) -> Commit {
-    let mut words = held(settings, items);
-    let (worker, call) = (0, Call::Step { worker: 0 });
-    SECOND.call(&mut words, Call::BeginTake { worker });
-    loop {
-        let mut after = words.clone();
-        if SECOND.call(&mut after, call).number == TAKEN {
-            let pairs = words.iter().zip(&after).enumerate();
-            let changed = pairs.filter(|(_, (old, new))| old != new);
-            let changed = changed.map(|(at, (old, _))| (at, *old)).collect();
-            return Commit {
-                words,
-                call,
-                changed,
-            };
-        }
-        words = after;
-    }
 }
