@@ -1,11 +1,14 @@
 //! The compiled library's time per call beside that of `fast`, the second
-//! implementation made fast, as Markdown for a page in docs. With `reading`, the
-//! last table alone.
+//! implementation made fast, as Markdown for a page in docs. With `distance`, what
+//! a distance costs alone; with `reading`, the last table.
 
 mod again;
 mod busy;
 mod commit;
 mod dispatching;
+mod distance;
+mod gather;
+mod image;
 mod machine;
 mod measure;
 mod reading;
@@ -18,8 +21,9 @@ fn main() {
     let words: Vec<String> = std::env::args().skip(1).collect();
     match words.iter().map(String::as_str).collect::<Vec<_>>()[..] {
         [] => all(),
+        ["distance"] => distances(),
         ["reading"] => reading::table(),
-        _ => eprintln!("bench [reading]"),
+        _ => eprintln!("bench [distance|reading]"),
     }
 }
 
@@ -43,5 +47,11 @@ fn all() {
     tables::all_sizes();
     tables::growth();
     dispatching::table();
+    distances();
     reading::table();
+}
+
+fn distances() {
+    distance::table();
+    gather::table();
 }
