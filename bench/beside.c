@@ -111,7 +111,7 @@ int main(void) {
                 }
             }
             if (memcmp(words[0], words[1], 4 * len) != 0) {
-                printf("the words differ\n");
+                fprintf(stderr, "the words differ\n");
                 return 1;
             }
             printf("| %s | %u | %u | %u |", kind == POOL_QUEUE ? "queue" : "stack", width, workers, held);
