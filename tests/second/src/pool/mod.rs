@@ -3,6 +3,7 @@
 pub(crate) mod fit;
 pub mod layout;
 pub mod phase;
+pub mod segments;
 pub mod settings;
 mod view;
 mod worker;
