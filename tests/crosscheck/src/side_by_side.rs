@@ -54,6 +54,8 @@ pub struct SideBySide {
     second: Copy,
     others: Vec<(&'static Implementation, Copy)>,
     before: Vec<u32>,
+    /// Nothing but calls since a make that was not refused.
+    from_make: bool,
 }
 
 impl SideBySide {
@@ -63,6 +65,7 @@ impl SideBySide {
             second: Copy::of(words),
             others: others.map(|other| (other, Copy::of(words))).collect(),
             before: words.to_vec(),
+            from_make: false,
         }
     }
 
@@ -78,8 +81,10 @@ impl SideBySide {
             return Err(broken(SECOND.name, call, answer));
         }
         self.compare(call, answer, |other, words| other.call(words, call))?;
+        self.from_make |= matches!(call, Call::Make(_)) && !answer.is_refusal();
+        let (before, after) = (&self.before, self.second.lent());
         let coverage = &mut checks.coverage;
-        coverage.record(call, answer, &self.before, self.second.lent());
+        coverage.record(call, answer, before, after, self.from_make);
         Ok(answer)
     }
 

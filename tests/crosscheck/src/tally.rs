@@ -2,7 +2,7 @@
 
 use crate::cases::files::Lister;
 use crate::cases::runs::Runs;
-use crate::cases::{dispatch, images, makes, scripts, solo, stretch, strides};
+use crate::cases::{dispatch, images, makes, scripts, segments, solo, stretch, strides};
 use crate::coverage::Coverage;
 use crate::failure::Failure;
 use crate::options::Options;
@@ -21,13 +21,14 @@ const MAKES: u64 = 40;
 const SCRIPTS: u64 = 6;
 /// Which cases are of which sort goes by their number modulo this: most are
 /// runs, which say the most, and a case of run files takes as long as twenty.
-const SORTS: u64 = 19;
+const SORTS: u64 = 20;
 const RUN_FILES: u64 = 4;
 const OF_SCRIPTS: u64 = 5;
 const SOLO: u64 = 6;
 const DISPATCH: u64 = 7;
 const STRETCH: u64 = 8;
 const STRIDES: u64 = 9;
+const SEGMENTS: u64 = 10;
 
 pub struct Tally {
     checks: Checks,
@@ -116,6 +117,7 @@ impl Tally {
             DISPATCH => dispatch::run(rng, &mut self.checks)?,
             STRETCH => stretch::run(rng, width_in_turn(case), &mut self.checks)?,
             STRIDES => strides::run(rng, width_in_turn(case), &mut self.checks)?,
+            SEGMENTS => segments::run(rng, width_in_turn(case), &mut self.checks)?,
             _ => self.runs.run(rng, &mut self.checks)?,
         }
         Ok(())

@@ -8,6 +8,7 @@ pub mod makes;
 mod play;
 pub mod runs;
 pub mod scripts;
+pub mod segments;
 pub mod solo;
 pub mod stretch;
 pub mod strides;

@@ -69,9 +69,7 @@ fn moved(seen: &Seen) -> bool {
 
 /// The two words of the sub at the worker's index.
 fn sub<'a>(seen: &Seen<'a>) -> &'a [u32] {
-    let j = seen.worker[layout::INDEX] as usize;
-    let at = seen.settings.subs_at() + layout::SUB_WORDS * j;
-    &seen.before[at..at + layout::SUB_WORDS]
+    seen.sub(seen.worker[layout::INDEX])
 }
 
 fn bare(seen: &Seen) -> bool {

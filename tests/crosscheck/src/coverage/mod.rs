@@ -4,8 +4,9 @@
 //! settings that a script can have, each phase in which others may have stopped
 //! beside a solo operation, and the most steps of one; each corner of a
 //! dispatch, and the most steps of a stretch; a lost commit with each stride of
-//! each width, and the refusals for the stride alone; and an empty of each kind
-//! that cannot stand at its last step.
+//! each width, and the refusals for the stride alone; each corner of the segments
+//! that a distance goes through; and an empty of each kind that cannot stand at
+//! its last step.
 
 mod corners;
 mod counts;
@@ -14,6 +15,7 @@ mod numbers;
 mod phases;
 mod places;
 mod scripts;
+mod segments;
 mod solo;
 mod stretch;
 mod strides;
@@ -26,6 +28,7 @@ use phases::Phases;
 use places::Places;
 use scripts::SCRIPTS;
 use second::{layout, Answer, Dispatched, Settings, UNFIT};
+use segments::Segments;
 use sides::{Call, Dispatch, SECOND};
 use solo::Solo;
 use stretch::Stretch;
@@ -40,6 +43,16 @@ struct Seen<'a> {
     after: &'a [u32],
     phase_after: u32,
     answer: Answer,
+    /// Nothing but calls since a make that was not refused.
+    from_make: bool,
+}
+
+impl<'a> Seen<'a> {
+    /// The two words of sub j before.
+    fn sub(&self, j: u32) -> &'a [u32] {
+        let at = self.settings.subs_at() + layout::SUB_WORDS * j as usize;
+        &self.before[at..at + layout::SUB_WORDS]
+    }
 }
 
 #[derive(Default)]
@@ -54,11 +67,19 @@ pub struct Coverage {
     dispatch: Counts<{ DISPATCHES.len() }>,
     pub stretch: Stretch,
     pub strides: Strides,
+    segments: Segments,
     pub places: Places,
 }
 
 impl Coverage {
-    pub fn record(&mut self, call: Call, answer: Answer, before: &[u32], after: &[u32]) {
+    pub fn record(
+        &mut self,
+        call: Call,
+        answer: Answer,
+        before: &[u32],
+        after: &[u32],
+        from_make: bool,
+    ) {
         self.calls += 1;
         let (name, worker) = match call {
             Call::Make(settings) => {
@@ -89,9 +110,11 @@ impl Coverage {
             after,
             phase_after: after[at + layout::PHASE],
             answer,
+            from_make,
         };
         self.phases.record(&seen);
         self.strides.record(&seen);
+        self.segments.record(&seen);
         self.corners.add(CORNERS.map(|(_, reached)| reached(&seen)));
     }
 
@@ -129,6 +152,7 @@ impl Coverage {
         missing.extend(self.dispatch.report(DISPATCHES));
         missing.extend(self.stretch.report());
         missing.extend(self.strides.report());
+        missing.extend(self.segments.report());
         missing.extend(self.places.report());
         missing
     }

@@ -3,6 +3,7 @@
 mod acts;
 mod ambush;
 pub mod dispatches;
+pub mod held_cells;
 pub mod image;
 pub mod junk;
 pub mod longest_stretch;

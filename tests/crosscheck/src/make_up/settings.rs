@@ -92,7 +92,8 @@ pub fn of_kind(rng: &mut Rng, kind: u32, size: Size) -> Settings {
     of_width(rng, kind, width, size)
 }
 
-fn of_width(rng: &mut Rng, kind: u32, width: u32, size: Size) -> Settings {
+/// Settings of this kind and width within limits.
+pub fn of_width(rng: &mut Rng, kind: u32, width: u32, size: Size) -> Settings {
     let (depths, depths_in_rows, workers) = match size {
         Size::Small => (3, 4, 4),
         Size::Medium => (8, 8, 32),

@@ -1,0 +1,92 @@
+//! Images for the distance of a take: its subs' held cells begin and end where a
+//! segment (K2) does, and the stamps of all cells, held or not, are on either
+//! side of the taken one.
+
+use super::image;
+use crate::rng::Rng;
+use second::phase::{Side, Stage};
+use second::{layout, Settings, QUEUE};
+
+/// The cell of a sub's first held row, and how many it holds, by R.
+type Ring = fn(&mut Rng, u32) -> (u32, u32);
+
+const EMPTY: Ring = |rng, rows| (rng.below(rows), 0);
+const ANY: Ring = |rng, rows| (rng.below(rows), rng.between(1, rows));
+const FROM_FIRST: Ring = |rng, rows| (0, rng.between(1, rows));
+const UP_TO_LAST: Ring = |rng, rows| {
+    let start = rng.below(rows);
+    (start, rows - start)
+};
+const ONE_BEFORE_FIRST: Ring = |rng, rows| (rows - 1, rng.between(2, rows));
+const ONE_AFTER_LAST: Ring = |rng, rows| {
+    let start = rng.between(1, rows - 1);
+    (start, rows - start + 1)
+};
+const FULL: Ring = |_, rows| (0, rows);
+const FULL_IN_TWO: Ring = |rng, rows| (rng.between(1, rows - 1), rows);
+
+/// A sub of which an item is taken.
+const WITH_ITEMS: [Ring; 7] = [
+    ANY,
+    FROM_FIRST,
+    UP_TO_LAST,
+    ONE_BEFORE_FIRST,
+    ONE_AFTER_LAST,
+    FULL,
+    FULL_IN_TWO,
+];
+
+/// A fit image, and its worker whose next step takes an item.
+pub fn image(rng: &mut Rng, settings: &Settings) -> (Vec<u32>, u32) {
+    let mut words = image::of(rng, settings);
+    words[layout::STEPS_COUNTED] = rng.below(100);
+    let index = rng.below(settings.width);
+    for j in 0..settings.width {
+        let with_items = rng.pick(&WITH_ITEMS);
+        let ring = if j != index && rng.chance(20) {
+            EMPTY
+        } else {
+            with_items
+        };
+        let at = settings.subs_at() + layout::SUB_WORDS * j as usize;
+        sub(rng, settings, &mut words[at..], ring);
+    }
+    let worker = rng.below(settings.workers);
+    before_the_take(settings, &mut words, worker, index);
+    stamps(rng, settings, &mut words);
+    (words, worker)
+}
+
+/// Of a stack, whose held cells are from the first on, only their number.
+fn sub(rng: &mut Rng, settings: &Settings, sub: &mut [u32], ring: Ring) {
+    let rows = settings.rows;
+    let (start, held) = ring(rng, rows);
+    if settings.kind == QUEUE {
+        let most_laps = (u32::MAX - held - start) / rows;
+        let some = rng.below(most_laps);
+        let taken = rng.pick(&[0, 1, some, most_laps]) * rows + start;
+        sub[layout::ITEMS_PUT] = taken + held;
+        sub[layout::ITEMS_TAKEN] = taken;
+    } else {
+        sub[layout::ITEMS_HELD] = held;
+    }
+}
+
+/// The worker stands before a commit that succeeds.
+fn before_the_take(settings: &Settings, words: &mut [u32], worker: u32, index: u32) {
+    // Items taken of a queue, the version of a stack: a sub's second word.
+    let seen = words[settings.subs_at() + layout::SUB_WORDS * index as usize + 1];
+    let at = settings.workers_at() + layout::WORKER_WORDS * worker as usize;
+    words[at + layout::PHASE] = Side::Take.phase(Stage::Commit);
+    words[at + layout::INDEX] = index;
+    words[at + layout::SEEN] = seen;
+}
+
+/// All of them near one, that of the taken cell among them.
+fn stamps(rng: &mut Rng, settings: &Settings, words: &mut [u32]) {
+    let any = rng.between(2, u32::MAX - 2);
+    let middle = rng.pick(&[2, u32::MAX - 2, any]);
+    for cell in words[settings.cells_at()..settings.needed_words()].chunks_mut(layout::CELL_WORDS) {
+        cell[layout::CELL_STAMP] = rng.between(middle - 2, middle + 2);
+    }
+}
