@@ -54,7 +54,7 @@ const fn lister_fault(
     }
 }
 
-pub const FAULTS: [Fault; 30] = [
+pub const FAULTS: [Fault; 34] = [
     trap(
         "empty after one pass, without confirm",
         "stages/read.rs",
@@ -144,6 +144,30 @@ pub const FAULTS: [Fault; 30] = [
         "stages/distance.rs",
         "(0..pool.settings.width)",
         "(0..pool.settings.width.max(2) - 1)",
+    ),
+    fault(
+        "a distance that does not go on from the first cell",
+        "stages/distance.rs",
+        "(1..=pool.items(j))",
+        "(1..=pool.items(j).min(pool.settings.rows - below % pool.settings.rows))",
+    ),
+    fault(
+        "a distance that goes on from cell 1",
+        "stages/distance.rs",
+        "map(move |k| below + k)",
+        "map(move |k| below + k).filter({\n        let rows = pool.settings.rows;\n        move |row| row - below == 1 || (row - 1) % rows != 0\n    })",
+    ),
+    trap(
+        "a distance that leaves out the last cell",
+        "stages/distance.rs",
+        "map(move |k| below + k)",
+        "map(move |k| below + k).filter({\n        let rows = pool.settings.rows;\n        move |row| row % rows != 0\n    })",
+    ),
+    trap(
+        "a full sub whose lowest row counts twice",
+        "stages/distance.rs",
+        "(1..=pool.items(j))",
+        "(1..=pool.items(j) + pool.items(j) / pool.settings.rows)",
     ),
     fault(
         "a failed commit keeps its index",
