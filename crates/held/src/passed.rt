@@ -52,7 +52,8 @@ fn segment_passed(words: &[u32], g: Settings, j: u32, x: Segment, kind: u32, s: 
     cells_passed(&words[at..], x.count as usize, kind, s)
 }
 
-// The same of both segments. Most subs have one alone: asked for first, the second costs those nothing.
+// The same of both segments. Whether the second has cells is asked once, before the first is gone through: a sub with one alone
+// costs less so.
 fn segments_passed(words: &[u32], g: Settings, j: u32, x: Segments, kind: u32, s: Stamp) -> u32
     requires { ⌜ Bounds g ⌝ }
     requires { ⌜ (needed g ≤ length (now words)) × (j < g .width) ⌝ }

@@ -1,7 +1,7 @@
 -- A sub's cells are a ring for its rows. The cells of rows above one another are in at most two straight segments: within R rows
 -- the remainder grows with the row up to the last cell, and then goes on from the first. So the list of the segments' cells is that
 -- of the rows' remainders, and what lies in them is what the rows hold.
-use Prim.Native.Nat.{ℕ, zero, suc, _+_, _*_, _-_, _%_, _^_, _≤_, _<_}
+use Prim.Native.Nat.{ℕ, zero, suc, _+_, _-_, _%_, _^_, _≤_, _<_}
 use mathlib.Core.Path.{_≡_, refl, sym, ap, _∙_}
 use mathlib.Core.Logic.{⊎-elim}
 use mathlib.Core.List.{List, [], _++_, map, map-append, append-assoc, append-nil}
@@ -13,7 +13,7 @@ use lib.Dec.{leb, eqb}
 use borrow.Author.Tests.{eqb-true, leb-true, leb-false}
 use Rattle.laws.specs.Choice.{cases}
 use Rattle.laws.specs.Wrap.{sub32}
-use Rattle.rules.specs.Layout.{cellWords, cellAt, subCellsAt}
+use Rattle.rules.specs.Layout.{cellAt, subCellsAt, nthCellAt}
 use Rattle.rules.specs.Held.{itemsAbove}
 use Rattle.rules.specs.Segments.{segment, noCells, only, wrapped, segmentsFrom, segmentsAbove, Within, upFrom, cellsOf, cellItems}
 use Rattle.rules.specs.declared.Settings.{Settings}
@@ -133,7 +133,7 @@ unfolding itemsAbove upFrom
 above-cells ws g j t zero few = refl
 above-cells ws g j t (suc k) few =
     let row : sub32 (t + k + 1) 1 ≡ t + k = omega arith in
-    let cell : subCellsAt g j + cellWords * ((t + k) % g .rows) ≡ cellAt g j (t + k + 1) = rw row (omega arith) in
+    let cell : nthCellAt (subCellsAt g j) ((t + k) % g .rows) ≡ cellAt g j (t + k + 1) = rw row (omega arith) in
     ap (cellItems ws (subCellsAt g j)) (map-append _ (upFrom t k) _)
     ∙ map-append _ (remainders (g .rows) t k) _
     ∙ rw (above-cells ws g j t k (omega arith), cell) refl

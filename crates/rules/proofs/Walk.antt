@@ -8,7 +8,7 @@ use native.Mathlib.Omega.{arith}
 use lib.ListN.{getD, take, drop}
 use lib.Seq.{getD-drop, getD-take}
 use Rattle.laws.specs.Choice.{cond}
-use Rattle.rules.specs.Layout.{cellWords, stampAt}
+use Rattle.rules.specs.Layout.{cellWords, nthCellAt, stampAt}
 use Rattle.rules.specs.Held.{Item, countItems, passedOver}
 use Rattle.rules.specs.Segments.{upFrom, cellItems, walkedSub, walkedBelow}
 use Rattle.rules.specs.declared.Settings.{Settings}
@@ -29,27 +29,27 @@ pub cells-passed : (kind s : ℕ) (ws : List ℕ) (k x : ℕ) → x ≡ getD ws 
     ≡ countItems (passedOver kind s) (cellItems ws 0 (upFrom 0 k)) + cond (passedOver kind s (record { value = 0; stamp = x })) 1 0
 unfolding upFrom countItems
 cells-passed kind s ws k x e =
-    let place : stampAt (0 + cellWords * (0 + k)) ≡ stampAt (cellWords * k) = omega arith in
+    let place : stampAt (nthCellAt 0 (0 + k)) ≡ stampAt (cellWords * k) = omega arith in
     rw (add-one k) (cells-two (passedOver kind s) ws 0 (upFrom 0 k) _ ∙ rw (place, e) (omega arith))
 
 -- the first cells of a part of the words are those from its start on
 pub cells-part : (ws : List ℕ) (n at start k : ℕ) → cellWords * k ≤ n
-    → cellItems (take n (drop (at + cellWords * start) ws)) 0 (upFrom 0 k) ≡ cellItems ws at (upFrom start k)
+    → cellItems (take n (drop (nthCellAt at start) ws)) 0 (upFrom 0 k) ≡ cellItems ws at (upFrom start k)
 unfolding upFrom
 cells-part ws n at start zero h = refl
 cells-part ws n at start (suc k) h =
     map-append _ (upFrom 0 k) _
     ∙ rw (
       cells-part ws n at start k (omega arith),
-      word (0 + cellWords * (0 + k)) (at + cellWords * (start + k)) (omega arith) (omega arith),
-      word (stampAt (0 + cellWords * (0 + k))) (stampAt (at + cellWords * (start + k))) (omega arith) (omega arith),
+      word (nthCellAt 0 (0 + k)) (nthCellAt at (start + k)) (omega arith) (omega arith),
+      word (stampAt (nthCellAt 0 (0 + k))) (stampAt (nthCellAt at (start + k))) (omega arith) (omega arith),
     )
     (sym (map-append _ (upFrom start k) _))
   where
-    word : (i m : ℕ) → i < n → at + cellWords * start + i ≡ m → getD (take n (drop (at + cellWords * start) ws)) i 0 ≡ getD ws m 0
+    word : (i m : ℕ) → i < n → nthCellAt at start + i ≡ m → getD (take n (drop (nthCellAt at start) ws)) i 0 ≡ getD ws m 0
     word i m l e =
-        getD-take n (drop (at + cellWords * start) ws) i 0 l
-        ∙ getD-drop (at + cellWords * start) ws i 0
+        getD-take n (drop (nthCellAt at start) ws) i 0 l
+        ∙ getD-drop (nthCellAt at start) ws i 0
         ∙ ap (λ (x : ℕ). getD ws x 0) e
 
 -- ---- subs

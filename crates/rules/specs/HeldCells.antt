@@ -27,6 +27,7 @@ pub record HeldRow (ws : List ℕ) (g : Settings) (j row : ℕ) : Type 0 where
   pub above : rowsBelow g (secondOf ws j) < row
   pub up-to : row ≤ firstOf ws j
 
+-- x are the straight runs of the held cells of sub j
 pub record HeldCells (ws : List ℕ) (g : Settings) (j : ℕ) (x : Segments) : Type 0 where
   -- "in at most two straight runs, up to the last cell and on from the first"
   pub within : Within (g .rows) x
