@@ -1,8 +1,8 @@
-// What a pool holds: how many items, in which cells, and how many of them a take passes over.
-mod passed;
+// What a pool holds: how many items, in which cells, and how many of them a take's distance counts.
+mod reported;
 mod rows;
 mod segments;
 mod total;
 
-pub use passed::distance;
+pub use reported::distance;
 pub use total::items;

@@ -1,6 +1,5 @@
 // All that touches a cell: a value, and the stamp behind it.
 use crate::pair::put_pair;
-use crate::places::CELL_WORDS;
 use crate::places::PUTS;
 use crate::places::cell_at;
 use crate::sub::put_sub;
@@ -9,11 +8,11 @@ use rules::Row;
 use rules::Settings;
 use rules::Stamp;
 ghost use mathlib.Core.Path.{_≡_};
-ghost use Prim.Native.Nat.{_*_, _<_, _≤_};
-ghost use lib.ListN.{length, getD};
+ghost use Prim.Native.Nat.{_<_, _≤_};
+ghost use lib.ListN.{length};
 ghost use Rattle.rules.specs.Apply.{putItem, putLanded, stampInCell};
-ghost use Rattle.rules.specs.Held.{itemAt};
-ghost use Rattle.rules.specs.Layout.{cellWords, stampAt, needed};
+ghost use Rattle.rules.specs.Held.{cellItem, itemAt};
+ghost use Rattle.rules.specs.Layout.{stampAt, needed};
 ghost use Rattle.rules.specs.Limits.{Bounds};
 
 // The stamp's place in a cell.
@@ -24,25 +23,24 @@ pub struct Item {
     pub stamp: Stamp,
 }
 
-// The item in the cell of a row of sub `j`.
-pub fn item_of(words: &[u32], g: Settings, j: u32, row: Row) -> Item
-    requires { ⌜ Bounds g ⌝ }
-    requires { ⌜ (needed g ≤ length (now words)) × (j < g .width) ⌝ }
-    ensures { λ r. ⌜ (r .value ≡ itemAt (now (words .entry)) g j (row .0) .value) × (r .stamp ≡ stampInCell (now (words .entry)) g j row) ⌝ }
+// The item in the cell at a place, its value and its stamp.
+pub fn cell_item(words: &[u32], cell: usize) -> Item
+    requires { ⌜ stampAt cell < length (now words) ⌝ }
+    ensures { λ r. ⌜ (r .value ≡ cellItem (now (words .entry)) cell .value) × (r .stamp ≡ record { 0 = cellItem (now (words .entry)) cell .stamp }) ⌝ }
 {
-    let cell = cell_at(g, j, row);
     Item {
         value: words[cell],
         stamp: Stamp(words[cell + STAMP]),
     }
 }
 
-// The stamp of cell `k` of a run of cells.
-pub fn stamp_of(cells: &[u32], k: usize) -> Stamp
-    requires { ⌜ stampAt (cellWords * k) < length (now cells) ⌝ }
-    ensures { λ r. ⌜ r .0 ≡ getD (now (cells .entry)) (stampAt (cellWords * k)) 0 ⌝ }
+// The item in the cell of a row of sub `j`.
+pub fn item_of(words: &[u32], g: Settings, j: u32, row: Row) -> Item
+    requires { ⌜ Bounds g ⌝ }
+    requires { ⌜ (needed g ≤ length (now words)) × (j < g .width) ⌝ }
+    ensures { λ r. ⌜ (r .value ≡ itemAt (now (words .entry)) g j (row .0) .value) × (r .stamp ≡ stampInCell (now (words .entry)) g j row) ⌝ }
 {
-    Stamp(cells[CELL_WORDS * k + STAMP])
+    cell_item(words, cell_at(g, j, row))
 }
 
 // Writes an item into the cell of its row.

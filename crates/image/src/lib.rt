@@ -7,10 +7,10 @@ mod slot;
 mod sub;
 
 pub use cells::Item;
+pub use cells::cell_item;
 pub use cells::item_of;
 pub use cells::put_item;
 pub use cells::put_landed;
-pub use cells::stamp_of;
 pub use head::out_of_steps;
 pub use head::put_head;
 pub use head::put_shifted;

@@ -29,7 +29,7 @@ pub data Line : Type 0 where
   closing : ℕ → ℕ → Line
 
 -- ---- calls
--- demand 3's bound on the distances of a pool of some settings; none is made of settings off limits
+-- demand 3's bound, which the distances are held to, in a pool of some settings; none is made of settings off limits
 unfoldable pub boundIn : Settings → ℕ
 boundIn g = cond (settingsFit g) (mostPassed g) 0
 

@@ -130,7 +130,7 @@ module _ (g : Settings) (limits : settingsFit g ≡ true) (kind : g .kind ≡ 1)
         let put : Added (s .first) (s .item) j it _ _ = added (s .first) (s .item) j it in
         record {
           got =
-              got-call g limits kind got (step i) _ _
+              got-call g limits kind got (step i) tt _ _
               (step-is g s i l time (StackCommit Putting seen) e tt
               ∙ ap (applyIn g s i) (put-rule g s i seen (eq-eqb _ _ (sym live)) (lt-ltb _ _ (put-room (got .live .inv) i seen e live)))
               ∙ apply-landed a seen e live);
@@ -156,7 +156,7 @@ module _ (g : Settings) (limits : settingsFit g ≡ true) (kind : g .kind ≡ 1)
         let some : 1 ≤ s .first j = take-row (got .live .inv) i seen e live in
         record {
           got =
-              got-call g limits kind got (step i) _ _
+              got-call g limits kind got (step i) tt _ _
               (step-is g s i l time (StackCommit Taking seen) e tt
               ∙ ap (applyIn g s i) (take-rule g s i seen (eq-eqb _ _ (sym live)) (lt-ltb _ _ some))
               ∙ apply-removed a seen e live);

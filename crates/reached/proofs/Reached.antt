@@ -4,23 +4,33 @@
 use mathlib.Core.Path.{_≡_, sym, ap, _∙_, subst}
 use mathlib.Core.Logic.{_⊎_, inl, inr}
 use mathlib.Core.Bool.{true}
+use mathlib.Core.List.{List, [], _∷_}
 use Prim.Native.Nat.{ℕ, suc, _+_, _-_, _*_, _/_, _≤_, _<_}
-use native.Mathlib.Nat.{le-refl, mul-le-mul-left, mul-le-mul-right, eq-or-lt-of-le}
+use native.Mathlib.Nat.{le-refl, le-antisymm, mul-le-mul-left, mul-le-mul-right, eq-or-lt-of-le}
 use native.Mathlib.Decide.{decLe}
 use native.Mathlib.Omega.{arith}
+use Rattle.rules.specs.Answers.{numberOf}
+use Rattle.rules.specs.Consequences.{wordsAfter}
 use Rattle.rules.specs.Limits.{settingsFit, Bounds}
 use Rattle.rules.specs.Newer.{highestWindow, exactRows, exactBound}
+use Rattle.rules.specs.Make.{makeOf}
+use Rattle.rules.specs.Run.{Call, step, callOf, stampIn, distanceIn}
+use Rattle.rules.specs.Spacers.{answerAfter}
+use Rattle.rules.specs.declared.Stamp.{Stamp}
 use Rattle.reached.specs.Reached.{Reached, FrameworkExceeded}
 use Rattle.reached.proofs.Types.{Settings, Putting, Taking, StackCommit}
 use Rattle.rules.proofs.Fitness.{settings-bounds}
-use Rattle.rules.proofs.machine.Machine.{State, subIn, phaseIn, madeIn}
+use Rattle.rules.proofs.machine.Machine.{State, subIn, phaseIn, nextIn, madeIn}
+use Rattle.rules.proofs.machine.Turns.{Kind}
 use Rattle.rules.proofs.machine.Good.{good}
 use Rattle.rules.proofs.words.Made.{accepted}
 use Rattle.rules.proofs.figures.Figures.{times, times-low, bound-stack, below-highest, highest-rows}
 use Rattle.rules.proofs.figures.Exactness.{framework-low}
 use Rattle.rules.proofs.stack.Turn.{stackKind}
-use Rattle.rules.proofs.Transfer.{made-related, events-same}
-use Rattle.reached.proofs.Run.{new, got-made}
+use Rattle.rules.proofs.Transfer.{Related, next-related, made-related}
+use Rattle.rules.proofs.Spacers.{never-above}
+use Rattle.rules.proofs.Corollaries.{takes-within-exact}
+use Rattle.reached.proofs.Run.{after, new, got-made}
 use Rattle.reached.proofs.Walks.{there, comes-to-commit}
 use Rattle.reached.proofs.Commits.{BroughtOne}
 use Rattle.reached.proofs.Sweeps.{operations}
@@ -135,15 +145,33 @@ module _ (g : Settings) (limits : settingsFit g ≡ true) (kind : g .kind ≡ 1)
       go (inl e) = alone (sym e)
       go (inr l) = several (g .width - 1) (omega arith) two (omega arith)
 
--- of the words
+-- ---- of the words
+-- they answer as the machine does, after the same calls
+answer-same : (g : Settings) (limits : settingsFit g ≡ true) (k : Kind g) {ws : List ℕ} {s : State} → Related g limits k ws s
+    → (cs : List Call) (c : Call) → callOf (wordsAfter ws cs) c .answer ≡ nextIn g (after g s cs) c .answer
+unfolding wordsAfter after
+answer-same g limits k r [] c = next-related g limits k r c .answer
+answer-same g limits k r (d ∷ cs) c = answer-same g limits k (next-related g limits k r d .related) cs c
+
+-- what is reported is passed over, and no more is
 pub reached : Reached
 reached ws g made kind two =
     let a = accepted ws g made in
     let k = stackKind g (good g (a .limits)) kind in
     let m = reached-machine g (a .limits) kind two in
-    (m .0, rw (events-same g (a .limits) k (made-related g (a .limits) k ws a) (m .0)) (m .1))
+    let same = answer-same g (a .limits) k (made-related g (a .limits) k ws a) (m .calls) (step (m .worker)) in
+    let taken = ap numberOf same ∙ m .taken in
+    let reports = ap distanceIn same ∙ m .reports in
+    let stamp : Stamp = record { 0 = stampIn (answerAfter (makeOf ws g .words) (m .calls) (m .worker)) } in
+    let t = takes-within-exact ws g (m .calls) made (m .worker) taken in
+    record {
+      calls = m .calls;
+      worker = m .worker;
+      taken = taken;
+      passes = le-antisymm (t .passes) (omega (arith, t .reports, reports, never-above g .held (wordsAfter (makeOf ws g .words) (m .calls)) stamp));
+      reports = reports;
+    }
 
 pub framework-exceeded : FrameworkExceeded
 framework-exceeded ws g made kind w two l room =
-    let m = reached ws g made kind two in
-    (m .0, exactBound g, m .1, framework-low g (accepted ws g made .limits) kind w .1 (l, room))
+    (exactBound g, reached ws g made kind two, framework-low g (accepted ws g made .limits) kind w .1 (l, room))

@@ -41,7 +41,7 @@ module _ (g : Settings) (limits : settingsFit g ≡ true) (kind : g .kind ≡ 1)
         to = turnedIn s i (add32 (s .top) (g .shift)) (add32 (s .mark) 1) x;
         later =
             later-same g limits kind
-            (got-call g limits kind got (step i) Moving (turnedIn s i (add32 (s .top) (g .shift)) (add32 (s .mark) 1) x)
+            (got-call g limits kind got (step i) tt Moving (turnedIn s i (add32 (s .top) (g .shift)) (add32 (s .mark) 1) x)
             (step-is g s i l time _ e tt
             ∙ ap (applyIn g s i)
             (shift-rule g s i (record { 0 = s .mark }) scan sum (eq-eqb (s .mark) (s .mark) refl) (le-leb (add32 (s .top) (g .shift)) (g .rows) (omega arith)))

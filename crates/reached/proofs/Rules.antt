@@ -4,6 +4,7 @@ use mathlib.Core.Path.{_≡_, refl, sym, ap, _∙_, subst}
 use mathlib.Core.Logic.{_≢_}
 use mathlib.Core.Bool.{true, false}
 use Prim.Native.Nat.{ℕ, _<_}
+use native.Mathlib.Omega.{arith}
 use lib.Dec.{ltb, leb, eqb}
 use Rattle.laws.specs.Choice.{cond}
 use Rattle.laws.specs.Wrap.{add32, sub32}
@@ -17,6 +18,7 @@ use Rattle.rules.specs.Commit.{stackCommit, commitBy, landedOf, removedOf, rowA
 use Rattle.rules.specs.Shift.{stackShift, shiftBy, shiftedOf}
 use Rattle.rules.specs.Step.{ruleBy, ruleOf}
 use Rattle.rules.specs.Run.{Call, beginPut, beginTake, step}
+use Rattle.rules.specs.Spacers.{NoSpacer}
 use Rattle.reached.proofs.Types.{Settings, Side, Putting, Taking, Phase, Idle, Window, QueuePutRead, QueueTakeRead, StackRead, Check, QueueCommit, StackCommit, QueueShift, StackShift, Confirm, Version}
 use Rattle.rules.specs.declared.Answer.the-variants.{Moving}
 use Rattle.rules.proofs.machine.Machine.{State, next, subIn, viewIn, phaseIn, applyIn, nextIn}
@@ -45,6 +47,10 @@ sumAfter s i sum = add32 sum (s .second (subIn s i))
 abbrev pub begins : ℕ → Side → Call
 begins i Putting = beginPut i 1
 begins i Taking = beginTake i
+
+pub begins-no-spacer : (i : ℕ) (side : Side) → NoSpacer (begins i side)
+begins-no-spacer i Putting = λ e. omega arith
+begins-no-spacer i Taking = tt
 
 abbrev pub valueBegun : Side → ℕ
 valueBegun Putting = 1

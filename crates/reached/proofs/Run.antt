@@ -1,22 +1,22 @@
 -- The run so far: a state of the abstract machine together with a list of calls that leads to it from make. It has the stack's
--- invariant, so every test of a rule can be told, and no sum wraps.
+-- invariant, so every test of a rule can be told, and no sum wraps. No call puts a spacer, so all that a take passes over is reported.
 use mathlib.Core.Path.{_≡_, refl, ap, _∙_, subst}
 use mathlib.Core.Bool.{true}
 use mathlib.Core.List.{List, [], _∷_, _++_}
 use Prim.Native.Nat.{ℕ, _<_}
 use native.Mathlib.Nat.{mod-eq-of-lt}
-use lib.ListN.{length}
 use Rattle.rules.specs.Limits.{settingsFit}
 use Rattle.rules.specs.Sequential.{Contents}
-use Rattle.rules.specs.Run.{Call, at}
+use Rattle.rules.specs.Run.{Call}
+use Rattle.rules.specs.Spacers.{NoSpacer}
 use Rattle.reached.proofs.Types.{Settings, Answer}
-use Rattle.rules.proofs.order.Law.{Next, events}
+use Rattle.rules.proofs.order.Law.{Next}
 use Rattle.rules.proofs.machine.Machine.{State, next, subIn, nextIn, madeIn}
 use Rattle.rules.proofs.machine.Good.{good}
 use Rattle.rules.proofs.machine.Turns.{Common}
 use Rattle.rules.proofs.stack.Inv.{Inv}
 use Rattle.rules.proofs.stack.Turn.{stackKind}
-use Rattle.rules.proofs.Transfer.{onward, made-whole}
+use Rattle.rules.proofs.Transfer.{NoSpacers, onward, made-whole, made-no-spacers}
 
 -- the state after a list of calls
 unfoldable pub after : Settings → State → List Call → State
@@ -27,13 +27,6 @@ after-more : (g : Settings) (s : State) (cs : List Call) (c : Call) → after g 
 unfolding after
 after-more g s [] c = refl
 after-more g s (x ∷ cs) c = after-more g (nextIn g s x .state) cs c
-
--- the event of one call more
-pub last-event : (g : Settings) (s : State) (cs : List Call) (c : Call)
-    → at (events (nextIn g) s (cs ++ (c ∷ []))) (length cs) ≡ record { call = c; answer = nextIn g (after g s cs) c .answer }
-unfolding events after
-last-event g s [] c = refl
-last-event g s (d ∷ cs) c = last-event g (nextIn g s d .state) cs c
 
 -- a new stack: its window is d, every sub is bare, and each worker rests at the sub of its number
 pub record New (g : Settings) : Type 0 where
@@ -52,6 +45,7 @@ module _ (g : Settings) (limits : settingsFit g ≡ true) (kind : g .kind ≡ 1)
     pub list : Contents
     pub common : Common g s
     pub inv : Inv g s list
+    pub no-spacers : NoSpacers g limits (stackKind g (good g limits) kind) s list
 
   pub record Got (s : State) : Type 0 where
     pub calls : List Call
@@ -62,20 +56,20 @@ module _ (g : Settings) (limits : settingsFit g ≡ true) (kind : g .kind ≡ 1)
   unfolding after stackKind
   got-made =
       let h = made-whole g limits (stackKind g (good g limits) kind) in
-      record { calls = []; ends = refl; live = record { list = _; common = h .common; inv = h .inv } }
+      record { calls = []; ends = refl; live = record { list = _; common = h .common; inv = h .inv; no-spacers = made-no-spacers g limits (stackKind g (good g limits) kind) } }
 
-  live-next : (s : State) (c : Call) → Live s → Live (nextIn g s c .state)
+  live-next : (s : State) (c : Call) → NoSpacer c → Live s → Live (nextIn g s c .state)
   unfolding stackKind
-  live-next s c l =
+  live-next s c plain l =
       let n = onward g limits (stackKind g (good g limits) kind) s (l .list) (record { common = l .common; inv = l .inv }) c in
-      record { list = n .list; common = n .whole .common; inv = n .whole .inv }
+      record { list = n .list; common = n .whole .common; inv = n .whole .inv; no-spacers = n .no-spacers plain (l .no-spacers) }
 
   -- one call more
-  pub got-call : {s : State} → Got s → (c : Call) (a : Answer) (t : State) → nextIn g s c ≡ next a t → Got t
-  got-call {s} got c a t e =
+  pub got-call : {s : State} → Got s → (c : Call) → NoSpacer c → (a : Answer) (t : State) → nextIn g s c ≡ next a t → Got t
+  got-call {s} got c plain a t e =
       let u : nextIn g s c .state ≡ t = ap (λ (o : Next State). o .state) e in
       record {
         calls = got .calls ++ (c ∷ []);
         ends = after-more g (madeIn g) (got .calls) c ∙ ap (λ (x : State). nextIn g x c .state) (got .ends) ∙ u;
-        live = subst Live u (live-next s c (got .live));
+        live = subst Live u (live-next s c plain (got .live));
       }

@@ -22,7 +22,7 @@ use Rattle.rules.proofs.machine.Machine.{State, subIn, viewIn, phaseIn, slotIn,
 use Rattle.rules.proofs.machine.Phases.{OfStack, worker, stack-phase, encode-index}
 use Rattle.rules.proofs.stack.Inv.{Hit, Missed, window-ge, window-le}
 use Rattle.reached.proofs.Run.{Got, got-call}
-use Rattle.reached.proofs.Rules.{Busy, step-is, begins, valueBegun, begin-is, window-rule, hit-rule, miss-rule, last-rule, sumAfter, check-rule}
+use Rattle.reached.proofs.Rules.{Busy, step-is, begins, begins-no-spacer, valueBegun, begin-is, window-rule, hit-rule, miss-rule, last-rule, sumAfter, check-rule}
 
 -- a read at the window as it is
 abbrev pub Reads : State → Side → ℕ → ℕ → Phase
@@ -150,12 +150,12 @@ module _ (g : Settings) (limits : settingsFit g ≡ true) (kind : g .kind ≡ 1)
         → ruleBy g (viewIn g s i) p₀ ≡ movedOf (viewIn g s i) index p kept → Walked 1 s i index p
     moved p₀ e busy index p kept of rule =
         in-slot s i (suc (s .steps)) (worker (s .slot i .value) index p) kept of (omega arith)
-        (got-call g limits kind got (step i) Moving _ (step-is g s i l time p₀ e busy ∙ ap (applyIn g s i) rule ∙ apply-moved g s i index p kept))
+        (got-call g limits kind got (step i) tt Moving _ (step-is g s i l time p₀ e busy ∙ ap (applyIn g s i) rule ∙ apply-moved g s i index p kept))
 
     pub begin : (side : Side) → s .slot i .number ≡ 0 → Walked 0 s i (subIn s i) (Window side)
     begin side z =
         in-slot s i (s .steps) (worker (valueBegun side) (subIn s i) (Window side)) zeroSlot tt (omega arith)
-        (got-call g limits kind got (begins i side) Moving _ (begin-is g s i side l time z))
+        (got-call g limits kind got (begins i side) (begins-no-spacer i side) Moving _ (begin-is g s i side l time z))
 
     pub window : (side : Side) → phaseIn g s i ≡ Window side → Walked 1 s i (subIn s i) (Reads s side 0 0)
     window side e = moved (Window side) e tt (subIn s i) _ zeroSlot tt (window-rule g s i kind side)

@@ -1,44 +1,49 @@
 -- The last take of the run. It is about to land; by the upper bound it passes over no more than the exact figure, so it is enough that it
 -- passes over as many: nothing has to be known of the last sub's other items. The take of x does, for every item of the other subs is newer.
+-- No spacer was put, so it reports them all.
 use mathlib.Core.Path.{_≡_, refl, sym, ap, _∙_, subst}
 use mathlib.Core.Bool.{Bool, true}
-use mathlib.Core.List.{List, [], _∷_, _++_}
+use mathlib.Core.List.{List}
 use Prim.Native.Nat.{ℕ, suc, _+_, _-_, _≤_, _<_}
 use native.Mathlib.Nat.{le-antisymm}
 use native.Mathlib.Omega.{arith}
-use lib.ListN.{length}
 use borrow.Author.Tests.{lt-ltb, eq-eqb}
 use Rattle.laws.specs.Choice.{cond-false}
 use Rattle.rules.specs.Answers.{numberOf}
 use Rattle.rules.specs.Held.{passedOver}
 use Rattle.rules.specs.Limits.{settingsFit, stepLimit}
 use Rattle.rules.specs.Newer.{exactRows, exactBound}
-use Rattle.reached.specs.Reached.{Passes}
-use Rattle.rules.specs.Run.{Call, step, Event, distanceIn}
+use Rattle.rules.specs.Sequential.{passedBy}
+use Rattle.rules.specs.Run.{Call, step, distanceIn}
 use Rattle.reached.proofs.Types.{Settings, Taking, StackCommit, Version}
 use Rattle.rules.proofs.Cells.{stack-below}
 use Rattle.rules.proofs.counts.Sums.{upTo, upTo-ext, upTo-true, upTo-none, sum-gap, sum-zero, sum-more}
-use Rattle.rules.proofs.order.Law.{Next, events}
+use Rattle.rules.proofs.order.Law.{Next}
 use Rattle.rules.proofs.machine.Machine.{State, subIn, phaseIn, countIn, takenIn, applyIn, nextIn, madeIn, distanceIn as distanceAt}
 use Rattle.rules.proofs.machine.Good.{good}
 use Rattle.rules.proofs.stack.Moves.{Stepping}
 use Rattle.rules.proofs.figures.Figures.{bound-stack}
 use Rattle.rules.proofs.stack.Commit.{take-row}
 use Rattle.rules.proofs.stack.CommitTake.{take-newer, apply-removed}
-use Rattle.reached.proofs.Run.{after, last-event, Got}
+use Rattle.rules.proofs.stack.Distance.{distance-is, passed-is}
+use Rattle.rules.proofs.Spacers.{without-spacers}
+use Rattle.reached.proofs.Run.{after, Got}
 use Rattle.reached.proofs.Rules.{step-is, take-rule}
 use Rattle.reached.proofs.Scene.{mover}
 use Rattle.reached.proofs.Ending.{Last}
 
--- a run of the machine in which a take passes over just as many items as the exact figure
-abbrev pub Found : Settings → Type 0
-Found g = (cs : List Call) × Passes (events (nextIn g) (madeIn g) cs) (exactBound g)
+-- calls that lead the machine from make to a take, which reports just as many items as the exact figure
+pub record Found (g : Settings) : Type 0 where
+  pub calls : List Call
+  pub worker : ℕ
+  pub taken : numberOf (nextIn g (after g (madeIn g) calls) (step worker) .answer) ≡ 2
+  pub reports : distanceIn (nextIn g (after g (madeIn g) calls) (step worker) .answer) ≡ exactBound g
 
 module _ (g : Settings) (limits : settingsFit g ≡ true) (kind : g .kind ≡ 1) where
   -- ---- a take that is about to land, and passes over at least so many
   module _ (s : State) (got : Got g limits kind s) (i : ℕ) (l : i < g .workers) (time : s .steps < stepLimit)
       (waits : phaseIn g s i ≡ StackCommit Taking (record { 0 = s .second (subIn s i) }))
-      (at-least : exactBound g ≤ distanceAt g s (s .item (subIn s i) (s .first (subIn s i)) .stamp)) where
+      (at-least : exactBound g ≤ passedBy g (got .live .list) (s .item (subIn s i) (s .first (subIn s i)) .stamp)) where
     abbrev seen : Version
     seen = record { 0 = s .second (subIn s i) }
 
@@ -59,22 +64,16 @@ module _ (g : Settings) (limits : settingsFit g ≡ true) (kind : g .kind ≡ 1)
         ∙ apply-removed stepping seen waits refl)
 
     exactly : distanceAt g s (s .item (subIn s i) (s .first (subIn s i)) .stamp) ≡ exactBound g
-    exactly = le-antisymm (take-newer (good g limits) kind (got .live .inv) i lj seen waits refl) at-least
+    exactly =
+        distance-is g kind (got .live .inv .pool) _
+        ∙ without-spacers (g .kind) (s .item (subIn s i) (s .first (subIn s i)) .stamp) (got .live .list .items) (got .live .no-spacers .listed)
+        ∙ le-antisymm (take-newer (good g limits) kind (got .live .inv) i lj seen waits refl) at-least
 
     pub takes : Found g
     takes =
-        let e = last-event g (madeIn g) (got .calls) (step i) in
         let a : nextIn g (after g (madeIn g) (got .calls)) (step i) .answer ≡ takenIn g s (subIn s i) (s .first (subIn s i)) =
-        ap (λ (t : State). nextIn g t (step i) .answer) (got .ends) ∙ answer in (
-          got .calls ++ (step i ∷ []),
-          record {
-            worker = i;
-            position = length (got .calls);
-            stepped = ap (λ (v : Event). v .call) e;
-            taken = ap (λ (v : Event). numberOf (v .answer)) e ∙ ap numberOf a;
-            passed = ap (λ (v : Event). distanceIn (v .answer)) e ∙ ap distanceIn a ∙ exactly;
-          },
-        )
+        ap (λ (t : State). nextIn g t (step i) .answer) (got .ends) ∙ answer in
+        record { calls = got .calls; worker = i; taken = ap numberOf a; reports = ap distanceIn a ∙ exactly }
 
   -- ---- the take of x
   module _ (last : ℕ) (last-is : suc last ≡ g .width) (two : 2 ≤ g .workers) (another : 1 ≤ last) where
@@ -96,12 +95,12 @@ module _ (g : Settings) (limits : settingsFit g ≡ true) (kind : g .kind ≡ 1)
             o .full m l,
           ))
 
-      at-least : exactBound g ≤ distanceAt g s x
-      unfolding distanceAt exactBound
+      at-least : exactBound g ≤ passedBy g (o .got .live .list) x
+      unfolding exactBound
       at-least =
           let f : ℕ → ℕ = countIn g s (passedOver (g .kind) x) in
           let w : g .width - 1 ≡ last = omega arith in
-          rw (bound-stack g _ kind, w, ← last-is) (omega (arith, sum-gap (λ m. 0) f last (exactRows g) newer-sub, sum-zero last, sum-more f last))
+          rw (bound-stack g _ kind, passed-is g kind (o .got .live .inv .pool) x, w, ← last-is) (omega (arith, sum-gap (λ m. 0) f last (exactRows g) newer-sub, sum-zero last, sum-more f last))
 
       pub found : Found g
       found =

@@ -1,31 +1,35 @@
--- No figure closer than the exact one (rules, specs/Newer) is a bound: there is a run of the words from make in which a take passes
--- over just so many newer items, whatever the settings of a stack with two workers.
+-- No figure closer than the exact one (rules, specs/Newer) is a bound: there is a list of calls from make after which a take passes over
+-- just so many newer items, whatever the settings of a stack with two workers. It reports them all, so no closer figure is a bound on
+-- what is reported either.
 use Prim.Native.Nat.{ℕ, _+_, _*_, _≤_, _<_}
 use mathlib.Core.Path.{_≡_}
 use mathlib.Core.List.{List}
 use Rattle.rules.specs.Answers.{numberOf}
+use Rattle.rules.specs.Consequences.{wordsAfter}
+use Rattle.rules.specs.Held.{passedOf}
 use Rattle.rules.specs.Make.{makeOf}
-use Rattle.rules.specs.Run.{Call, step, Event, run, at, distanceIn}
+use Rattle.rules.specs.Run.{Call, stampIn, distanceIn}
 use Rattle.rules.specs.Newer.{frameworkBound, exactBound}
+use Rattle.rules.specs.Spacers.{answerAfter}
 use Rattle.rules.specs.declared.Settings.{Settings}
 
--- a take in a run, and how many items it passes over
-pub record Passes (es : List Event) (distance : ℕ) : Type 0 where
+-- a list of calls, and then a step of a worker that takes an item past `most` others, and reports them all
+pub record Passes (g : Settings) (ws : List ℕ) (most : ℕ) : Type 0 where
+  pub calls : List Call
   pub worker : ℕ
-  pub position : ℕ
-  pub stepped : at es position .call ≡ step worker
-  pub taken : numberOf (at es position .answer) ≡ 2
-  pub passed : distanceIn (at es position .answer) ≡ distance
+  pub taken : numberOf (answerAfter ws calls worker) ≡ 2
+  pub passes : passedOf (wordsAfter ws calls) g (record { 0 = stampIn (answerAfter ws calls worker) }) ≡ most
+  pub reports : distanceIn (answerAfter ws calls worker) ≡ most
 
--- every stack that make accepts with two workers or more has a run in which a take passes over just so many
+-- every stack that make accepts with two workers or more has such a list, with the exact figure
 abbrev pub Reached : Type 0
 Reached =
     (ws : List ℕ) (g : Settings) → numberOf (makeOf ws g .answer) ≡ 0 → g .kind ≡ 1 → 2 ≤ g .workers
-    → (cs : List Call) × Passes (run (makeOf ws g .words) cs) (exactBound g)
+    → Passes g (makeOf ws g .words) (exactBound g)
 
 -- and so the framework paper's figure is exceeded where it is the lower one, by a take of some run
 abbrev pub FrameworkExceeded : Type 0
 FrameworkExceeded =
     (ws : List ℕ) (g : Settings) → numberOf (makeOf ws g .answer) ≡ 0 → g .kind ≡ 1 → 2 ≤ g .width → 2 ≤ g .workers → g .shift < g .depth
     → g .depth + 3 * g .shift ≤ g .rows
-    → (cs : List Call) × (distance : ℕ) × Passes (run (makeOf ws g .words) cs) distance × (frameworkBound g < distance)
+    → (most : ℕ) × Passes g (makeOf ws g .words) most × (frameworkBound g < most)

@@ -1,16 +1,22 @@
 -- What follows for every list of calls from a new pool: from demand 3's order, or from what shows it.
 use Prim.Native.Nat.{ℕ}
 use mathlib.Core.List.{List}
+use mathlib.Core.Path.{_∙_}
 use native.Mathlib.Omega.{arith}
 use Rattle.rules.specs.Make.{makeOf}
+use Rattle.rules.specs.Held.{passedOf, distanceOf}
 use Rattle.rules.specs.Sequential.{mostPassed}
 use Rattle.rules.specs.Newer.{exactBound}
-use Rattle.rules.specs.Run.{Call, run}
+use Rattle.rules.specs.Run.{Call, run, stampIn}
 use Rattle.rules.specs.Consequences.{wordsAfter, OfEveryRun, NothingLost, StampsOnce, hasStamp, WithinBound, InRealTime, NoSumWraps, NeverUnfit}
+use Rattle.rules.specs.Spacers.{answerAfter, TakesWithin, AllReported}
 use Rattle.rules.proofs.Types.{Settings}
 use Rattle.rules.proofs.counts.Held.{count-none}
-use Rattle.rules.proofs.Transfer.{made-related}
-use Rattle.rules.proofs.Runs.{accounted, stamped-once, safe-after, fine-at}
+use Rattle.rules.proofs.Fitness.{settings-bounds}
+use Rattle.rules.proofs.Spacers.{without-spacers}
+use Rattle.rules.proofs.figures.Figures.{exact-thesis, thesis-k14, k14-most}
+use Rattle.rules.proofs.Transfer.{made-related, made-no-spacers}
+use Rattle.rules.proofs.Runs.{accounted, takes-within-after, no-spacers-after, stamped-once, safe-after, fine-at}
 use Rattle.rules.proofs.order.Orders.{bounded, in-real-time}
 use Rattle.rules.proofs.Theorem.{kindOf, exact, demand3}
 use Rattle.rules.proofs.words.Made.{accepted}
@@ -35,6 +41,27 @@ within-bound ws g cs made = bounded (mostPassed g) g (run (makeOf ws g .words) c
 
 pub within-exact : OfEveryRun (WithinBound exactBound)
 within-exact ws g cs made = bounded (exactBound g) g (run (makeOf ws g .words) cs) (exact ws g cs made)
+
+-- what each take reports and passes over is counted in the pool just before it, the second within the same bounds
+pub takes-within-exact : OfEveryRun (TakesWithin exactBound)
+takes-within-exact ws g cs made =
+    let a = accepted ws g made in
+    takes-within-after g (a .limits) (kindOf g (a .limits)) (made-related g (a .limits) (kindOf g (a .limits)) ws a) cs
+
+pub takes-within : OfEveryRun (TakesWithin mostPassed)
+takes-within ws g cs made i two =
+    let t = takes-within-exact ws g cs made i two in
+    let depth = settings-bounds g (accepted ws g made .limits) .depth1 in
+    record { reports = t .reports; passes = omega (arith, t .passes, exact-thesis g, thesis-k14 g depth, k14-most g) }
+
+-- where no call begins a put of 0, all that is passed over is reported
+pub all-reported : OfEveryRun AllReported
+unfolding made-related distanceOf passedOf
+all-reported ws g cs made all i two =
+    let a = accepted ws g made in
+    let k = kindOf g (a .limits) in
+    takes-within-exact ws g cs made i two .reports
+    ∙ without-spacers (g .kind) (stampIn (answerAfter (makeOf ws g .words) cs i)) _ (no-spacers-after g (a .limits) k (made-related g (a .limits) k ws a) (made-no-spacers g (a .limits) k) cs all)
 
 -- an operation that finished before another began stands before it
 pub real-time : (ws : List ℕ) (g : Settings) (cs : List Call) (made : _) → InRealTime (mostPassed g) g (run (makeOf ws g .words) cs) (demand3 ws g cs made)

@@ -1,5 +1,5 @@
--- Along a run from make, by induction over its calls: the specification's list and the answers so far account for every item,
--- stamps are handed out in order, and every state is safe.
+-- Along a run from make, by induction over its calls: the specification's list and the answers so far account for every item, what a
+-- take reports and passes over is counted in the words before it, stamps are handed out in order, and every state is safe.
 use mathlib.Core.Path.{_≡_, refl, sym, ap, _∙_}
 use mathlib.Core.Logic.{_≢_, inl, inr}
 use mathlib.Core.Bool.{Bool, true, false}
@@ -11,10 +11,13 @@ use lib.Dec.{leb, eqb}
 use borrow.Author.Tests.{leb-true, leb-false, eqb-true}
 use Rattle.rules.specs.Answers.{numberOf, tooFewWords, notFit}
 use Rattle.rules.specs.Limits.{settingsFit}
-use Rattle.rules.specs.Held.{Item, heldItems, countItems}
+use Rattle.rules.specs.Held.{Item, heldItems, countItems, isSpacer, passedOver, reported, passedOf, distanceOf}
 use Rattle.rules.specs.Step.{ruleOf}
 use Rattle.rules.specs.Sequential.{Contents}
-use Rattle.rules.specs.Run.{Call, beginPut, beginTake, step, callOf, run, at}
+use Rattle.rules.specs.Run.{Call, beginPut, beginTake, step, callOf, run, at, stampIn}
+use Rattle.rules.specs.Statement.{All}
+use Rattle.rules.specs.Newer.{exactBound}
+use Rattle.rules.specs.Spacers.{TakenWithin, TakesWithin, NoSpacer}
 use Rattle.rules.specs.Consequences.{wordsAfter, itemIn, itemsIn, hasStamp, NoSumWraps}
 use Rattle.rules.proofs.Types.{Settings, Putting, Taking, Effect, Outcome}
 use Rattle.rules.specs.declared.Outcome.the-variants.{Refused, Moving, Shifted, Landed, Removed, Empty, Full}
@@ -28,7 +31,7 @@ use Rattle.rules.proofs.counts.Held.{count-none, held-count}
 use Rattle.rules.proofs.machine.Turns.{Common, Counts, Safe, Kind}
 use Rattle.rules.proofs.machine.Does.{SharedAfter, rule-in}
 use Rattle.rules.proofs.order.Given.{item-of, item-not}
-use Rattle.rules.proofs.Transfer.{Related, next-related, related-after}
+use Rattle.rules.proofs.Transfer.{NoSpacers, Related, next-related, related-after}
 use Rattle.rules.proofs.words.Says.{held-same}
 use Rattle.rules.proofs.words.Stores.{view-same}
 
@@ -69,6 +72,28 @@ module _ (g : Settings) (limits : settingsFit g ≡ true) (k : Kind g) where
         count-append p (itemIn 1 (callOf ws c .answer)) (itemsIn 1 (run (callOf ws c .words) cs)),
         count-append p (itemIn 2 (callOf ws c .answer)) (itemsIn 2 (run (callOf ws c .words) cs)),
       )
+
+  -- ---- both counts of a take are those of the pool just before
+  taken-within : {ws : List ℕ} {s : State} (r : Rel ws s) (i : ℕ) → numberOf (callOf ws (step i) .answer) ≡ 2
+      → TakenWithin (exactBound g) g ws (callOf ws (step i) .answer)
+  unfolding distanceOf passedOf
+  taken-within {ws} r i two =
+      let stamp = stampIn (callOf ws (step i) .answer) in
+      let t = next-related g limits k r (step i) .changed .taken two in
+      record {
+        reports = t .0 ∙ sym (held-listed r (reported (g .kind) stamp));
+        passes = rw (held-listed r (passedOver (g .kind) stamp)) (t .1);
+      }
+
+  pub takes-within-after : {ws : List ℕ} {s : State} → Rel ws s → (cs : List Call) → TakesWithin exactBound g ws cs
+  takes-within-after r cs i two = taken-within (related-after g limits k r cs .related) i two
+
+  -- where no call begins a put of a spacer, none is held
+  pub no-spacers-after : {ws : List ℕ} {s : State} (r : Rel ws s) → NoSpacers g limits k s (r .list) → (cs : List Call) → All NoSpacer cs
+      → countItems isSpacer (heldItems (wordsAfter ws cs) g) ≡ 0
+  unfolding wordsAfter
+  no-spacers-after r none [] all = held-listed r isSpacer ∙ none .listed
+  no-spacers-after r none (c ∷ cs) all = let n = next-related g limits k r c in no-spacers-after (n .related) (n .no-spacers (all .0) none) cs (all .1)
 
   -- ---- a put hands out a stamp above all before
   pub stamped-once : {ws : List ℕ} {s : State} (r : Rel ws s) (cs : List Call) (stamp : ℕ)

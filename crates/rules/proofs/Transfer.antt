@@ -7,15 +7,19 @@ use Prim.Native.Nat.{ℕ, _≤_}
 use native.Mathlib.Omega.{arith}
 use Rattle.rules.specs.Answers.{numberOf}
 use Rattle.rules.specs.Limits.{settingsFit}
+use Rattle.rules.specs.Held.{isSpacer}
 use Rattle.rules.specs.Make.{makeOf}
 use Rattle.rules.specs.Sequential.{Contents, noItems}
 use Rattle.rules.specs.Run.{Call, callOf, run}
 use Rattle.rules.specs.Consequences.{wordsAfter}
 use Rattle.rules.specs.Newer.{exactBound}
+use Rattle.rules.specs.Spacers.{NoSpacer}
 use Rattle.rules.proofs.order.Closest.{OneAtATime}
 use Rattle.rules.proofs.Types.{Settings, Answer}
-use Rattle.rules.proofs.order.Law.{Next, events, idle, refused, opened, walks, tries, stays, loses, ends, wins, Others}
+use Rattle.rules.proofs.counts.Held.{count-none}
+use Rattle.rules.proofs.order.Law.{Next, events, Status, idle, pending, tried, refused, opened, walks, tries, stays, loses, ends, wins, Others}
 use Rattle.rules.proofs.order.Order.{one-at-a-time}
+use Rattle.rules.proofs.order.NoSpacers.{NoSpacerUnderWay, NoSpacers as NoSpacersOf, goes-on, begun-no-spacer, no-spacer-joins}
 use Rattle.rules.proofs.Fitness.{settings-bounds}
 use Rattle.rules.proofs.machine.Machine.{State, nextIn, madeIn}
 use Rattle.rules.proofs.machine.Phases.{statusOf, idle-phase}
@@ -60,28 +64,55 @@ module _ (g : Settings) (limits : settingsFit g ≡ true) (k : Kind g) where
   whole-turn s q h c = with-common (common-next g (settings-bounds g limits) s (h .common) c) (turn g k s q (h .common) (h .inv) c)
 
   -- ---- the list after a call
-  pub record Onward (s : State) (q : Contents) (o : Next State) : Type 0 where
+  -- no spacer is on the list, and none is under way
+  abbrev pub NoSpacers : State → Contents → Type 0
+  NoSpacers s q = NoSpacersOf g (nextIn g) (statusIn g) Whole (k .Snap) s q
+
+  pub record Onward (s : State) (q : Contents) (c : Call) (o : Next State) : Type 0 where
     pub list : Contents
     pub whole : Whole (o .state) list
-    pub changed : Changed (exactBound g) q (o .answer) list
+    pub changed : Changed (exactBound g) g q (o .answer) list
+    pub no-spacers : NoSpacer c → NoSpacers s q → NoSpacers (o .state) list
 
-  idle-by : {s : State} {q : Contents} {o : Next State} → numberOf (o .answer) ≡ 0 → Whole (o .state) q → Onward s q o
-  idle-by {q = q} {o = o} n h =
-      record { list = q; whole = h; changed = unchanged-by (exactBound g) q (o .answer) (λ e. omega arith) (λ e. omega arith) }
+  -- worker i's operation goes on, and the list stays
+  goes : {s t : State} {q : Contents} (i : ℕ) (x y : Status) → statusIn g s i ≡ x → statusIn g t i ≡ y → (NoSpacerUnderWay x → NoSpacerUnderWay y)
+      → Others g (nextIn g) (statusIn g) Whole (k .Snap) s i t → NoSpacers s q → NoSpacers t q
+  goes i x y a b on w n = goes-on g (nextIn g) (statusIn g) Whole (k .Snap) i x y a b on w (n .listed) n
 
-  onward-by : (s : State) (q : Contents) (c : Call) → Whole s q → After s q c (nextIn g s c) → Onward s q (nextIn g s c)
+  idle-by : {s : State} {q : Contents} {c : Call} {o : Next State} → numberOf (o .answer) ≡ 0 → Whole (o .state) q
+      → (NoSpacer c → NoSpacers s q → NoSpacers (o .state) q) → Onward s q c o
+  idle-by {q = q} {o = o} n h kept =
+      record { list = q; whole = h; changed = unchanged-by (exactBound g) g q (o .answer) (λ e. omega arith) (λ e. omega arith); no-spacers = kept }
+
+  onward-by : (s : State) (q : Contents) (c : Call) → Whole s q → After s q c (nextIn g s c) → Onward s q c (nextIn g s c)
   onward-by s q c h (refused n e) =
-      record { list = q; whole = rw e h; changed = unchanged-by (exactBound g) q _ (λ u. omega arith) (λ u. omega arith) }
-  onward-by s q c h (opened i op u n a b w h′) = idle-by n h′
-  onward-by s q c h (walks i op u n a b w h′) = idle-by n h′
-  onward-by s q c h (tries i op u n a b w h′ z) = idle-by n h′
-  onward-by s q c h (stays i op u n a b w h′ z) = idle-by n h′
-  onward-by s q c h (loses i op u n a b w h′) = idle-by n h′
-  onward-by s q c h (ends i op u n a b w q′ give h′) = record { list = q′; whole = h′; changed = gives-changed (exactBound g) g q _ q′ op give }
+      record {
+        list = q;
+        whole = rw e h;
+        changed = unchanged-by (exactBound g) g q _ (λ u. omega arith) (λ u. omega arith);
+        no-spacers = λ ok v. rw e v;
+      }
+  onward-by s q c h (opened i op u n a b w h′) = idle-by n h′ (λ ok v. goes i idle (pending op) a b (λ z. begun-no-spacer c i op u ok) w v)
+  onward-by s q c h (walks i op u n a b w h′) = idle-by n h′ (λ ok v. goes i (pending op) (pending op) a b (λ z. z) w v)
+  onward-by s q c h (tries i op u n a b w h′ z) = idle-by n h′ (λ ok v. goes i (pending op) (tried op) a b (λ y. y) w v)
+  onward-by s q c h (stays i op u n a b w h′ z) = idle-by n h′ (λ ok v. goes i (tried op) (tried op) a b (λ y. y) w v)
+  onward-by s q c h (loses i op u n a b w h′) = idle-by n h′ (λ ok v. goes i (tried op) (pending op) a b (λ z. z) w v)
+  onward-by s q c h (ends i op u n a b w q′ give h′) =
+      record {
+        list = q′;
+        whole = h′;
+        changed = gives-changed (exactBound g) g q _ q′ op give;
+        no-spacers = λ ok v. goes-on g (nextIn g) (statusIn g) Whole (k .Snap) i (pending op) idle a b (λ z. tt) w (no-spacer-joins g q (nextIn g s c .answer) q′ op (rw a at (v .under-way i)) give (v .listed)) v;
+      }
   onward-by s q c h (wins i op u n l a b w h′ z) =
-      record { list = q; whole = h′; changed = unchanged-by (exactBound g) q _ (λ e. omega arith) (λ e. omega arith) }
+      record {
+        list = q;
+        whole = h′;
+        changed = unchanged-by (exactBound g) g q _ (λ e. omega arith) (λ e. omega arith);
+        no-spacers = λ ok v. goes i (tried op) idle a b (λ y. tt) w v;
+      }
 
-  pub onward : (s : State) (q : Contents) → Whole s q → (c : Call) → Onward s q (nextIn g s c)
+  pub onward : (s : State) (q : Contents) → Whole s q → (c : Call) → Onward s q c (nextIn g s c)
   onward s q h c = onward-by s q c h (whole-turn s q h c)
 
   pub made-whole : Whole (madeIn g) noItems
@@ -90,6 +121,9 @@ module _ (g : Settings) (limits : settingsFit g ≡ true) (k : Kind g) where
   made-idle : (i : ℕ) → statusIn g (madeIn g) i ≡ idle
   unfolding madeIn
   made-idle i = ap (statusOf 0) (idle-phase (g .kind) _ refl)
+
+  pub made-no-spacers : NoSpacers (madeIn g) noItems
+  made-no-spacers = record { listed = count-none isSpacer; under-way = λ i. rw (made-idle i) tt }
 
   machine-order : (cs : List Call) → OneAtATime g (events (nextIn g) (madeIn g) cs)
   machine-order cs = one-at-a-time g (nextIn g) (statusIn g) Whole (k .Snap) whole-turn (madeIn g) made-whole made-idle cs
@@ -104,7 +138,8 @@ module _ (g : Settings) (limits : settingsFit g ≡ true) (k : Kind g) where
   pub record Next-related (ws : List ℕ) (s : State) (q : Contents) (c : Call) : Type 0 where
     pub answer : callOf ws c .answer ≡ nextIn g s c .answer
     pub related : Related (callOf ws c .words) (nextIn g s c .state)
-    pub changed : Changed (exactBound g) q (callOf ws c .answer) (related .list)
+    pub changed : Changed (exactBound g) g q (callOf ws c .answer) (related .list)
+    pub no-spacers : NoSpacer c → NoSpacers s q → NoSpacers (nextIn g s c .state) (related .list)
 
   pub next-related : {ws : List ℕ} {s : State} (r : Related ws s) (c : Call) → Next-related ws s (r .list) c
   next-related {ws} {s} r c =
@@ -114,7 +149,8 @@ module _ (g : Settings) (limits : settingsFit g ≡ true) (k : Kind g) where
       record {
         answer = f .answer;
         related = record { says = f .says; list = n .list; whole = n .whole };
-        changed = subst (λ (a : Answer). Changed (exactBound g) (r .list) a (n .list)) (sym (f .answer)) (n .changed);
+        changed = subst (λ (a : Answer). Changed (exactBound g) g (r .list) a (n .list)) (sym (f .answer)) (n .changed);
+        no-spacers = n .no-spacers;
       }
 
   pub events-same : {ws : List ℕ} {s : State} → Related ws s → (cs : List Call) → run ws cs ≡ events (nextIn g) s cs

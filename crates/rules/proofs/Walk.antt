@@ -9,7 +9,7 @@ use lib.ListN.{getD, take, drop}
 use lib.Seq.{getD-drop, getD-take}
 use Rattle.laws.specs.Choice.{cond}
 use Rattle.rules.specs.Layout.{cellWords, nthCellAt, stampAt}
-use Rattle.rules.specs.Held.{Item, countItems, passedOver}
+use Rattle.rules.specs.Held.{Item, cellItem, countItems}
 use Rattle.rules.specs.Segments.{upFrom, cellItems, walkedSub, walkedBelow}
 use Rattle.rules.specs.declared.Settings.{Settings}
 use Rattle.rules.proofs.Cells.{count-append}
@@ -23,14 +23,13 @@ pub cells-two : (p : Item → Bool) (ws : List ℕ) (at : ℕ) (cs ds : List ℕ
     → countItems p (cellItems ws at (cs ++ ds)) ≡ countItems p (cellItems ws at cs) + countItems p (cellItems ws at ds)
 cells-two p ws at cs ds = ap (countItems p) (map-append _ cs ds) ∙ count-append p (cellItems ws at cs) (cellItems ws at ds)
 
--- one cell more from the first word on, by its stamp x
-pub cells-passed : (kind s : ℕ) (ws : List ℕ) (k x : ℕ) → x ≡ getD ws (stampAt (cellWords * k)) 0
-    → countItems (passedOver kind s) (cellItems ws 0 (upFrom 0 (k + 1)))
-    ≡ countItems (passedOver kind s) (cellItems ws 0 (upFrom 0 k)) + cond (passedOver kind s (record { value = 0; stamp = x })) 1 0
+-- one cell more from the first word on
+pub cells-more : (p : Item → Bool) (ws : List ℕ) (k : ℕ)
+    → countItems p (cellItems ws 0 (upFrom 0 (k + 1))) ≡ countItems p (cellItems ws 0 (upFrom 0 k)) + cond (p (cellItem ws (cellWords * k))) 1 0
 unfolding upFrom countItems
-cells-passed kind s ws k x e =
-    let place : stampAt (nthCellAt 0 (0 + k)) ≡ stampAt (cellWords * k) = omega arith in
-    rw (add-one k) (cells-two (passedOver kind s) ws 0 (upFrom 0 k) _ ∙ rw (place, e) (omega arith))
+cells-more p ws k =
+    let place : nthCellAt 0 (0 + k) ≡ cellWords * k = omega arith in
+    rw (add-one k) (cells-two p ws 0 (upFrom 0 k) _ ∙ rw place (omega arith))
 
 -- the first cells of a part of the words are those from its start on
 pub cells-part : (ws : List ℕ) (n at start k : ℕ) → cellWords * k ≤ n

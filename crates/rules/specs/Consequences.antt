@@ -31,7 +31,7 @@ abbrev pub OfEveryRun : (Settings → List ℕ → List Call → Type 0) → Typ
 OfEveryRun P =
     (ws : List ℕ) (g : Settings) (cs : List Call) → numberOf (makeOf ws g .answer) ≡ 0 → P g (makeOf ws g .words) cs
 
--- ---- no item is lost or invented: what is held and what was taken is what was put
+-- ---- no item is lost or invented, a spacer no more than another: what is held and what was taken is what was put
 -- the item of an answer with a given number
 abbrev pub itemIn : ℕ → Answer → List Item
 itemIn n a = cond (eqb (numberOf a) n) (record { value = valueIn a; stamp = stampIn a } ∷ []) []
@@ -55,7 +55,7 @@ StampsOnce g ws cs =
     (stamp : ℕ)
     → (countItems (hasStamp stamp) (itemsIn 1 (run ws cs)) ≤ 1) × (countItems (hasStamp stamp) (itemsIn 2 (run ws cs)) ≤ 1)
 
--- ---- each distance reported is within a bound
+-- ---- each distance reported is within a bound; so is what is passed over, spacers too: specs/Spacers, `TakesWithin`
 abbrev pub WithinBound : (Settings → ℕ) → Settings → List ℕ → List Call → Type 0
 WithinBound most g ws cs =
     (i f : ℕ) → at (run ws cs) f .call ≡ step i → numberOf (at (run ws cs) f .answer) ≡ 2

@@ -1,7 +1,8 @@
--- "Distance": held items of all subs with a smaller stamp (queue) or a greater one (stack) just before the take.
+-- "Distance": held items of all subs with a smaller stamp (queue) or a greater one (stack) just before the take. Since paper 02's K4
+-- it "counts held items whose value isn't 0"; how many are passed over in all is a count of its own.
 use Prim.Native.Nat.{ℕ, zero, suc, _+_, _-_}
 use mathlib.Core.List.{List, [], _∷_, _++_}
-use mathlib.Core.Bool.{Bool}
+use mathlib.Core.Bool.{Bool, false}
 use lib.ListN.{getD, length}
 use lib.Dec.{ltb, eqb}
 use Rattle.laws.specs.Choice.{cond}
@@ -58,9 +59,22 @@ unfoldable pub countItems : (Item → Bool) → List Item → ℕ
 countItems p [] = 0
 countItems p (x ∷ xs) = cond (p x) 1 0 + countItems p xs
 
--- an item that a take of stamp s passes over: older in a queue, newer in a stack
+-- "value 0 as a spacer between feed tanks"
+abbrev pub isSpacer : Item → Bool
+isSpacer x = eqb (x .value) 0
+
+-- an item that a take of stamp s passes over: older in a queue, newer in a stack; spacers like all others
 abbrev pub passedOver : ℕ → ℕ → Item → Bool
 passedOver kind s x = cond (eqb kind 0) (ltb (x .stamp) s) (ltb s (x .stamp))
 
+-- one that its distance reports: passed over, and no spacer
+abbrev pub reported : ℕ → ℕ → Item → Bool
+reported kind s x = cond (isSpacer x) false (passedOver kind s x)
+
+-- the held items that a take of stamp s passes over
+unfoldable pub passedOf : List ℕ → Settings → Stamp → ℕ
+passedOf ws g s = countItems (passedOver (g .kind) (s .0)) (heldItems ws g)
+
+-- and its distance
 unfoldable pub distanceOf : List ℕ → Settings → Stamp → ℕ
-distanceOf ws g s = countItems (passedOver (g .kind) (s .0)) (heldItems ws g)
+distanceOf ws g s = countItems (reported (g .kind) (s .0)) (heldItems ws g)

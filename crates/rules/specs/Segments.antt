@@ -6,7 +6,7 @@ use mathlib.Core.List.{List, [], _∷_, _++_, map}
 use lib.Dec.{leb, eqb}
 use Rattle.laws.specs.Choice.{cond}
 use Rattle.rules.specs.Layout.{subCellsAt, nthCellAt, firstOf, secondOf}
-use Rattle.rules.specs.Held.{Item, cellItem, rowsBelow, rowsHeld, countItems, passedOver}
+use Rattle.rules.specs.Held.{Item, cellItem, rowsBelow, rowsHeld, countItems, reported}
 use Rattle.rules.specs.declared.Settings.{Settings}
 use Rattle.rules.specs.declared.Stamp.{Stamp}
 use Rattle.rules.specs.declared.Segment.{Segment}
@@ -81,4 +81,4 @@ walkedItems ws g = walkedBelow ws g (g .width)
 
 -- the distance, counted on that walk
 unfoldable pub walkedDistance : List ℕ → Settings → Stamp → ℕ
-walkedDistance ws g s = countItems (passedOver (g .kind) (s .0)) (walkedItems ws g)
+walkedDistance ws g s = countItems (reported (g .kind) (s .0)) (walkedItems ws g)

@@ -6,7 +6,7 @@ use mathlib.Core.Option.{Option, none, some}
 use lib.ListN.{length}
 use lib.Dec.{leb, eqb}
 use Rattle.laws.specs.Choice.{cond}
-use Rattle.rules.specs.Held.{Item, countItems, passedOver}
+use Rattle.rules.specs.Held.{Item, countItems, passedOver, reported}
 use Rattle.rules.specs.declared.Settings.{Settings}
 
 -- what an operation is begun as: a put of a value, or a take
@@ -81,18 +81,22 @@ unfoldable pub find : ℕ → List Item → Option Found
 find stamp [] = none
 find stamp (x ∷ xs) = cond (eqb (x .stamp) stamp) (some (record { item = x; others = xs })) (keeping x (find stamp xs))
 
--- the items with a smaller stamp (queue) or a greater one (stack)
+-- the items with a smaller stamp (queue) or a greater one (stack): "the limit on items passed over still counts them all"
 abbrev pub passedBy : Settings → Contents → ℕ → ℕ
 passedBy g q stamp = countItems (passedOver (g .kind) stamp) (q .items)
 
--- 2: its value and stamp, and the items passed over just before; it leaves
+-- those of them with a value other than 0: "the reported number skips spacers"
+abbrev pub reportedBy : Settings → Contents → ℕ → ℕ
+reportedBy g q stamp = countItems (reported (g .kind) stamp) (q .items)
+
+-- 2: its value and stamp, and the number reported just before; it leaves
 abbrev pub without : Settings → Contents → Found → Given
 without g q f =
     record {
       next = record { items = f .others; count = q .count };
       value = f .item .value;
       stamp = f .item .stamp;
-      distance = passedBy g q (f .item .stamp);
+      distance = reportedBy g q (f .item .stamp);
     }
 
 -- an item with the fed stamp must be there, with no more passed over than a bound allows

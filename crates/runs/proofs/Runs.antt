@@ -23,7 +23,7 @@ use Rattle.rules.specs.Check.{checkRule}
 use Rattle.rules.specs.Commit.{commitBy, queueCommit, stackCommit}
 use Rattle.rules.specs.Shift.{shiftBy, queueShift, stackShift}
 use Rattle.rules.specs.Confirm.{confirmedOf, confirmRule}
-use Rattle.rules.specs.Held.{itemsAbove, heldSub, heldBelow, countItems, distanceOf}
+use Rattle.rules.specs.Held.{itemsAbove, heldSub, heldBelow, countItems, passedOf, distanceOf}
 use Rattle.rules.specs.Segments.{segmentsFrom, segmentsAbove, upFrom}
 use Rattle.rules.specs.Apply.{putItem, putSub, putLanded, putShifted, putWorker, takenOf, applyBy, applyOf}
 use Rattle.rules.specs.Step.{ruleBy, ruleOf, slotStep, fitStep, checkedStep, stepOf}
@@ -40,6 +40,7 @@ use Rattle.runs.specs.Table.{table}
 use Rattle.runs.specs.HeldCells.{SegmentsByHand}
 use Rattle.runs.specs.Strides.{strides}
 use Rattle.runs.specs.Extremes.{extremes}
+use Rattle.runs.specs.Spacers.{spacers}
 use Rattle.runs.specs.Solos.{solos}
 use Rattle.runs.specs.Stretches.{Stretch, Unanswered, stretches}
 use Rattle.runs.specs.Tests.{every, sameList, lineTests, sameLine, holds, gives, reaches, unanswered}
@@ -102,17 +103,18 @@ stretch-unanswered s t =
     }
 
 -- ---- the tables
-tables-pass : (every holds table ≡ true) × (every holds strides ≡ true) × (every reaches extremes ≡ true) × (every reaches solos ≡ true) × (every unanswered stretches ≡ true)
-unfolding table strides extremes solos stretches mostPassed leastFull frameworkBound exactBound thesisBound k14Bound countedSteps eventsOf runOf linesOf makeNumber settingsFit run callOf cond allBelow slotAt putSlot queuePhase stackPhase phaseOf encode encodePhase headFit subFit subsFit phaseFit wordFit workersFit bodyChecked checkedOf zeroed indexed madeWords makeOf slotBegin fitBegin checkedBegin beginOf viewOf nextOf hopOf windowRule missOf queuePutRead queueTakeRead stackRead checkRule commitBy queueCommit stackCommit shiftBy queueShift stackShift confirmedOf confirmRule itemsAbove heldSub heldBelow countItems distanceOf putItem putSub putLanded putShifted putWorker takenOf applyBy applyOf ruleBy ruleOf slotStep fitStep checkedStep stepOf
-tables-pass = (refl, refl, refl, refl, refl)
+tables-pass : (every holds table ≡ true) × (every holds strides ≡ true) × (every reaches extremes ≡ true) × (every reaches spacers ≡ true) × (every reaches solos ≡ true) × (every unanswered stretches ≡ true)
+unfolding table strides extremes spacers solos stretches mostPassed leastFull frameworkBound exactBound thesisBound k14Bound countedSteps eventsOf runOf linesOf makeNumber settingsFit run callOf cond allBelow slotAt putSlot queuePhase stackPhase phaseOf encode encodePhase headFit subFit subsFit phaseFit wordFit workersFit bodyChecked checkedOf zeroed indexed madeWords makeOf slotBegin fitBegin checkedBegin beginOf viewOf nextOf hopOf windowRule missOf queuePutRead queueTakeRead stackRead checkRule commitBy queueCommit stackCommit shiftBy queueShift stackShift confirmedOf confirmRule itemsAbove heldSub heldBelow countItems passedOf distanceOf putItem putSub putLanded putShifted putWorker takenOf applyBy applyOf ruleBy ruleOf slotStep fitStep checkedStep stepOf
+tables-pass = (refl, refl, refl, refl, refl, refl)
 
-pub runs-hold : AllHold table × AllHold strides × All Reaches extremes × All Reaches solos × All Unanswered stretches
+pub runs-hold : AllHold table × AllHold strides × All Reaches extremes × All Reaches spacers × All Reaches solos × All Unanswered stretches
 runs-hold = (
   all-from-tests holds row-holds table (tables-pass .0),
   all-from-tests holds row-holds strides (tables-pass .1),
   all-from-tests reaches row-reaches extremes (tables-pass .2),
-  all-from-tests reaches row-reaches solos (tables-pass .3),
-  all-from-tests unanswered stretch-unanswered stretches (tables-pass .4),
+  all-from-tests reaches row-reaches spacers (tables-pass .3),
+  all-from-tests reaches row-reaches solos (tables-pass .4),
+  all-from-tests unanswered stretch-unanswered stretches (tables-pass .5),
 )
 
 -- ---- a sub's segments

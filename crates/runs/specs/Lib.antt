@@ -5,6 +5,7 @@ pub mod Table
 pub mod Strides
 pub mod HeldCells
 pub mod Extremes
+pub mod Spacers
 pub mod Solos
 pub mod Stretches
 pub mod Tests

@@ -2,12 +2,15 @@
 use Prim.Native.Nat.{ℕ, _+_, _-_}
 use mathlib.Core.List.{List, [], _∷_}
 use mathlib.Core.Path.{_≡_}
-use lib.ListN.{getD}
 use lib.Dec.{eqb}
 use Rattle.laws.specs.Choice.{cond}
+use Rattle.rules.specs.Answers.{numberOf}
+use Rattle.rules.specs.Held.{passedOf}
+use Rattle.rules.specs.Run.{Call, callOf, stampIn}
 use Rattle.rules.specs.Statement.{All}
 use Rattle.rules.specs.declared.Settings.{Settings}
-use Rattle.runs.specs.Rows.{Line, Row, Holds}
+use Rattle.rules.specs.declared.Answer.{Answer}
+use Rattle.runs.specs.Rows.{Line, Row, startOf, Holds}
 
 pub record Reach : Type 0 where
   pub row : Row
@@ -34,9 +37,19 @@ abbrev answered : ℕ → List Line → ℕ
 answered n [] = 0
 answered n (x ∷ xs) = cond (eqb (x .number) n) 1 0 + answered n xs
 
--- the items that its last take passed over
+-- the held items that a call passes over, in the words just before, where it is the last step of a take; else 0
+abbrev passedBefore : Settings → List ℕ → Answer → ℕ
+passedBefore g ws a = cond (eqb (numberOf a) 2) (passedOf ws g (record { 0 = stampIn a })) 0
+
+-- those that the last of some calls passes over
+abbrev passedLast : Settings → List ℕ → List Call → ℕ
+passedLast g ws [] = 0
+passedLast g ws (c ∷ []) = passedBefore g ws (callOf ws c .answer)
+passedLast g ws (c ∷ d ∷ cs) = passedLast g (callOf ws c .words) (d ∷ cs)
+
+-- those of its run's last call; what that reports is in its line
 abbrev pub passing : List (Settings → ℕ) → Row → Reach
-passing fs r = record { row = r; shown = λ (r : Row). last (λ (x : Line). getD (x .fields) 4 0) (r .lines); figures = fs }
+passing fs r = record { row = r; shown = λ (r : Row). passedLast (r .settings) (startOf r) (r .calls); figures = fs }
 
 -- the items held in the end, put and not taken
 abbrev pub holding : List (Settings → ℕ) → Row → Reach

@@ -57,8 +57,12 @@ unfoldable pub linesOf : (ℕ → ℕ) → List Event → List Line
 linesOf f [] = []
 linesOf f (e ∷ es) = lineFor (stepsAfter f (e .call) (numberOf (e .answer))) e ++ linesOf (stepsAfter f (e .call) (numberOf (e .answer))) es
 
+-- the words that its run starts from
+abbrev pub startOf : Row → List ℕ
+startOf r = set ((makeOf (replicate (r .lent) 0) (r .settings)) .words) stepsAt (r .counted)
+
 unfoldable pub eventsOf : Row → List Event
-eventsOf r = run (set ((makeOf (replicate (r .lent) 0) (r .settings)) .words) stepsAt (r .counted)) (r .calls)
+eventsOf r = run (startOf r) (r .calls)
 
 unfoldable pub runOf : Row → List Line
 runOf r = linesOf (λ i. 0) (eventsOf r)

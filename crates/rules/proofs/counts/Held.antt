@@ -1,6 +1,6 @@
 -- The specification's list against the held rows, for both kinds: row r of sub j is held where below j < r ≤ first j.
 -- They are the same items as counts go: for every test as many pass it on the list as among the held rows. That gives the
--- length, the distance, and that an item is there (Find), and it needs no order of the list and no permutation.
+-- length, both counts of a take, and that an item is there (Find), and it needs no order of the list and no permutation.
 use mathlib.Core.Path.{_≡_, refl, sym, ap, _∙_}
 use mathlib.Core.Logic.{_≢_}
 use mathlib.Core.Bool.{Bool, true, false}

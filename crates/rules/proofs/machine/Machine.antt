@@ -9,7 +9,7 @@ use lib.Dec.{leb, eqb}
 use Rattle.laws.specs.Choice.{cond}
 use Rattle.rules.specs.Answers.{noSuchWorker, workerBusy, workerIdle, stepsSpent}
 use Rattle.rules.specs.Limits.{stepLimit}
-use Rattle.rules.specs.Held.{Item, rowsBelow, passedOver}
+use Rattle.rules.specs.Held.{Item, rowsBelow, reported}
 use Rattle.rules.specs.Make.{newMark}
 use Rattle.rules.specs.Worker.{fresh, idlePhase, phaseOf, decode, encode}
 use Rattle.rules.specs.Effects.{movedOf, finishedOf}
@@ -63,9 +63,9 @@ belowIn g s j = rowsBelow g (s .second j)
 abbrev pub countIn : Settings → State → (Item → Bool) → ℕ → ℕ
 countIn g s p j = upTo (λ r. p (s .item j r)) (s .first j) - upTo (λ r. p (s .item j r)) (belowIn g s j)
 
--- the held items that a take of a stamp passes over
+-- the distance of a take of a stamp
 unfoldable pub distanceIn : Settings → State → ℕ → ℕ
-distanceIn g s stamp = sumN (countIn g s (passedOver (g .kind) stamp)) (g .width)
+distanceIn g s stamp = sumN (countIn g s (reported (g .kind) stamp)) (g .width)
 
 -- all that worker i's step read, as it is afterwards, and the step counted
 abbrev pub afterIn : State → ℕ → Effect → State

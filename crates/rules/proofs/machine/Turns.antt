@@ -32,10 +32,10 @@ use native.Mathlib.Omega.{arith}
 use Rattle.rules.specs.Limits.{stepLimit}
 use Rattle.rules.specs.Answers.{numberOf, notFit}
 use Rattle.rules.specs.Worker.{fresh, zeroSlot, phaseOf}
-use Rattle.rules.specs.Held.{passedOver}
+use Rattle.rules.specs.Held.{reported}
 use Rattle.rules.specs.Fit.{phaseFit, SubFits}
 use Rattle.rules.specs.Step.{ruleOf}
-use Rattle.rules.specs.Sequential.{Contents, noItems, passedBy}
+use Rattle.rules.specs.Sequential.{Contents, noItems, reportedBy}
 use Rattle.rules.specs.Run.{Call, beginPut, beginTake, step, begin}
 use Rattle.rules.specs.Consequences.{NoWrap}
 use Rattle.rules.proofs.Types.{Settings, Side, Putting, Taking, Idle, Window, Slot}
@@ -71,9 +71,9 @@ pub record Holding (g : Settings) (s : State) (q : Contents) : Type 0 where
 
 -- the machine's distance is that of the list
 pub distance-held : (g : Settings) (s : State) (q : Contents) (stamp : ℕ) → ((j : ℕ) → j < g .width → belowIn g s j ≤ s .first j)
-    → Holds (g .width) (belowIn g s) (s .first) (s .item) (q .items) → distanceIn g s stamp ≡ passedBy g q stamp
+    → Holds (g .width) (belowIn g s) (s .first) (s .item) (q .items) → distanceIn g s stamp ≡ reportedBy g q stamp
 unfolding distanceIn
-distance-held g s q stamp o h = sym (held-count h o (passedOver (g .kind) stamp))
+distance-held g s q stamp o h = sym (held-count h o (reported (g .kind) stamp))
 
 -- no sum that a step adds up reaches 2^32, no difference but confirm's passes below 0, and no commit that matches is refused
 pub record Safe (g : Settings) (s : State) : Type 0 where

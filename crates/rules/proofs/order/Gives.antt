@@ -7,7 +7,7 @@ use lib.ListN.{length}
 use borrow.Author.Tests.{le-leb}
 use Rattle.laws.specs.Choice.{cond}
 use Rattle.rules.specs.Held.{Item}
-use Rattle.rules.specs.Sequential.{putting, taking, Contents, Found, giveBy, leaving, leastFull, passedBy}
+use Rattle.rules.specs.Sequential.{putting, taking, Contents, Found, giveBy, leaving, leastFull, passedBy, reportedBy}
 use Rattle.rules.specs.Newer.{exactBound}
 use Rattle.rules.specs.Run.{Final}
 use Rattle.rules.proofs.order.Closest.{Gives}
@@ -28,11 +28,11 @@ module _ (g : Settings) (q : Contents) where
   gives-put v j row stamp e = let n : q .count + 1 ≡ suc (q .count) = omega arith in rw (n, e) refl
 
   pub gives-taken : (it : Item) (j : ℕ) (row : Row) (distance : ℕ) → (f : RowFound it (q .items))
-      → distance ≡ passedBy g q (it .stamp) → distance ≤ exactBound g
+      → distance ≡ reportedBy g q (it .stamp) → passedBy g q (it .stamp) ≤ exactBound g
       → Gives g q taking (Taken (it .value) j row (record { 0 = it .stamp }) distance) (takenOff (f .out))
   unfolding giveBy leaving cond
   gives-taken it j row distance f e l =
-      rw (f .found) (rw (f .item-is) (rw (← e) (rw (le-leb distance (exactBound g) l) refl)))
+      rw (f .found) (rw (f .item-is) (rw (le-leb (passedBy g q (it .stamp)) (exactBound g) l, e) refl))
 
   pub gives-empty : q .items ≡ [] → Gives g q taking Empty q
   unfolding giveBy cond

@@ -10,7 +10,7 @@ use native.Mathlib.Omega.{arith}
 use borrow.Author.Tests.{le-ltb}
 use Rattle.laws.specs.Choice.{cond-true}
 use Rattle.rules.specs.Held.{Item, countItems, passedOver}
-use Rattle.rules.specs.Sequential.{Contents, passedBy}
+use Rattle.rules.specs.Sequential.{Contents, passedBy, reportedBy}
 use Rattle.rules.specs.Newer.{exactBound}
 use Rattle.rules.proofs.Types.{Settings}
 use Rattle.rules.proofs.Cells.{queue-below}
@@ -22,7 +22,7 @@ use Rattle.rules.proofs.machine.Turns.{distance-held}
 use Rattle.rules.proofs.queue.Inv.{Windows, Pool, holds-below}
 
 -- the machine's distance is that of the list
-pub distance-is : (g : Settings) → g .kind ≡ 0 → {s : State} {q : Contents} → Pool g s q → (stamp : ℕ) → distanceIn g s stamp ≡ passedBy g q stamp
+pub distance-is : (g : Settings) → g .kind ≡ 0 → {s : State} {q : Contents} → Pool g s q → (stamp : ℕ) → distanceIn g s stamp ≡ reportedBy g q stamp
 distance-is g kind {s} {q} p stamp =
     distance-held g s q stamp (λ m l. rw (queue-below g kind (s .second m)) (p .windows .held m l)) (holds-below g kind s q p)
 
@@ -80,5 +80,5 @@ module _ (g : Settings) (good : Good g) (kind : g .kind ≡ 0) {s : State} {q : 
         sum-within-but (rowsOf (s .item) older (s .first)) (rowsOf (s .item) older (s .second)) (g .width) (g .depth) j lj within none-own,
       )
 
-  pub older-few : distanceIn g s (it .stamp) ≤ exactBound g
-  older-few = rw (distance-is g kind p (it .stamp)) (le-trans bounded (queue-most g kind))
+  pub older-few : passedBy g q (it .stamp) ≤ exactBound g
+  older-few = le-trans bounded (queue-most g kind)

@@ -8,7 +8,7 @@ use Rattle.laws.specs.Wrap.{add32, sub32}
 use Rattle.rules.specs.Held.{Item}
 use Rattle.rules.specs.Effects.{hopOf}
 use Rattle.rules.specs.Commit.{stackCommit, removedOf}
-use Rattle.rules.specs.Sequential.{Contents}
+use Rattle.rules.specs.Sequential.{Contents, passedBy}
 use Rattle.rules.proofs.Types.{Settings, Taking, StackCommit, Version}
 use Rattle.rules.proofs.counts.Sums.{upd, upd-same, upd-other, upd-all}
 use Rattle.rules.proofs.machine.Machine.{State, next, subIn, viewIn, phaseIn, takenIn, distanceIn, applyIn, applyInBy}
@@ -28,7 +28,7 @@ use Rattle.rules.proofs.stack.Distance.{distance-is, newer-few}
 -- a live take passes over few newer items
 pub take-newer : {g : Settings} {s : State} {q : Contents} → Good g → g .kind ≡ 1 → (inv : Inv g s q) (i : ℕ) → subIn s i < g .width → (seen : Version)
     → phaseIn g s i ≡ StackCommit Taking seen → seen .0 ≡ s .second (subIn s i)
-    → distanceIn g s (s .item (subIn s i) (s .first (subIn s i)) .stamp) ≤ exactBound g
+    → passedBy g q (s .item (subIn s i) (s .first (subIn s i)) .stamp) ≤ exactBound g
 take-newer {g} {s} good kind inv i lj seen e live = newer-few g good kind (inv .pool) (subIn s i) lj (live-fits inv i Taking seen e live)
 
 module _ {g : Settings} {s : State} {q : Contents} {i : ℕ} (a : Stepping g s q i)

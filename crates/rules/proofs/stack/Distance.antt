@@ -13,23 +13,32 @@ use native.Mathlib.Omega.{arith}
 use borrow.Author.Tests.{le-ltb}
 use Rattle.laws.specs.Choice.{cond-false}
 use Rattle.rules.specs.Held.{Item, passedOver}
-use Rattle.rules.specs.Sequential.{Contents, passedBy}
+use Rattle.rules.specs.Sequential.{Contents, passedBy, reportedBy}
 use Rattle.rules.specs.Newer.{exactRows, exactBound}
 use Rattle.rules.proofs.Types.{Settings}
 use Rattle.rules.proofs.Cells.{stack-below}
-use Rattle.rules.proofs.counts.Sums.{upTo, upTo-none, rows-more, rows-flat, sum-zero, sum-within-but, times-pred}
+use Rattle.rules.proofs.counts.Sums.{sumN, upTo, upTo-none, rows-more, rows-flat, sum-zero, sum-within-but, times-pred}
 use Rattle.rules.proofs.counts.Wraps.{multiple-lt}
-use Rattle.rules.proofs.machine.Machine.{State, countIn, distanceIn}
+use Rattle.rules.proofs.machine.Machine.{State, belowIn, countIn, distanceIn}
+use Rattle.rules.proofs.counts.Held.{held-count}
 use Rattle.rules.proofs.machine.Good.{Good}
 use Rattle.rules.proofs.machine.Turns.{distance-held}
 use Rattle.rules.proofs.stack.Inv.{Ghost, Pool}
 use Rattle.rules.proofs.figures.Figures.{times, times-high, below-highest, bound-stack}
 
+-- no row of a stack lies below those held
+below-le : (g : Settings) → g .kind ≡ 1 → (s : State) (m : ℕ) → belowIn g s m ≤ s .first m
+below-le g kind s m = rw (stack-below g kind (s .second m)) (omega arith)
+
 -- the machine's distance is that of the list
 pub distance-is : (g : Settings) → g .kind ≡ 1 → {s : State} {q : Contents} {ghost : Ghost} → Pool g s q ghost → (stamp : ℕ)
-    → distanceIn g s stamp ≡ passedBy g q stamp
-distance-is g kind {s} {q} o stamp =
-    distance-held g s q stamp (λ m l. rw (stack-below g kind (s .second m)) (omega arith)) (o .holding .held)
+    → distanceIn g s stamp ≡ reportedBy g q stamp
+distance-is g kind {s} {q} o stamp = distance-held g s q stamp (λ m l. below-le g kind s m) (o .holding .held)
+
+-- and so is what is passed over, sub by sub
+pub passed-is : (g : Settings) → g .kind ≡ 1 → {s : State} {q : Contents} {ghost : Ghost} → Pool g s q ghost → (stamp : ℕ)
+    → passedBy g q stamp ≡ sumN (countIn g s (passedOver (g .kind) stamp)) (g .width)
+passed-is g kind {s} o stamp = held-count (o .holding .held) (λ m l. below-le g kind s m) (passedOver (g .kind) stamp)
 
 -- no row from 1 to c passes a test
 no-row : (p : ℕ → Bool) (c : ℕ) → ((n : ℕ) → 1 ≤ n → n ≤ c → p n ≡ false) → upTo p c ≡ 0
@@ -105,11 +114,12 @@ module _ (g : Settings) (good : Good g) (kind : g .kind ≡ 1) {s : State} {q : 
       at-most n a (inl y) = le-of-eq (ap (λ (m : ℕ). s .item j m .stamp) y)
       at-most n a (inr y) = omega (arith, o .stamps .rise j n r lj a y (le-refl _))
 
-  pub newer-few : distanceIn g s (it .stamp) ≤ exactBound g
-  unfolding distanceIn exactBound
+  pub newer-few : passedBy g q (it .stamp) ≤ exactBound g
+  unfolding exactBound
   newer-few =
       rw (bound-stack g _ kind) (omega (
         arith,
+        passed-is g kind o (it .stamp),
         times-pred (g .width) (exactRows g) (good .bounds .width1),
         sum-zero (g .width),
         sum-within-but (countIn g s (passedOver (g .kind) (it .stamp))) (λ m. 0) (g .width) (exactRows g) j lj

@@ -1,4 +1,4 @@
--- The stack's invariant. All that the distance needs is one fact about every state, the corridor: each sub holds from lo - d to
+-- The stack's invariant. All that the bound needs is one fact about every state, the corridor: each sub holds from lo - d to
 -- lo + s items, where lo is the lower of the window G and the G before its last shift. So an item and any newer one were in one
 -- corridor, that of the newer one's put (the pairs), and a take's row and every other sub are in one corridor, that of the take.
 -- Each of the two stands at d and some shifts, so they lie a multiple of s apart, which gives the exact bound. Late commits keep the

@@ -13,7 +13,7 @@ use Rattle.rules.specs.Worker.{slotAt, wordsOf, putSlot}
 use Rattle.rules.specs.Fit.{Checked, Unfit, Fit, subFit, subsFit, wordFit, workersFit, bodyChecked}
 use Rattle.rules.specs.Make.{indexed}
 use Rattle.rules.specs.Effects.{viewOf}
-use Rattle.rules.specs.Held.{itemAt, itemsAbove, heldSub, heldBelow, countItems, passedOver, distanceOf}
+use Rattle.rules.specs.Held.{itemAt, itemsAbove, heldSub, heldBelow, countItems, reported, distanceOf}
 use Rattle.rules.specs.Apply.{putItem, putSub, putLanded, putShifted, putWorker, takenOf}
 use Rattle.rules.specs.Stride.{withStride}
 use Rattle.rules.specs.declared.Answer.the-variants.{Taken}
@@ -116,7 +116,7 @@ module _ (p : ℕ) (still : Still p) (x : ℕ) where
     unfolding takenOf distanceOf
     taken-same j row =
         let item = item-same j (row .0) in
-        λ u. Taken (item u .value) j row (record { 0 = item u .stamp }) (countItems (passedOver (g .kind) (item u .stamp)) (held-same (g .width) u))
+        λ u. Taken (item u .value) j row (record { 0 = item u .stamp }) (countItems (reported (g .kind) (item u .stamp)) (held-same (g .width) u))
 
     pub view-same : (at : ℕ) → headWords ≤ at → viewOf vs h at ≡ viewOf ws g at
     unfolding viewOf

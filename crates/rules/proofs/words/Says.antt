@@ -10,7 +10,7 @@ use native.Mathlib.Omega.{arith}
 use lib.ListN.{length, getD}
 use Rattle.rules.specs.Layout.{stepsAt, putsAt, topAt, markAt, zeroAt, needed, settingsOf, firstOf, secondOf, workerAt}
 use Rattle.rules.specs.Worker.{slotAt}
-use Rattle.rules.specs.Held.{Item, itemAt, itemsAbove, heldSub, heldBelow, heldItems, countItems, passedOver, distanceOf}
+use Rattle.rules.specs.Held.{Item, itemAt, itemsAbove, heldSub, heldBelow, heldItems, countItems, reported, distanceOf}
 use Rattle.rules.proofs.Types.{Settings, Stamp}
 use Rattle.rules.proofs.counts.Sums.{sumN, sum-none, sum-more, upTo, upTo-suc, bit}
 use Rattle.rules.proofs.machine.Machine.{State, belowIn, countIn, distanceIn}
@@ -73,4 +73,4 @@ held-same g ws s says o p = words-count g ws s says o p (g .width) (omega arith)
 pub distance-same : (g : Settings) (ws : List ℕ) (s : State) → Says g ws s → ((j : ℕ) → j < g .width → belowIn g s j ≤ s .first j)
     → (stamp : Stamp) → distanceOf ws g stamp ≡ distanceIn g s (stamp .0)
 unfolding distanceOf distanceIn
-distance-same g ws s says o stamp = held-same g ws s says o (passedOver (g .kind) (stamp .0))
+distance-same g ws s says o stamp = held-same g ws s says o (reported (g .kind) (stamp .0))

@@ -1,4 +1,4 @@
--- `held::passed::segment_passed` meets its contract: the cells from a place on are the first cells of the part that starts there.
+-- `held::reported::segment_reported` meets its contract: the cells from a place on are the first cells of the part that starts there.
 use Prim.Native.Nat.{_+_, _*_, _-_, _≤_}
 use mathlib.Core.Path.{ap, _∙_}
 use native.Mathlib.Omega.{arith}
@@ -8,8 +8,8 @@ use Rattle.rules.proofs.Cells.{sub-cells-le}
 use Rattle.rules.proofs.Walk.{cells-part}
 use Rattle.rules.specs.Held.{countItems}
 use Rattle.rules.specs.Layout.{cellWords}
-use Rattle.held.proofs.passed.segment_passed.Statement.{statement}
-use Rattle.held.proofs.passed.segment_passed.Tie as tie
+use Rattle.held.proofs.reported.segment_reported.Statement.{statement}
+use Rattle.held.proofs.reported.segment_reported.Tie as tie
 
 -- the segment is among the words
 segment-in : (c : tie.After-sub-cells-at)
@@ -28,43 +28,43 @@ mul-at c = search needs
 add-at : tie.Need-add-at
 add-at c = omega (arith, segment-in (c .before))
 
-mul-cells-passed : tie.Need-mul-cells-passed
-mul-cells-passed c = omega (arith, segment-in (c .before))
+mul-cells-reported : tie.Need-mul-cells-reported
+mul-cells-reported c = omega (arith, segment-in (c .before))
 
-sub-cells-passed : tie.Need-sub-cells-passed
-sub-cells-passed c = omega (arith, segment-in (c .before))
+sub-cells-reported : tie.Need-sub-cells-reported
+sub-cells-reported c = omega (arith, segment-in (c .before))
 
-part-cells-passed-start : tie.Need-part-cells-passed-start
-part-cells-passed-start c = omega (arith, segment-in (c .before))
+part-cells-reported-start : tie.Need-part-cells-reported-start
+part-cells-reported-start c = omega (arith, segment-in (c .before))
 
-part-cells-passed-end : tie.Need-part-cells-passed-end
-part-cells-passed-end c = search needs
+part-cells-reported-end : tie.Need-part-cells-reported-end
+part-cells-reported-end c = search needs
 
-cast-cells-passed : tie.Need-cast-cells-passed
-cast-cells-passed c = search needs
+cast-cells-reported : tie.Need-cast-cells-reported
+cast-cells-reported c = search needs
 
-cells-passed-requires : tie.Need-cells-passed-requires
-cells-passed-requires c κs = omega (arith, segment-in (c .before .before .before))
+cells-reported-requires : tie.Need-cells-reported-requires
+cells-reported-requires c κs = omega (arith, segment-in (c .before .before .before))
 
 returns : tie.Need-returns
 returns c =
     let a = c .before .before .before .before .before .before .args in
     let at = c .before .before .before .before .sub-cells-at .result in
     let part = cells-part (a .words .now) (length (a .words .now) - (at + cellWords * a .x .start)) at (a .x .start) (a .x .count) (omega (arith, segment-in (c .before .before .before .before))) in
-    (rw (c .before .before .before .before .sub-cells-at .ensures) at (c .cells-passed .ensures .0 ∙ ap (countItems _) part), c .cells-passed .ensures .1)
+    (rw (c .before .before .before .before .sub-cells-at .ensures) at (c .cells-reported .ensures .0 ∙ ap (countItems _) part), c .cells-reported .ensures .1)
 
-pub segment-passed-spec : {M : Type 1} → statement M
-segment-passed-spec =
+pub segment-reported-spec : {M : Type 1} → statement M
+segment-reported-spec =
     tie.close
     (tie.spec
     sub-cells-at-requires
     cast-at
     mul-at
     add-at
-    mul-cells-passed
-    sub-cells-passed
-    part-cells-passed-start
-    part-cells-passed-end
-    cast-cells-passed
-    cells-passed-requires
+    mul-cells-reported
+    sub-cells-reported
+    part-cells-reported-start
+    part-cells-reported-end
+    cast-cells-reported
+    cells-reported-requires
     returns)

@@ -1,0 +1,109 @@
+// The distance of a take: the held items of all subs that it passes over, spacers not counted, each sub's in at most two straight
+// runs of cells.
+use crate::segments::held_segments;
+use image::CELL_WORDS;
+use image::Item;
+use image::cell_item;
+use image::sub_cells_at;
+use image::sub_of;
+use rules::Segment;
+use rules::Segments;
+use rules::Settings;
+use rules::Stamp;
+ghost use mathlib.Core.Path.{_≡_};
+ghost use Prim.Native.Nat.{_+_, _*_, _≤_, _<_};
+ghost use lib.ListN.{length};
+ghost use Rattle.rules.specs.Fit.{SubFits, FitPool};
+ghost use Rattle.rules.specs.Held.{reported, countItems};
+ghost use Rattle.rules.specs.Layout.{cellWords, subCellsAt, needed, firstOf, secondOf};
+ghost use Rattle.rules.specs.Limits.{Bounds, mostRows};
+ghost use Rattle.rules.specs.Segments.{Within, upFrom, segmentCells, cellsOf, cellItems, walkedSub, walkedDistance};
+
+// Whether the distance of a take of stamp `s` counts an item: no spacer, and older in a queue, newer in a stack.
+fn is_reported(kind: u32, s: Stamp, it: Item) -> bool
+    ensures { λ r. ⌜ r ≡ reported kind (s .0) (record { value = it .value; stamp = it .stamp .0 }) ⌝ }
+{
+    if it.value == 0 {
+        return false;
+    }
+    if kind == 0 {
+        it.stamp.0 < s.0
+    } else {
+        s.0 < it.stamp.0
+    }
+}
+
+// How many items of the first `count` cells the distance of a take of stamp `s` counts. A cell's value and stamp are read together,
+// before either is tested: where the test of one decides whether the other is read, the loop is not vector code.
+fn cells_reported(cells: &[u32], count: usize, kind: u32, s: Stamp) -> u32
+    requires { ⌜ (cellWords * count ≤ length (now cells)) × (count ≤ mostRows) ⌝ }
+    ensures { λ r. ⌜ (r ≡ countItems (reported kind (s .0)) (cellItems (now (cells .entry)) 0 (upFrom 0 count))) × (r ≤ count) ⌝ }
+{
+    let mut n: u32 = 0;
+    let mut k: usize = 0;
+    while k < count {
+        let it = cell_item(cells, CELL_WORDS * k);
+        if is_reported(kind, s, it) {
+            n += 1;
+        }
+        k += 1;
+    }
+    n
+}
+
+// The same of a segment of sub `j`.
+fn segment_reported(words: &[u32], g: Settings, j: u32, x: Segment, kind: u32, s: Stamp) -> u32
+    requires { ⌜ Bounds g ⌝ }
+    requires { ⌜ (needed g ≤ length (now words)) × (j < g .width) ⌝ }
+    requires { ⌜ x .start + x .count ≤ g .rows ⌝ }
+    ensures { λ r. ⌜ (r ≡ countItems (reported kind (s .0)) (cellItems (now (words .entry)) (subCellsAt g j) (segmentCells x))) × (r ≤ x .count) ⌝ }
+{
+    let at = sub_cells_at(g, j) + CELL_WORDS * (x.start as usize);
+    cells_reported(&words[at..], x.count as usize, kind, s)
+}
+
+// The same of both segments. Whether the second has cells is asked once, before the first is gone through: a sub with one alone
+// costs less so.
+fn segments_reported(words: &[u32], g: Settings, j: u32, x: Segments, kind: u32, s: Stamp) -> u32
+    requires { ⌜ Bounds g ⌝ }
+    requires { ⌜ (needed g ≤ length (now words)) × (j < g .width) ⌝ }
+    requires { ⌜ Within (g .rows) x ⌝ }
+    ensures { λ r. ⌜ (r ≡ countItems (reported kind (s .0)) (cellItems (now (words .entry)) (subCellsAt g j) (cellsOf x))) × (r ≤ mostRows) ⌝ }
+{
+    if x.second.count == 0 {
+        return segment_reported(words, g, j, x.first, kind, s);
+    }
+    segment_reported(words, g, j, x.first, kind, s)
+        + segment_reported(words, g, j, x.second, kind, s)
+}
+
+// How many held items of sub `j` the distance counts. Each call has its kind as a number, so that the compiler makes the loop of each kind, and
+// no cell asks for it.
+fn sub_reported(words: &[u32], g: Settings, j: u32, s: Stamp) -> u32
+    requires { ⌜ Bounds g ⌝ }
+    requires { ⌜ (needed g ≤ length (now words)) × (j < g .width) ⌝ }
+    requires { ⌜ SubFits g (firstOf (now words) j) (secondOf (now words) j) ⌝ }
+    ensures { λ r. ⌜ (r ≡ countItems (reported (g .kind) (s .0)) (walkedSub (now (words .entry)) g j)) × (r ≤ mostRows) ⌝ }
+{
+    let sub = sub_of(words, j);
+    let held = held_segments(g, sub);
+    if g.kind == 0 {
+        return segments_reported(words, g, j, held, 0, s);
+    }
+    segments_reported(words, g, j, held, 1, s)
+}
+
+// The distance of a take of stamp `s`.
+pub fn distance(words: &[u32], g: Settings, s: Stamp) -> u32
+    requires { ⌜ FitPool g (now words) ⌝ }
+    ensures { λ r. ⌜ r ≡ walkedDistance (now (words .entry)) g s ⌝ }
+{
+    let width = g.width;
+    let mut n: u32 = 0;
+    let mut j: u32 = 0;
+    while j < width {
+        n += sub_reported(words, g, j, s);
+        j += 1;
+    }
+    n
+}
