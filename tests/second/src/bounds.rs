@@ -1,7 +1,8 @@
 //! How many items a take may pass over, and how many are held at a "full".
 //! Demand 3's numbers are the ones that paper 01 uses (One at a time; number
 //! 30). For a stack there are closer ones: K14's, the sources', and the exact
-//! one.
+//! one. All of them count each item passed over, a spacer too (K4), and so they
+//! also stand above the distance, which counts no spacers.
 
 use crate::pool::settings::{Settings, QUEUE};
 
@@ -42,10 +43,11 @@ pub fn thesis_figure(settings: &Settings) -> u32 {
     in_other_subs(settings, depth + 2 * shift + back_in_reach)
 }
 
-/// The greatest distance of a take, over all runs from make with two workers
-/// or more: a queue's bound; in a stack what source 003 says, unless G is at
-/// its highest below that. G goes from d in shifts while it stays within R,
-/// which no source has.
+/// The most items that a take passes over, in all runs from make with two
+/// workers or more, and so the greatest distance, which it has where none of
+/// them is a spacer: a queue's bound; in a stack what source 003 says, unless G
+/// is at its highest below that. G goes from d in shifts while it stays within
+/// R, which no source has.
 pub fn worst_distance(settings: &Settings) -> u32 {
     let Settings { depth, shift, .. } = *settings;
     let shifts = (settings.rows - depth) / shift;

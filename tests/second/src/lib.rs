@@ -12,6 +12,7 @@ mod listing;
 mod one_at_a_time;
 mod pool;
 mod solo;
+mod spacer;
 mod stages;
 mod stretch;
 
@@ -28,4 +29,5 @@ pub use pool::segments::segments;
 pub use pool::settings::{Settings, QUEUE, STACK};
 pub use pool::{layout, phase};
 pub use solo::{solo_steps, solo_steps_bound};
+pub use spacer::SPACER;
 pub use stretch::{longest_stretch, stretch_bound};

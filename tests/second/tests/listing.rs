@@ -178,20 +178,36 @@ fn refused_calls_are_listed_and_the_run_goes_on() {
 }
 
 /// Worker 0 puts twice, worker 1 puts and takes: "a take at the bound".
-#[test]
-fn held_and_worst() {
+fn a_take_at_the_bound(values: [u32; 3]) -> Vec<u32> {
     let mut words = vec![0x10002042, 0x20001004];
+    let [first, second, third] = values;
     for (worker, begin) in [
-        (0, 0x30000005),
-        (0, 0x30000006),
-        (1, 0x30400007),
+        (0, 0x30000000 | first),
+        (0, 0x30000000 | second),
+        (1, 0x30400000 | third),
         (1, 0x40400000),
     ] {
         words.push(begin);
         words.extend([0x50000000 | worker << 22; 3]);
     }
     words.push(0x60000000);
+    words
+}
+
+#[test]
+fn held_and_worst() {
     let expected = "5 1 0 5 0 1 1 0\n9 1 0 6 0 2 2 0\n13 1 1 7 1 1 3 0\n\
                     17 2 1 7 1 1 3 2\nheld 2 worst 2\n";
-    assert_eq!(listing(&bytes(&words)), expected);
+    assert_eq!(listing(&bytes(&a_take_at_the_bound([5, 6, 7]))), expected);
+}
+
+/// A spacer is listed and held like any item; no distance counts it.
+#[test]
+fn spacers_are_held_and_not_in_the_worst() {
+    let expected = "5 1 0 0 0 1 1 0\n9 1 0 6 0 2 2 0\n13 1 1 0 1 1 3 0\n\
+                    17 2 1 0 1 1 3 1\nheld 2 worst 1\n";
+    assert_eq!(listing(&bytes(&a_take_at_the_bound([0, 6, 0]))), expected);
+    let expected = "5 1 0 0 0 1 1 0\n9 1 0 0 0 2 2 0\n13 1 1 7 1 1 3 0\n\
+                    17 2 1 7 1 1 3 0\nheld 2 worst 0\n";
+    assert_eq!(listing(&bytes(&a_take_at_the_bound([0, 0, 7]))), expected);
 }

@@ -162,11 +162,19 @@ fn a_full_needs_items() {
 
 /// So many puts, then a take of this stamp at this distance.
 fn a_take_of(items: u32, stamp: u32, distance: u32) -> Vec<Event> {
+    let values: Vec<u32> = (1..=items).collect();
+    a_take_among(&values, stamp, distance)
+}
+
+/// Puts of these values, then a take of this stamp at this distance.
+fn a_take_among(values: &[u32], stamp: u32, distance: u32) -> Vec<Event> {
     let mut events = Vec::new();
-    for put_stamp in 1..=items {
-        events.extend([begin_put(0, put_stamp), ends(0, put(put_stamp, put_stamp))]);
+    for (put_stamp, value) in (1..).zip(values) {
+        events.extend([begin_put(0, *value), ends(0, put(put_stamp, *value))]);
     }
-    events.extend([begin_take(0), ends(0, taken(stamp, stamp, distance))]);
+    // An item that is not there is begun with no value.
+    let value = values.get(stamp as usize - 1).copied().unwrap_or(0);
+    events.extend([begin_take(0), ends(0, taken(stamp, value, distance))]);
     events
 }
 
@@ -195,6 +203,51 @@ fn a_lower_number_allows_less() {
             let events = a_take_of(6, 6 - distance, distance);
             let placed = one_at_a_time(&pile, bound(&pile), &events).is_ok();
             assert_eq!(placed, distance <= most, "{distance} with {most} allowed");
+        }
+    }
+}
+
+/// Whether the list allows it where a take may pass over so many.
+fn allowed(settings: Settings, most_passed: u32, events: &[Event]) -> bool {
+    one_at_a_time(&settings, most_passed, events).is_ok()
+}
+
+#[test]
+fn the_limit_counts_spacers() {
+    // Queue w 2, d 1: at most 1 older; stack w 2, d 1, s 1: at most 4 newer. All
+    // passed over are spacers, so that 0 is reported whatever their number.
+    let pile = stack(2, 1, 1, 2, 1);
+    for taken_value in [0, 9] {
+        for passed in 0..8 {
+            let mut values = vec![0; passed];
+            values.push(taken_value);
+            let older = a_take_among(&values, passed as u32 + 1, 0);
+            assert_eq!(places(small(), &older).is_some(), passed <= 1);
+            values.rotate_right(1);
+            let newer = a_take_among(&values, 1, 0);
+            assert_eq!(places(pile, &newer).is_some(), passed <= 4);
+            for bound in [distance_bound, closer_distance_bound, worst_distance] {
+                let most = bound(&pile);
+                assert_eq!(allowed(pile, most, &newer), passed as u32 <= most);
+            }
+        }
+    }
+}
+
+#[test]
+fn the_reported_number_skips_spacers() {
+    // Of five items the middle one is taken, beside spacers and others.
+    let (line, pile) = (queue(3, 1, 2, 1), stack(2, 1, 1, 2, 1));
+    for bits in 0..32_u32 {
+        let values: Vec<u32> = (0..5).map(|k| (bits >> k & 1) * (k + 6)).collect();
+        let older = (bits & 3).count_ones();
+        let newer = (bits >> 3).count_ones();
+        for distance in 0..4 {
+            let events = a_take_among(&values, 3, distance);
+            assert_eq!(places(line, &events).is_some(), distance == older);
+            assert_eq!(places(pile, &events).is_some(), distance == newer);
+            // Two are passed over, whatever they are.
+            assert!(!allowed(line, 1, &events) && !allowed(pile, 1, &events));
         }
     }
 }

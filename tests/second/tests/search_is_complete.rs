@@ -41,14 +41,16 @@ impl List {
         }
     }
 
-    fn distance(&self, at: usize) -> u32 {
-        let older = self.items[..at].len() as u32;
-        let newer = self.items[at + 1..].len() as u32;
-        if self.settings.kind == QUEUE {
+    /// How many items are passed over, and how many of them are reported.
+    fn counts(&self, at: usize) -> (u32, u32) {
+        let (older, newer) = (&self.items[..at], &self.items[at + 1..]);
+        let ahead = if self.settings.kind == QUEUE {
             older
         } else {
             newer
-        }
+        };
+        let spacers = ahead.iter().filter(|(_, value)| *value == 0).count();
+        (ahead.len() as u32, (ahead.len() - spacers) as u32)
     }
 
     /// Every answer that the list allows to this operation now.
@@ -64,8 +66,9 @@ impl List {
             }
             Side::Take => {
                 for (at, (stamp, value)) in self.items.iter().enumerate() {
-                    if self.distance(at) <= self.most_passed {
-                        answers.push(taken_answer(*value, 0, 0, *stamp, self.distance(at)));
+                    let (passed_over, reported) = self.counts(at);
+                    if passed_over <= self.most_passed {
+                        answers.push(taken_answer(*value, 0, 0, *stamp, reported));
                     }
                 }
                 if held == 0 {
@@ -98,7 +101,8 @@ fn plan(numbers: &mut Numbers) -> (Vec<Planned>, Vec<Event>) {
         match open[worker] {
             None => {
                 let side = [Side::Put, Side::Take][numbers.below(2)];
-                let value = numbers.below(9) as u32;
+                // A third are spacers.
+                let value = numbers.below(9).saturating_sub(2) as u32;
                 open[worker] = Some((planned.len(), 1 + numbers.below(3)));
                 planned.push(Planned {
                     worker: worker as u32,

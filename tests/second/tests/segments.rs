@@ -5,7 +5,7 @@ mod common;
 
 use common::{made, queue, stack, Numbers};
 use second::phase::{Side, Stage};
-use second::{layout, segments, step, Settings, QUEUE, TAKEN};
+use second::{layout, segments, step, Settings, QUEUE, SPACER, TAKEN};
 use std::ops::Range;
 
 const TOP: u32 = u32::MAX;
@@ -88,7 +88,8 @@ fn every_sub(settings: &Settings) -> Vec<(u32, u32)> {
 }
 
 /// A pool of two subs, the first of which worker 0 is about to take from. Its
-/// stamps are few, so that beside each there are smaller, equal and greater ones.
+/// stamps are few, so that beside each there are smaller, equal and greater ones,
+/// and so are its values, a quarter of them spacers.
 fn before_a_take(settings: Settings, subs: [(u32, u32); 2], numbers: &mut Numbers) -> Vec<u32> {
     let mut words = made(settings);
     let [first, second] = subs.map(|(below, held)| sub_words(&settings, below, held));
@@ -98,24 +99,24 @@ fn before_a_take(settings: Settings, subs: [(u32, u32); 2], numbers: &mut Number
     // Items taken of a queue, the version of a stack.
     words[worker + layout::SEEN] = first[1];
     for cell in words[settings.cells_at()..].chunks_mut(layout::CELL_WORDS) {
+        cell[layout::CELL_VALUE] = numbers.below(4) as u32;
         cell[layout::CELL_STAMP] = numbers.below(8) as u32;
     }
     words
 }
 
-/// The stamps that count beside this one, gone through by segments.
+/// The items that count beside this stamp, gone through by segments.
 fn ahead(words: &[u32], subs: [(u32, u32); 2], stamp: u32) -> u32 {
     let settings = Settings::of_words(words);
-    let stamps = words[settings.cells_at()..].iter().skip(layout::CELL_STAMP);
-    let stamps: Vec<u32> = stamps.step_by(layout::CELL_WORDS).copied().collect();
+    let (cells, _) = words[settings.cells_at()..].as_chunks::<{ layout::CELL_WORDS }>();
     let mut ahead = 0;
-    for ((below, held), ring) in subs.into_iter().zip(stamps.chunks(settings.rows as usize)) {
+    for ((below, held), ring) in subs.into_iter().zip(cells.chunks(settings.rows as usize)) {
         for segment in segments(settings.rows, below, held) {
             let counted = run(ring, segment)
                 .iter()
-                .filter(|other| match settings.kind {
-                    QUEUE => **other < stamp,
-                    _ => **other > stamp,
+                .filter(|[value, other]| match settings.kind {
+                    QUEUE => *other < stamp && *value != SPACER,
+                    _ => *other > stamp && *value != SPACER,
                 });
             ahead += counted.count() as u32;
         }

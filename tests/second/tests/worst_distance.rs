@@ -4,9 +4,10 @@
 
 mod common;
 
+use common::passed::{small_stack, stack_at_the_bound};
 use common::{finish, made, put, queue, stack, take, taken_answer};
-use second::{begin_put, begin_take, step, worst_distance, Answer, Settings, MOVING};
 use second::{closer_distance_bound, distance_bound, framework_figure, thesis_figure};
+use second::{worst_distance, Settings};
 
 /// Demand 3's, K14's, source 001's, source 003's and the exact one.
 fn figures(settings: &Settings) -> [u32; 5] {
@@ -84,32 +85,12 @@ fn more_rows_never_lower_it() {
     }
 }
 
-/// Stack w 2, d 1, s 1, R 2. Worker 1 is about to take what it put first,
-/// and worker 0 fills the other sub to the highest window.
+/// Stack w 2, d 1, s 1, R 2, all values nonzero.
 #[test]
 fn a_run_to_the_worst_distance() {
-    let settings = stack(2, 1, 1, 2, 2);
-    let mut words = made(settings);
-    put(&mut words, 1, 5);
-    put(&mut words, 1, 6);
-    // Both subs are full: worker 0 comes to its shift.
-    begin_put(&mut words, 0, 7);
-    moves(&mut words, 0, 3);
-    assert_eq!(take(&mut words, 1).0, taken_answer(6, 0, 1, 2, 0));
-    // Sub 0 is empty: worker 1 comes to commit at sub 1.
-    begin_take(&mut words, 1);
-    moves(&mut words, 1, 4);
-    moves(&mut words, 0, 1);
-    finish(&mut words, 0);
-    put(&mut words, 0, 8);
-    assert_eq!(worst_distance(&settings), 2);
+    let mut words = stack_at_the_bound([7, 8], 5);
+    assert_eq!(worst_distance(&small_stack()), 2);
     assert_eq!(finish(&mut words, 1), (taken_answer(5, 1, 1, 1, 2), 1));
-}
-
-fn moves(words: &mut [u32], worker: u32, steps: u32) {
-    for _ in 0..steps {
-        assert_eq!(step(words, worker), Answer::of(MOVING));
-    }
 }
 
 /// With one worker nothing overlaps: in the same stack, in every list of 14

@@ -62,6 +62,7 @@ fn calls<R: Read, W: Write>(
             Call::Step { worker } => (worker, step(lent, worker)),
             Call::End => return Ok(worst),
         };
+        // By the distance, as number 30 says: it counts no spacers (K4).
         if answer.number == TAKEN && answer.distance > distance_bound(settings) {
             print(output, position, worker, &Answer::of(ABOVE_BOUND))?;
             return Err(Stop::AboveBound);

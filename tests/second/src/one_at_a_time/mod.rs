@@ -43,7 +43,8 @@ pub enum AtLast {
 
 /// The linearization points of a run in which no take passes over more items
 /// than `most_passed`, or why there are none. Demand 3's own claim has the
-/// number `distance_bound`; a lower one makes a stronger claim.
+/// number `distance_bound`; a lower one makes a stronger claim. Spacers are
+/// passed over like all items, and only the distance does not count them (K4).
 pub fn one_at_a_time(
     settings: &Settings,
     most_passed: u32,

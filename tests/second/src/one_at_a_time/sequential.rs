@@ -6,6 +6,7 @@ use crate::answer::{EMPTY, FULL, PUT, TAKEN};
 use crate::bounds::full_bound;
 use crate::pool::phase::Side;
 use crate::pool::settings::{Settings, QUEUE};
+use crate::spacer::SPACER;
 
 #[derive(Clone, Copy)]
 struct Item {
@@ -97,16 +98,31 @@ impl Sequential {
 
     /// "An item with the fed stamp must be there, with no more older ones
     /// (line) or newer ones (pile) than demand 3 allows", or than a closer
-    /// bound does.
+    /// bound does. Its value plays no part in either count.
     fn gives_item(&self, stamp: u32) -> Option<Given> {
         let at = self.find(stamp)?;
-        let ahead = if self.settings.kind == QUEUE {
-            at
+        let allowed = self.passed_over(at) <= self.most_passed;
+        allowed.then(|| (self.items[at].value, stamp, self.reported(at)))
+    }
+
+    /// K4: "the limit on items passed over still counts them all".
+    fn passed_over(&self, at: usize) -> u32 {
+        self.ahead_of(at).len() as u32
+    }
+
+    /// K4: "On the one-at-a-time list the reported number skips spacers".
+    fn reported(&self, at: usize) -> u32 {
+        let ahead = self.ahead_of(at).iter();
+        ahead.filter(|item| item.value != SPACER).count() as u32
+    }
+
+    /// The older items of a queue, the newer ones of a stack.
+    fn ahead_of(&self, at: usize) -> &[Item] {
+        if self.settings.kind == QUEUE {
+            &self.items[..at]
         } else {
-            self.items.len() - 1 - at
-        };
-        let distance = ahead as u32;
-        (distance <= self.most_passed).then(|| (self.items[at].value, stamp, distance))
+            &self.items[at + 1..]
+        }
     }
 
     fn find(&self, stamp: u32) -> Option<usize> {

@@ -1,7 +1,10 @@
 //! Paper 01, Distance: held items of all subs with a smaller stamp (queue) or
-//! a greater one (stack) just before the take.
+//! a greater one (stack) just before the take. K4: "Distance from now on counts
+//! held items whose value isn't 0. A spacer's own take has a distance too": the
+//! value of the item taken plays no part.
 
 use crate::pool::{layout, Pool};
+use crate::spacer::SPACER;
 
 pub(super) fn distance(pool: &Pool, stamp: u32) -> u32 {
     (0..pool.settings.width)
@@ -12,13 +15,14 @@ pub(super) fn distance(pool: &Pool, stamp: u32) -> u32 {
 fn ahead_in_sub(pool: &Pool, j: u32, stamp: u32) -> u32 {
     let mut ahead = 0;
     for row in held_rows(pool, j) {
+        let value = pool.cell(j, row, layout::CELL_VALUE);
         let other = pool.cell(j, row, layout::CELL_STAMP);
-        let counts = if pool.is_queue() {
+        let is_ahead = if pool.is_queue() {
             other < stamp
         } else {
             other > stamp
         };
-        ahead += u32::from(counts);
+        ahead += u32::from(is_ahead && value != SPACER);
     }
     ahead
 }

@@ -3,6 +3,7 @@
 
 pub mod dispatch;
 pub mod normal;
+pub mod passed;
 pub mod solo;
 pub mod states;
 pub mod stretch;
