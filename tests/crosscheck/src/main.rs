@@ -7,6 +7,7 @@ mod make_up;
 mod options;
 mod rng;
 mod side_by_side;
+mod take;
 mod tally;
 
 use options::{Options, USAGE};

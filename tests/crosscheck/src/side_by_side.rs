@@ -1,8 +1,9 @@
 //! One pool in as many copies as there are implementations: a call or a dispatch
 //! is made on each copy, and all words and all numbers must be equal afterwards.
 
-use crate::coverage::Coverage;
+use crate::coverage::{Coverage, Origin};
 use crate::failure::{Difference, Failure};
+use crate::make_up::values::Values;
 use second::{dispatch_watched, Answer, Dispatched};
 use sides::{Call, Dispatch, Implementation, COMPILED, FAST, SECOND};
 use std::fmt::Debug;
@@ -56,6 +57,8 @@ pub struct SideBySide {
     before: Vec<u32>,
     /// Nothing but calls since a make that was not refused.
     from_make: bool,
+    /// Of its cells or of its puts, where all of them are of one share.
+    values: Option<Values>,
 }
 
 impl SideBySide {
@@ -66,6 +69,14 @@ impl SideBySide {
             others: others.map(|other| (other, Copy::of(words))).collect(),
             before: words.to_vec(),
             from_make: false,
+            values: None,
+        }
+    }
+
+    pub fn with_values(words: &[u32], values: Values, checks: &Checks) -> SideBySide {
+        SideBySide {
+            values: Some(values),
+            ..SideBySide::new(words, checks)
         }
     }
 
@@ -82,9 +93,12 @@ impl SideBySide {
         }
         self.compare(call, answer, |other, words| other.call(words, call))?;
         self.from_make |= matches!(call, Call::Make(_)) && !answer.is_refusal();
-        let (before, after) = (&self.before, self.second.lent());
-        let coverage = &mut checks.coverage;
-        coverage.record(call, answer, before, after, self.from_make);
+        let words = [&self.before, self.second.lent()];
+        let origin = Origin {
+            from_make: self.from_make,
+            share: self.values.map(|values| values.share),
+        };
+        checks.coverage.record(call, answer, words, origin);
         Ok(answer)
     }
 

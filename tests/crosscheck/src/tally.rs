@@ -2,7 +2,7 @@
 
 use crate::cases::files::Lister;
 use crate::cases::runs::Runs;
-use crate::cases::{dispatch, images, makes, scripts, segments, solo, stretch, strides};
+use crate::cases::{dispatch, images, makes, scripts, segments, solo, spacers, stretch, strides};
 use crate::coverage::Coverage;
 use crate::failure::Failure;
 use crate::options::Options;
@@ -29,12 +29,12 @@ const DISPATCH: u64 = 7;
 const STRETCH: u64 = 8;
 const STRIDES: u64 = 9;
 const SEGMENTS: u64 = 10;
+const SPACERS: u64 = 11;
 
 pub struct Tally {
     checks: Checks,
     lister: Option<Lister>,
     images: u64,
-    scripts: u64,
     runs: Runs,
 }
 
@@ -50,7 +50,6 @@ impl Tally {
             },
             lister: options.lister.clone().map(Lister::new),
             images: 0,
-            scripts: 0,
             runs: Runs::default(),
         }
     }
@@ -103,14 +102,13 @@ impl Tally {
             }
             RUN_FILES => {
                 if let Some(lister) = &mut self.lister {
-                    let strides = &mut self.checks.coverage.strides;
-                    lister.run(rng, width_in_turn(case), strides)?;
+                    let coverage = &mut self.checks.coverage;
+                    lister.run(rng, width_in_turn(case), coverage)?;
                 }
             }
             OF_SCRIPTS => {
                 for _ in 0..SCRIPTS {
                     scripts::run(rng, &mut self.checks)?;
-                    self.scripts += 1;
                 }
             }
             SOLO => solo::run(rng, width_in_turn(case), &mut self.checks)?,
@@ -118,6 +116,7 @@ impl Tally {
             STRETCH => stretch::run(rng, width_in_turn(case), &mut self.checks)?,
             STRIDES => strides::run(rng, width_in_turn(case), &mut self.checks)?,
             SEGMENTS => segments::run(rng, width_in_turn(case), &mut self.checks)?,
+            SPACERS => spacers::run(rng, &mut self.checks)?,
             _ => self.runs.run(rng, &mut self.checks)?,
         }
         Ok(())
@@ -139,7 +138,7 @@ impl Tally {
             self.checks.coverage.calls,
             self.images,
             self.runs.runs,
-            self.scripts,
+            self.checks.coverage.worst_scripts,
             self.checks.coverage.solo.operations,
             self.checks.coverage.dispatches,
             self.lister.as_ref().map_or(0, |lister| lister.files),
@@ -156,8 +155,8 @@ impl Tally {
         let [queue, stack] = self.runs.percent_of_worst;
         let [queues, stacks] = self.runs.at_worst;
         println!(
-            "random runs: distances up to {queue} % of the worst one in queues, {stack} % in stacks; \
-             {queues} runs of queues and {stacks} of stacks came to it",
+            "random runs: takes pass over up to {queue} % of the worst distance in queues, {stack} % in \
+             stacks; {queues} runs of queues and {stacks} of stacks came to it",
         );
     }
 }

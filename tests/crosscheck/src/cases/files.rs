@@ -1,10 +1,13 @@
 //! Run files: the program `lister` beside the second implementation's lister,
 //! byte for byte.
 
-use crate::coverage::Strides;
+use crate::coverage::Coverage;
 use crate::failure::Failure;
 use crate::make_up::run_file;
+use crate::make_up::values::{Values, SHARES};
 use crate::rng::Rng;
+use crate::take::Take;
+use second::{QUEUE, STACK};
 use std::fs::{self, File};
 use std::path::{Path, PathBuf};
 use std::process::{self, Command};
@@ -29,9 +32,14 @@ impl Lister {
         }
     }
 
-    /// A random run file whole, damaged, cut and with bytes after its end; and one
-    /// of a pool of this width with each stride.
-    pub fn run(&mut self, rng: &mut Rng, width: u32, strides: &mut Strides) -> Result<(), Failure> {
+    /// A random run file whole, damaged, cut and with bytes after its end; one of a
+    /// pool of this width with each stride; and a script with each share of spacers.
+    pub fn run(
+        &mut self,
+        rng: &mut Rng,
+        width: u32,
+        coverage: &mut Coverage,
+    ) -> Result<(), Failure> {
         let file = run_file::whole(rng);
         self.compare(&file)?;
         for _ in 0..6 {
@@ -51,9 +59,23 @@ impl Lister {
         }
         for (bits, file) in run_file::of_every_stride(rng, width) {
             self.compare(&file)?;
-            strides.record_file(width, bits);
+            coverage.strides.record_file(width, bits);
         }
+        self.run_scripts(rng, coverage)?;
         fs::remove_file(&self.input).map_err(|error| self.trouble(&error.to_string()))
+    }
+
+    /// To the worst distance, of each kind with each share of spacers.
+    fn run_scripts(&mut self, rng: &mut Rng, coverage: &mut Coverage) -> Result<(), Failure> {
+        for kind in [QUEUE, STACK] {
+            for share in SHARES {
+                let (file, words, last) = run_file::of_share(rng, kind, Values { share });
+                self.compare(&file)?;
+                let take = Take::of_script(&words, &last).map_err(|what| self.trouble(&what))?;
+                coverage.spacers.record_file(&take, share);
+            }
+        }
+        Ok(())
     }
 
     fn compare(&mut self, file: &[u8]) -> Result<(), Failure> {

@@ -1,45 +1,61 @@
 //! A run from make on all implementations: its calls, and then the same run one
 //! at a time.
 
+use super::events::{at_last_steps, event};
 use crate::failure::Failure;
 use crate::make_up::junk;
+use crate::make_up::values::Values;
 use crate::rng::Rng;
 use crate::side_by_side::{Checks, SideBySide};
-use second::phase::Side;
+use crate::take::Take;
 use second::{layout, longest_stretch, one_at_a_time, worst_distance};
-use second::{Answer, Dispatched, Event, Placed, Settings, QUEUE, STEP_LIMIT};
+use second::{Answer, Dispatched, Event, Placed, Settings, QUEUE, STEP_LIMIT, TAKEN};
 use sides::{Call, Dispatch};
 
 pub struct FromMake {
     /// What a failure calls it.
     name: &'static str,
     pub settings: Settings,
+    /// Those of its puts.
+    pub values: Values,
     pools: SideBySide,
     events: Vec<Event>,
-    /// The greatest distance of a take so far.
-    pub greatest: u32,
+    /// The most items that a take has passed over so far, spacers too.
+    pub most_passed: u32,
     /// Steps since the last final answer, and the most of them so far.
     pub stretch: u32,
     pub longest: u32,
 }
 
 impl FromMake {
-    /// Words that held junk, made into a pool; some are lent beyond the needed.
+    /// With any share of spacers.
     pub fn new(
         name: &'static str,
         rng: &mut Rng,
         settings: Settings,
         checks: &mut Checks,
     ) -> Result<FromMake, Failure> {
+        let values = Values::new(rng);
+        FromMake::with_values(name, rng, (settings, values), checks)
+    }
+
+    /// Words that held junk, made into a pool; some are lent beyond the needed.
+    pub fn with_values(
+        name: &'static str,
+        rng: &mut Rng,
+        (settings, values): (Settings, Values),
+        checks: &mut Checks,
+    ) -> Result<FromMake, Failure> {
         let len = settings.needed_words() + rng.pick(&[0, 0, 1, 7]);
-        let mut pools = SideBySide::new(&junk::words(rng, len), checks);
+        let mut pools = SideBySide::with_values(&junk::words(rng, len), values, checks);
         pools.call(Call::Make(settings), checks)?;
         Ok(FromMake {
             name,
             settings,
+            values,
             pools,
             events: Vec::new(),
-            greatest: 0,
+            most_passed: 0,
             stretch: 0,
             longest: 0,
         })
@@ -73,7 +89,10 @@ impl FromMake {
 
     /// In a queue no stretch may be longer than the figure.
     fn note_step(&mut self, answer: Answer) -> Result<(), Failure> {
-        self.greatest = self.greatest.max(answer.distance);
+        if answer.number == TAKEN {
+            let passed_over = Take::of(self.words(), &answer).passed_over;
+            self.most_passed = self.most_passed.max(passed_over);
+        }
         if answer.is_final() {
             self.stretch = 0;
         } else if !answer.is_refusal() {
@@ -92,18 +111,36 @@ impl FromMake {
     pub fn leave_steps(&mut self, left: u32, checks: &Checks) {
         let mut words = self.words().to_vec();
         words[layout::STEPS_COUNTED] = STEP_LIMIT - left;
-        self.pools = SideBySide::new(&words, checks);
+        self.pools = SideBySide::with_values(&words, self.values, checks);
     }
 
     /// With the worst distance in the place of demand 3's bound, which is a
-    /// greater one: no take may pass over more.
+    /// greater one: no take may pass over more. Also at the last steps, where the
+    /// list holds what the pool held: spacers leave the search other places, at
+    /// which a take may pass over less of them.
     pub fn one_at_a_time(&self) -> Result<Placed, Failure> {
         let worst = worst_distance(&self.settings);
-        one_at_a_time(&self.settings, worst, &self.events).map_err(|why| {
-            if self.greatest > worst {
+        let placed = self.placed(worst, &self.events)?;
+        let at_last_steps = at_last_steps(&self.events);
+        self.placed(worst, &at_last_steps)?;
+        // The list's limit counts all items, whatever their values.
+        match self.most_passed.checked_sub(1) {
+            Some(one_less) if self.placed(one_less, &at_last_steps).is_ok() => {
+                let passed = self.most_passed;
+                Err(self.said(&format!(
+                    "one at a time: {one_less} items are the limit, and {passed} may be passed over"
+                )))
+            }
+            _ => Ok(placed),
+        }
+    }
+
+    fn placed(&self, most_passed: u32, events: &[Event]) -> Result<Placed, Failure> {
+        one_at_a_time(&self.settings, most_passed, events).map_err(|why| {
+            if self.most_passed > most_passed {
                 self.said(&format!(
-                    "distance {} is above the worst one, {worst}; one at a time: {why}",
-                    self.greatest
+                    "a take passes over {} items, and {most_passed} is the most; one at a time: {why}",
+                    self.most_passed
                 ))
             } else {
                 self.said(&format!("one at a time: {why}"))
@@ -114,20 +151,5 @@ impl FromMake {
     /// A failure of this run, with its settings.
     pub fn said(&self, what: &str) -> Failure {
         Failure::Said(format!("{} with {:?}: {what}", self.name, self.settings))
-    }
-}
-
-fn event(call: Call, answer: Answer) -> Event {
-    let begin = |worker, side, value| Event::Begin {
-        worker,
-        side,
-        value,
-        answer,
-    };
-    match call {
-        Call::BeginPut { worker, value } => begin(worker, Side::Put, value),
-        Call::BeginTake { worker } => begin(worker, Side::Take, 0),
-        Call::Step { worker } => Event::Step { worker, answer },
-        Call::Make(_) => unreachable!("a run has one make, its first call"),
     }
 }

@@ -1,6 +1,7 @@
 //! The sorts of cases.
 
 pub mod dispatch;
+mod events;
 pub mod files;
 mod from_make;
 pub mod images;
@@ -10,5 +11,6 @@ pub mod runs;
 pub mod scripts;
 pub mod segments;
 pub mod solo;
+pub mod spacers;
 pub mod stretch;
 pub mod strides;

@@ -16,7 +16,7 @@ pub fn play(
     checks: &mut Checks,
 ) -> Result<Answer, Failure> {
     let mut last = Answer::of(MOVING);
-    while let Some(call) = script.next(rng, run.words()) {
+    while let Some(call) = script.next(rng, run.words(), run.values) {
         last = run.call(call, checks)?;
     }
     Ok(last)
@@ -30,9 +30,9 @@ pub fn play_disturbed(
     mut script: Script,
     checks: &mut Checks,
 ) -> Result<(), Failure> {
-    let mut others = Schedule::new(rng, run.settings, Numbers::Any);
+    let mut others = Schedule::new(rng, run.settings, Numbers::Any, run.values);
     let others_percent = rng.pick(&[1, 4, 10]);
-    while let Some(call) = script.next(rng, run.words()) {
+    while let Some(call) = script.next(rng, run.words(), run.values) {
         run.call(call, checks)?;
         if rng.chance(others_percent) {
             let call = others.next(rng, run.words());

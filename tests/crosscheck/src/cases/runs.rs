@@ -4,6 +4,7 @@ use super::from_make::FromMake;
 use crate::failure::Failure;
 use crate::make_up::schedule::{Numbers, Schedule};
 use crate::make_up::settings::{within, Size};
+use crate::make_up::values::Values;
 use crate::rng::Rng;
 use crate::side_by_side::Checks;
 use second::{worst_distance, Settings};
@@ -15,9 +16,9 @@ pub struct Runs {
     pub operations: u64,
     /// Runs in which some put or take cannot stand at its last step.
     pub changed_early: u64,
-    /// How many percent of the worst distance a take has reached, by kind.
+    /// How many percent of the worst distance a take has passed over, by kind.
     pub percent_of_worst: [u32; 2],
-    /// How many runs had a take at the worst distance, by kind.
+    /// How many runs had a take that passed over all of it, by kind.
     pub at_worst: [u64; 2],
 }
 
@@ -30,32 +31,43 @@ impl Runs {
         self.runs += 1;
         self.operations += placed.events.len() as u64;
         self.changed_early += u64::from(placed.returns > 0);
-        self.note_distance(&settings, run.greatest);
+        self.note_passed(&settings, run.most_passed);
         checks.coverage.places.record(&settings, &placed);
         checks.coverage.stretch.record_run(&settings, run.longest);
         Ok(())
     }
 
-    /// In a pool of one sub every distance is 0 and tells nothing.
-    fn note_distance(&mut self, settings: &Settings, greatest: u32) {
+    /// In a pool of one sub no take passes over anything, which tells nothing.
+    fn note_passed(&mut self, settings: &Settings, most: u32) {
         let kind = settings.kind as usize;
         let worst = worst_distance(settings);
-        if let Some(percent) = (greatest * 100).checked_div(worst) {
+        if let Some(percent) = (most * 100).checked_div(worst) {
             self.percent_of_worst[kind] = percent.max(self.percent_of_worst[kind]);
-            self.at_worst[kind] += u64::from(greatest == worst);
+            self.at_worst[kind] += u64::from(most == worst);
         }
     }
 }
 
-/// So many calls under a random schedule.
+/// So many calls under a random schedule, with any share of spacers.
 pub fn random_run(
     rng: &mut Rng,
     settings: Settings,
     calls: u32,
     checks: &mut Checks,
 ) -> Result<FromMake, Failure> {
-    let mut run = FromMake::new("random run", rng, settings, checks)?;
-    let mut schedule = Schedule::new(rng, settings, Numbers::Any);
+    let values = Values::new(rng);
+    random_run_of(rng, (settings, values), calls, checks)
+}
+
+/// With these values.
+pub fn random_run_of(
+    rng: &mut Rng,
+    (settings, values): (Settings, Values),
+    calls: u32,
+    checks: &mut Checks,
+) -> Result<FromMake, Failure> {
+    let mut run = FromMake::with_values("random run", rng, (settings, values), checks)?;
+    let mut schedule = Schedule::new(rng, settings, Numbers::Any, values);
     for _ in 0..calls {
         let call = schedule.next(rng, run.words());
         run.call(call, checks)?;

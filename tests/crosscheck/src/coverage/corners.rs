@@ -69,7 +69,8 @@ fn moved(seen: &Seen) -> bool {
 
 /// The two words of the sub at the worker's index.
 fn sub<'a>(seen: &Seen<'a>) -> &'a [u32] {
-    seen.sub(seen.worker[layout::INDEX])
+    let at = seen.settings.subs_at() + layout::SUB_WORDS * seen.worker[layout::INDEX] as usize;
+    &seen.before[at..at + layout::SUB_WORDS]
 }
 
 fn bare(seen: &Seen) -> bool {

@@ -5,8 +5,8 @@
 //! beside a solo operation, and the most steps of one; each corner of a
 //! dispatch, and the most steps of a stretch; a lost commit with each stride of
 //! each width, and the refusals for the stride alone; each corner of the segments
-//! that a distance goes through; and an empty of each kind that cannot stand at
-//! its last step.
+//! that a distance goes through; each corner of the spacers that it does not count;
+//! and an empty of each kind that cannot stand at its last step.
 
 mod corners;
 mod counts;
@@ -17,9 +17,12 @@ mod places;
 mod scripts;
 mod segments;
 mod solo;
+mod spacers;
 mod stretch;
 mod strides;
+mod takes;
 
+use crate::take::Take;
 use corners::CORNERS;
 use counts::Counts;
 use dispatch::DISPATCHES;
@@ -27,12 +30,22 @@ use numbers::Numbers;
 use phases::Phases;
 use places::Places;
 use scripts::SCRIPTS;
-use second::{layout, Answer, Dispatched, Settings, UNFIT};
+use second::{layout, Answer, Dispatched, Settings, TAKEN, UNFIT};
 use segments::Segments;
 use sides::{Call, Dispatch, SECOND};
 use solo::Solo;
+use spacers::Spacers;
 use stretch::Stretch;
-pub use strides::Strides;
+use strides::Strides;
+
+/// Where the words before a call come from.
+#[derive(Clone, Copy)]
+pub struct Origin {
+    /// Nothing but calls since a make that was not refused.
+    pub from_make: bool,
+    /// How many percent of the values are spacers, where they are of one share.
+    pub share: Option<u32>,
+}
 
 /// A call on a fit pool that was not refused, or only by its commit.
 struct Seen<'a> {
@@ -43,22 +56,14 @@ struct Seen<'a> {
     after: &'a [u32],
     phase_after: u32,
     answer: Answer,
-    /// Nothing but calls since a make that was not refused.
-    from_make: bool,
-}
-
-impl<'a> Seen<'a> {
-    /// The two words of sub j before.
-    fn sub(&self, j: u32) -> &'a [u32] {
-        let at = self.settings.subs_at() + layout::SUB_WORDS * j as usize;
-        &self.before[at..at + layout::SUB_WORDS]
-    }
 }
 
 #[derive(Default)]
 pub struct Coverage {
     pub calls: u64,
     pub dispatches: u64,
+    /// Scripts that came to the worst distance.
+    pub worst_scripts: u64,
     numbers: Numbers,
     phases: Phases,
     corners: Counts<{ CORNERS.len() }>,
@@ -68,17 +73,18 @@ pub struct Coverage {
     pub stretch: Stretch,
     pub strides: Strides,
     segments: Segments,
+    pub spacers: Spacers,
     pub places: Places,
 }
 
 impl Coverage {
+    /// The words are those before and after the call.
     pub fn record(
         &mut self,
         call: Call,
         answer: Answer,
-        before: &[u32],
-        after: &[u32],
-        from_make: bool,
+        [before, after]: [&[u32]; 2],
+        origin: Origin,
     ) {
         self.calls += 1;
         let (name, worker) = match call {
@@ -110,12 +116,15 @@ impl Coverage {
             after,
             phase_after: after[at + layout::PHASE],
             answer,
-            from_make,
         };
         self.phases.record(&seen);
         self.strides.record(&seen);
-        self.segments.record(&seen);
         self.corners.add(CORNERS.map(|(_, reached)| reached(&seen)));
+        if answer.number == TAKEN {
+            let take = Take::of(before, &answer);
+            self.segments.record(&take, origin);
+            self.spacers.record(&take, origin);
+        }
     }
 
     pub fn record_dispatch(
@@ -153,6 +162,7 @@ impl Coverage {
         missing.extend(self.stretch.report());
         missing.extend(self.strides.report());
         missing.extend(self.segments.report());
+        missing.extend(self.spacers.report());
         missing.extend(self.places.report());
         missing
     }

@@ -1,6 +1,7 @@
 //! The acts of a script: in each one worker goes on, with puts alone or takes
 //! alone, until something is so.
 
+use super::values::Values;
 use super::workers::Workers;
 use crate::rng::Rng;
 use second::phase::{Side, Stage};
@@ -84,16 +85,16 @@ impl Act {
         }
     }
 
-    pub fn next(&self, rng: &mut Rng, workers: &Workers) -> Call {
+    pub fn next(&self, rng: &mut Rng, workers: &Workers, values: Values) -> Call {
         let worker = self.worker;
         if !workers.is_idle(worker) {
             return Call::Step { worker };
         }
         match self.side {
-            // A run file holds values of 22 bits.
+            // A run file may hold the script.
             Side::Put => Call::BeginPut {
                 worker,
-                value: rng.below(1 << 22),
+                value: values.of_run_file(rng),
             },
             Side::Take => Call::BeginTake { worker },
         }

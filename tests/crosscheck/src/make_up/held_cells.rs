@@ -1,8 +1,9 @@
 //! Images for the distance of a take: its subs' held cells begin and end where a
-//! segment (K2) does, and the stamps of all cells, held or not, are on either
-//! side of the taken one.
+//! segment (K2) does, the stamps of all cells, held or not, are on either side of
+//! the taken one, and so are their values, but for the spacers (K4).
 
 use super::image;
+use super::values::Values;
 use crate::rng::Rng;
 use second::phase::{Side, Stage};
 use second::{layout, Settings, QUEUE};
@@ -24,6 +25,7 @@ const ONE_AFTER_LAST: Ring = |rng, rows| {
 };
 const FULL: Ring = |_, rows| (0, rows);
 const FULL_IN_TWO: Ring = |rng, rows| (rng.between(1, rows - 1), rows);
+const ONE: Ring = |rng, rows| (rng.below(rows), 1);
 
 /// A sub of which an item is taken.
 const WITH_ITEMS: [Ring; 7] = [
@@ -37,23 +39,42 @@ const WITH_ITEMS: [Ring; 7] = [
 ];
 
 /// A fit image, and its worker whose next step takes an item.
-pub fn image(rng: &mut Rng, settings: &Settings) -> (Vec<u32>, u32) {
+pub fn image(rng: &mut Rng, settings: &Settings, values: Values) -> (Vec<u32>, u32) {
+    with_rings(rng, settings, values, |rng, is_taken_from| {
+        let with_items = rng.pick(&WITH_ITEMS);
+        if !is_taken_from && rng.chance(20) {
+            EMPTY
+        } else {
+            with_items
+        }
+    })
+}
+
+/// The same with one item in each sub: few are passed over, and often all of them
+/// are spacers.
+pub fn of_one_item_each(rng: &mut Rng, settings: &Settings, values: Values) -> (Vec<u32>, u32) {
+    with_rings(rng, settings, values, |_, _| ONE)
+}
+
+/// By which ring each sub has, and whether the item is taken from it.
+fn with_rings(
+    rng: &mut Rng,
+    settings: &Settings,
+    values: Values,
+    ring: impl Fn(&mut Rng, bool) -> Ring,
+) -> (Vec<u32>, u32) {
     let mut words = image::of(rng, settings);
     words[layout::STEPS_COUNTED] = rng.below(100);
     let index = rng.below(settings.width);
     for j in 0..settings.width {
-        let with_items = rng.pick(&WITH_ITEMS);
-        let ring = if j != index && rng.chance(20) {
-            EMPTY
-        } else {
-            with_items
-        };
+        let ring = ring(rng, j == index);
         let at = settings.subs_at() + layout::SUB_WORDS * j as usize;
         sub(rng, settings, &mut words[at..], ring);
     }
     let worker = rng.below(settings.workers);
     before_the_take(settings, &mut words, worker, index);
-    stamps(rng, settings, &mut words);
+    let cells = settings.cells_at()..settings.needed_words();
+    fill(rng, &mut words[cells], values);
     (words, worker)
 }
 
@@ -82,11 +103,18 @@ fn before_the_take(settings: &Settings, words: &mut [u32], worker: u32, index: u
     words[at + layout::SEEN] = seen;
 }
 
-/// All of them near one, that of the taken cell among them.
-fn stamps(rng: &mut Rng, settings: &Settings, words: &mut [u32]) {
+/// All stamps near one, that of the taken cell among them; values near it too, or
+/// anywhere.
+fn fill(rng: &mut Rng, cells: &mut [u32], values: Values) {
     let any = rng.between(2, u32::MAX - 2);
     let middle = rng.pick(&[2, u32::MAX - 2, any]);
-    for cell in words[settings.cells_at()..settings.needed_words()].chunks_mut(layout::CELL_WORDS) {
-        cell[layout::CELL_STAMP] = rng.between(middle - 2, middle + 2);
+    let near = |rng: &mut Rng| rng.between(middle - 2, middle + 2);
+    for cell in cells.chunks_mut(layout::CELL_WORDS) {
+        cell[layout::CELL_STAMP] = near(rng);
+        cell[layout::CELL_VALUE] = if rng.chance(50) {
+            values.spacer_or(rng, near)
+        } else {
+            values.word(rng)
+        };
     }
 }

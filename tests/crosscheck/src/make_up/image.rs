@@ -4,6 +4,7 @@
 
 use super::junk;
 use super::settings::{within, Size};
+use super::values::Values;
 use crate::rng::Rng;
 use second::phase;
 use second::{layout, Settings, QUEUE};
@@ -37,12 +38,23 @@ pub fn of(rng: &mut Rng, settings: &Settings) -> Vec<u32> {
         let at = settings.workers_at() + layout::WORKER_WORDS * i;
         worker(rng, settings, &mut words, at);
     }
-    if rng.chance(80) {
-        for stamp in words[settings.cells_at()..].iter_mut().skip(1).step_by(2) {
-            *stamp %= 16;
+    cells(
+        rng,
+        &mut words[settings.cells_at()..settings.needed_words()],
+    );
+    words
+}
+
+/// Stamps mostly near each other, and values of some share of spacers.
+fn cells(rng: &mut Rng, words: &mut [u32]) {
+    let values = Values::new(rng);
+    let near = rng.chance(80);
+    for cell in words.chunks_mut(layout::CELL_WORDS) {
+        cell[layout::CELL_VALUE] = values.word(rng);
+        if near {
+            cell[layout::CELL_STAMP] %= 16;
         }
     }
-    words
 }
 
 /// A fit image with one word changed, mostly one that the check reads.

@@ -14,5 +14,6 @@ pub mod schedule;
 pub mod script;
 pub mod settings;
 mod turns;
+pub mod values;
 mod workers;
 pub mod worst_distance;

@@ -2,10 +2,11 @@
 
 use super::schedule::{Numbers, Schedule};
 use super::settings::{any, of_script, of_stride, within, Size};
+use super::values::Values;
 use super::{lost_commit, worst_distance};
 use crate::rng::Rng;
 use second::phase::Side;
-use second::{Settings, QUEUE, STACK};
+use second::{Answer, Settings, QUEUE, STACK};
 use sides::{Call, SECOND};
 
 /// Mostly a run under a schedule; some have no call, some play a script.
@@ -19,9 +20,16 @@ pub fn whole(rng: &mut Rng) -> Vec<u8> {
 
 /// A run whose distances may come up to the worst one.
 fn scripted_file(rng: &mut Rng) -> Vec<u8> {
-    let settings = of_script(rng);
+    let values = Values::new(rng);
+    of_share(rng, STACK, values).0
+}
+
+/// A script to the worst distance with these values: the file, and the words and
+/// the answer that its last call leaves.
+pub fn of_share(rng: &mut Rng, kind: u32, values: Values) -> (Vec<u8>, Vec<u32>, Answer) {
+    let settings = of_script(rng, kind);
     let mut script = worst_distance::script(settings);
-    of_run(settings, |words| script.next(rng, words))
+    of_run(settings, |words| script.next(rng, words, values))
 }
 
 fn scheduled_file(rng: &mut Rng) -> Vec<u8> {
@@ -32,11 +40,11 @@ fn scheduled_file(rng: &mut Rng) -> Vec<u8> {
         _ => (Size::Small, rng.between(1, 27)),
     };
     let settings = within(rng, size);
-    let mut schedule = Schedule::new(rng, settings, Numbers::OfRunFile);
+    let values = Values::new(rng);
+    let mut schedule = Schedule::new(rng, settings, Numbers::OfRunFile, values);
     let mut left = 0..calls;
-    of_run(settings, |words| {
-        left.next().map(|_| schedule.next(rng, words))
-    })
+    let next = |words: &[u32]| left.next().map(|_| schedule.next(rng, words));
+    of_run(settings, next).0
 }
 
 /// A run of a pool of this width in which a commit fails, with values of the first
@@ -47,7 +55,8 @@ pub fn of_every_stride(rng: &mut Rng, width: u32) -> Vec<(u32, Vec<u8>)> {
     let settings = of_stride(rng, kind, width, 0);
     let side = rng.pick(&[Side::Put, Side::Take]);
     let mut script = lost_commit::script(rng, settings, side);
-    let file = of_run(settings, |words| script.next(rng, words));
+    let values = Values::new(rng);
+    let (file, ..) = of_run(settings, |words| script.next(rng, words, values));
     let spare_bits = (1..16).map(|spare| (spare << 4) | (width + spare) % 16);
     let with = |bits: u32| {
         let mut file = file.clone();
@@ -58,16 +67,20 @@ pub fn of_every_stride(rng: &mut Rng, width: u32) -> Vec<(u32, Vec<u8>)> {
     (0..16).chain(spare_bits).map(with).collect()
 }
 
-/// The calls that follow a make, each made up from the words before it.
-fn of_run(settings: Settings, mut next: impl FnMut(&[u32]) -> Option<Call>) -> Vec<u8> {
+/// The calls that follow a make, each made up from the words before it; the words
+/// and the answer that the last one leaves.
+fn of_run(
+    settings: Settings,
+    mut next: impl FnMut(&[u32]) -> Option<Call>,
+) -> (Vec<u8>, Vec<u32>, Answer) {
     let mut words = vec![0; settings.needed_words()];
-    SECOND.call(&mut words, Call::Make(settings));
+    let mut last = SECOND.call(&mut words, Call::Make(settings));
     let mut run = Vec::new();
     while let Some(call) = next(&words) {
-        SECOND.call(&mut words, call);
+        last = SECOND.call(&mut words, call);
         run.push(call);
     }
-    encode(&settings, &run)
+    (encode(&settings, &run), words, last)
 }
 
 /// Settings that a header can hold, within limits or off.

@@ -2,6 +2,7 @@
 
 use super::junk;
 use super::turns::Turns;
+use super::values::Values;
 use super::workers::Workers;
 use crate::rng::Rng;
 use second::Settings;
@@ -18,6 +19,7 @@ pub enum Numbers {
 pub struct Schedule {
     settings: Settings,
     numbers: Numbers,
+    values: Values,
     turns: Turns,
     put_percent: u32,
     /// How many calls a mood for puts or takes lasts, about.
@@ -27,7 +29,7 @@ pub struct Schedule {
 }
 
 impl Schedule {
-    pub fn new(rng: &mut Rng, settings: Settings, numbers: Numbers) -> Schedule {
+    pub fn new(rng: &mut Rng, settings: Settings, numbers: Numbers, values: Values) -> Schedule {
         let workers = Workers {
             settings: &settings,
             words: &[],
@@ -37,6 +39,7 @@ impl Schedule {
         Schedule {
             settings,
             numbers,
+            values,
             turns: Turns::new(rng, &workers),
             put_percent: rng.pick(&[50, 90, 100]),
             mood: rng.pick(&[20, to_fill / 2 + 1, to_fill * 2]),
@@ -82,14 +85,11 @@ impl Schedule {
         if !rng.chance(put_percent) {
             return Call::BeginTake { worker };
         }
-        let value = junk::word(rng);
-        match self.numbers {
-            Numbers::Any => Call::BeginPut { worker, value },
-            Numbers::OfRunFile => Call::BeginPut {
-                worker,
-                value: value >> 10,
-            },
-        }
+        let value = match self.numbers {
+            Numbers::Any => self.values.word(rng),
+            Numbers::OfRunFile => self.values.of_run_file(rng),
+        };
+        Call::BeginPut { worker, value }
     }
 
     /// A call that may be refused: of a busy, an idle or no worker.

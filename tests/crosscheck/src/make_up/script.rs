@@ -2,6 +2,7 @@
 //! fails, so they do with every stride.
 
 use super::acts::Act;
+use super::values::Values;
 use super::workers::Workers;
 use crate::rng::Rng;
 use second::Settings;
@@ -27,15 +28,16 @@ impl Script {
         }
     }
 
-    /// The next call on a pool with these words; none after the last act, or
-    /// when the script is stuck.
-    pub fn next(&mut self, rng: &mut Rng, words: &[u32]) -> Option<Call> {
+    /// The next call on a pool with these words, a put of one of the values; none
+    /// after the last act, or when the script is stuck.
+    pub fn next(&mut self, rng: &mut Rng, words: &[u32], values: Values) -> Option<Call> {
         let workers = Workers {
             settings: &self.settings,
             words,
         };
         while self.acts.next_if(|act| act.is_over(&workers)).is_some() {}
         self.calls_left = self.calls_left.checked_sub(1)?;
-        self.acts.peek().map(|act| act.next(rng, &workers))
+        let act = self.acts.peek()?;
+        Some(act.next(rng, &workers, values))
     }
 }

@@ -25,20 +25,37 @@ pub fn within(rng: &mut Rng, size: Size) -> Settings {
     of_kind(rng, kind, size)
 }
 
-/// A stack with the workers that a script needs.
-pub fn of_script(rng: &mut Rng) -> Settings {
+/// With the workers that a script to the worst distance needs.
+pub fn of_script(rng: &mut Rng, kind: u32) -> Settings {
     let size = match rng.below(10) {
         0 => Size::Large,
         1..=5 => Size::Medium,
         _ => Size::Small,
     };
-    let settings = of_kind(rng, STACK, size);
+    let settings = of_kind(rng, kind, size);
+    if kind == QUEUE {
+        return settings;
+    }
     // Few rows are the limit of a script more often than many.
     let fewer_rows = rng.between(2 * settings.depth, settings.rows);
     Settings {
         rows: rng.pick(&[settings.rows, fewer_rows]),
         workers: settings.workers.max(2),
         ..settings
+    }
+}
+
+/// The same with the smallest worst distance above 0: one item in a queue, two in
+/// a stack.
+pub fn of_least_script(rng: &mut Rng, kind: u32) -> Settings {
+    Settings {
+        kind,
+        width: 2,
+        depth: 1,
+        shift: 1,
+        rows: 2,
+        workers: rng.between(2, 4),
+        stride: rng.below(2),
     }
 }
 

@@ -1,9 +1,13 @@
-//! A script that brings a take of any stack to its worst distance. Two workers
-//! play it; any others never step.
+//! A script that brings a take of any pool to its worst distance: it passes over
+//! as many items as can be, spacers or not. Two workers of a stack play it, one of
+//! a queue; any others never step.
 //!
-//! The taker comes to stand before the commit that takes one item of the last
-//! sub, x. The filler then moves the window up once more and fills the other
-//! subs. It starts at sub 0 and never comes to the last one, so the commit
+//! In a queue the filler fills the window of all subs but the last one, then puts
+//! an item there, and takes it.
+//!
+//! In a stack the taker comes to stand before the commit that takes one item of
+//! the last sub, x. The filler then moves the window up once more and fills the
+//! other subs. It starts at sub 0 and never comes to the last one, so the commit
 //! still succeeds; and the other subs were empty once with x in its place, so
 //! all that they hold is newer.
 //!
@@ -13,19 +17,36 @@
 //! left for the end. With rows for one shift alone, that is the one for the
 //! end, and x is in row d.
 
-use super::acts::{puts, takes, Until};
+use super::acts::{puts, takes, Act, Until};
 use super::script::Script;
 use second::phase::Stage;
-use second::Settings;
+use second::{Settings, QUEUE};
 
 /// From make it stands at sub 0.
 const FILLER: u32 = 0;
 /// From make it stands at sub 1: the first time, it fills sub 0 last.
 const TAKER: u32 = 1;
 
-/// Of a stack with two workers or more.
+/// Of a queue, or of a stack with two workers or more.
 pub fn script(settings: Settings) -> Script {
-    let Settings { depth, shift, .. } = settings;
+    let acts = match settings.kind {
+        QUEUE => of_queue(),
+        _ => of_stack(&settings),
+    };
+    Script::new(settings, acts)
+}
+
+fn of_queue() -> Vec<Act> {
+    vec![
+        puts(FILLER, Until::OthersFull),
+        puts(FILLER, Until::LastHolds(1)),
+        takes(FILLER, Until::Before(Stage::Commit)),
+        takes(FILLER, Until::Idle),
+    ]
+}
+
+fn of_stack(settings: &Settings) -> Vec<Act> {
+    let Settings { depth, shift, .. } = *settings;
     let shifts = (settings.rows - depth) / shift;
     let window_after = |shifts| Until::WindowIs(depth + shift * shifts);
     // The filler finds no room and is left where its next step is a shift.
@@ -53,5 +74,5 @@ pub fn script(settings: Settings) -> Script {
     acts.push(puts(FILLER, window_after(shifts_made + 1)));
     acts.push(puts(FILLER, Until::OthersFull));
     acts.push(takes(TAKER, Until::Idle));
-    Script::new(settings, acts)
+    acts
 }

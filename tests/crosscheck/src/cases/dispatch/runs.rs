@@ -15,7 +15,7 @@ pub fn run(rng: &mut Rng, kind: u32, checks: &mut Checks) -> Result<(), Failure>
     let (size, calls) = size(rng);
     let settings = of_kind(rng, kind, size);
     let mut run = FromMake::new("run with dispatches", rng, settings, checks)?;
-    let mut schedule = Schedule::new(rng, settings, Numbers::Any);
+    let mut schedule = Schedule::new(rng, settings, Numbers::Any, run.values);
     let percent = rng.pick(&[1, 5, 30]);
     // Now and then, and at the end.
     let look_every = calls / 6 + 1;

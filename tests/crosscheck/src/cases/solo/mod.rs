@@ -7,8 +7,8 @@ mod stops;
 
 use super::from_make::FromMake;
 use crate::failure::Failure;
-use crate::make_up::junk;
 use crate::make_up::schedule::{Numbers, Schedule};
+use crate::make_up::values::Values;
 use crate::rng::Rng;
 use crate::side_by_side::Checks;
 use second::phase::Side;
@@ -40,8 +40,8 @@ fn operation(
     checks: &mut Checks,
 ) -> Result<u32, Failure> {
     checks.coverage.solo.record_begin(run.words(), worker);
-    run.call(begin(rng, worker, side), checks)?;
-    let others = Schedule::new(rng, run.settings, Numbers::Any);
+    run.call(begin(rng, worker, side, run.values), checks)?;
+    let others = Schedule::new(rng, run.settings, Numbers::Any, run.values);
     let others_percent = rng.pick(&[0, 0, 40]);
     let figure = solo_steps(&run.settings, side);
     let who = format!("{side:?} of worker {worker} left by itself").to_lowercase();
@@ -62,11 +62,11 @@ fn operation(
     Err(run.said(&format!("{who}: no answer in {figure} steps")))
 }
 
-fn begin(rng: &mut Rng, worker: u32, side: Side) -> Call {
+fn begin(rng: &mut Rng, worker: u32, side: Side, values: Values) -> Call {
     match side {
         Side::Put => Call::BeginPut {
             worker,
-            value: junk::word(rng),
+            value: values.word(rng),
         },
         Side::Take => Call::BeginTake { worker },
     }

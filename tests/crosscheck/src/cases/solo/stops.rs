@@ -79,7 +79,7 @@ fn stop_one_by_one(
                 break;
             }
             if answer.number == IDLE {
-                run.call(begin(rng, worker, side), checks)?;
+                run.call(begin(rng, worker, side, run.values), checks)?;
             }
         }
     }

@@ -1,13 +1,14 @@
 //! The corners of a sub that a distance goes through (K2): where its segments
-//! begin and end, and a stamp there by which a cell more or less would be seen.
+//! begin and end, and an item there by which a cell more or less would be seen; a
+//! spacer would not show it.
 
-use super::sub::Sub;
+use crate::take::Sub;
 
 pub struct Corner {
     pub name: &'static str,
     pub is_so: fn(&Sub) -> bool,
-    /// 2 where it takes a sub beside that of the taken cell, whose own stamp does
-    /// not count.
+    /// 2 where it takes a sub beside that of the taken cell, which does not count
+    /// itself.
     pub least_width: usize,
     /// Whether a run from make comes to it. In a queue from make all stamps that
     /// count are in the take window, whose d rows are in a straight run: none is in

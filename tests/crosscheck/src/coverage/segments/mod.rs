@@ -2,22 +2,15 @@
 //! width, how many takes came to each corner, in runs from make and in images.
 
 mod corners;
-mod sub;
 
 use super::phases::kind_name;
-use super::Seen;
+use super::takes::Takes;
+use super::Origin;
+use crate::take::Take;
 use corners::{Corner, OF_QUEUES, OF_STACKS};
-use second::{QUEUE, STACK, TAKEN};
-use sub::Sub;
+use second::{QUEUE, STACK};
 
 const WIDTHS: usize = 16;
-
-/// How many takes, in runs from make and in images.
-#[derive(Clone, Copy, Default)]
-struct Takes {
-    from_make: u64,
-    in_images: u64,
-}
 
 /// By corner and width, from 1 on.
 struct ByWidth<const N: usize>([[Takes; WIDTHS]; N]);
@@ -29,13 +22,10 @@ pub struct Segments {
 }
 
 impl Segments {
-    pub(super) fn record(&mut self, seen: &Seen) {
-        if seen.answer.number != TAKEN {
-            return;
-        }
-        match seen.settings.kind {
-            QUEUE => self.of_queues.record(&OF_QUEUES, seen),
-            _ => self.of_stacks.record(&OF_STACKS, seen),
+    pub fn record(&mut self, take: &Take, origin: Origin) {
+        match take.settings.kind {
+            QUEUE => self.of_queues.record(&OF_QUEUES, take, origin),
+            _ => self.of_stacks.record(&OF_STACKS, take, origin),
         }
     }
 
@@ -55,17 +45,10 @@ impl<const N: usize> Default for ByWidth<N> {
 }
 
 impl<const N: usize> ByWidth<N> {
-    fn record(&mut self, corners: &[Corner; N], seen: &Seen) {
-        let width = seen.settings.width;
-        let subs: Vec<Sub> = (0..width).map(|j| Sub::of(seen, j)).collect();
+    fn record(&mut self, corners: &[Corner; N], take: &Take, origin: Origin) {
         for (by_width, corner) in self.0.iter_mut().zip(corners) {
-            let takes = &mut by_width[width as usize - 1];
-            let reached = u64::from(subs.iter().any(corner.is_so));
-            if seen.from_make {
-                takes.from_make += reached;
-            } else {
-                takes.in_images += reached;
-            }
+            let takes = &mut by_width[take.subs.len() - 1];
+            takes.add(origin, take.subs.iter().any(corner.is_so));
         }
     }
 
@@ -89,7 +72,7 @@ fn report_corner(
     let least = corner.least_width;
     let mut parts = Vec::new();
     for (width, takes) in (least..).zip(&by_width[least - 1..]) {
-        parts.push(format!("{width}: {}/{}", takes.from_make, takes.in_images));
+        parts.push(format!("{width}: {takes}"));
         if takes.in_images == 0 {
             missing.push(format!("{name}, in an image of width {width}"));
         }

@@ -1,0 +1,41 @@
+//! The calls of a run from make as events of demand 3's list.
+
+use second::phase::Side;
+use second::{Answer, Event, PUT, TAKEN};
+use sides::Call;
+use std::collections::BTreeMap;
+
+pub fn event(call: Call, answer: Answer) -> Event {
+    let begin = |worker, side, value| Event::Begin {
+        worker,
+        side,
+        value,
+        answer,
+    };
+    match call {
+        Call::BeginPut { worker, value } => begin(worker, Side::Put, value),
+        Call::BeginTake { worker } => begin(worker, Side::Take, 0),
+        Call::Step { worker } => Event::Step { worker, answer },
+        Call::Make(_) => unreachable!("a run has one make, its first call"),
+    }
+}
+
+/// The puts and the takes alone, each begun right before its last step: so nothing
+/// overlaps, and there is one order for them.
+pub fn at_last_steps(events: &[Event]) -> Vec<Event> {
+    let mut begun = BTreeMap::new();
+    let mut at_last_steps = Vec::new();
+    for event in events {
+        match *event {
+            Event::Begin { worker, answer, .. } if !answer.is_refusal() => {
+                begun.insert(worker, *event);
+            }
+            Event::Step { worker, answer } if [PUT, TAKEN].contains(&answer.number) => {
+                at_last_steps.extend(begun.remove(&worker));
+                at_last_steps.push(*event);
+            }
+            _ => {}
+        }
+    }
+    at_last_steps
+}

@@ -1,0 +1,26 @@
+//! How many takes came to a corner, in runs from make and in images.
+
+use super::Origin;
+use std::fmt;
+
+#[derive(Clone, Copy, Default)]
+pub struct Takes {
+    pub from_make: u64,
+    pub in_images: u64,
+}
+
+impl Takes {
+    pub fn add(&mut self, origin: Origin, reached: bool) {
+        let takes = match origin.from_make {
+            true => &mut self.from_make,
+            false => &mut self.in_images,
+        };
+        *takes += u64::from(reached);
+    }
+}
+
+impl fmt::Display for Takes {
+    fn fmt(&self, to: &mut fmt::Formatter) -> fmt::Result {
+        write!(to, "{}/{}", self.from_make, self.in_images)
+    }
+}
