@@ -54,7 +54,7 @@ const fn lister_fault(
     }
 }
 
-pub const FAULTS: [Fault; 34] = [
+pub const FAULTS: [Fault; 41] = [
     trap(
         "empty after one pass, without confirm",
         "stages/read.rs",
@@ -168,6 +168,48 @@ pub const FAULTS: [Fault; 34] = [
         "stages/distance.rs",
         "(1..=pool.items(j))",
         "(1..=pool.items(j) + pool.items(j) / pool.settings.rows)",
+    ),
+    trap(
+        "spacers counted in the distance",
+        "stages/distance.rs",
+        "is_ahead && value != SPACER",
+        "is_ahead",
+    ),
+    trap(
+        "a spacer's own take reports 0",
+        "stages/commit.rs",
+        "distance: distance(pool, stamp),",
+        "distance: match pool.cell(sub, row, layout::CELL_VALUE) {\n            0 => 0,\n            _ => distance(pool, stamp),\n        },",
+    ),
+    trap(
+        "a distance that compares values with the stamp",
+        "stages/distance.rs",
+        "let other = pool.cell(j, row, layout::CELL_STAMP);",
+        "let other = pool.cell(j, row, layout::CELL_VALUE);",
+    ),
+    trap(
+        "a distance that leaves out stamp 0 for value 0",
+        "stages/distance.rs",
+        "let value = pool.cell(j, row, layout::CELL_VALUE);",
+        "let value = pool.cell(j, row, layout::CELL_STAMP);",
+    ),
+    trap(
+        "a distance that leaves out value 1 too",
+        "stages/distance.rs",
+        "value != SPACER",
+        "value > SPACER + 1",
+    ),
+    trap(
+        "a one-at-a-time list that reports spacers",
+        "one_at_a_time/sequential.rs",
+        "ahead.filter(|item| item.value != SPACER).count()",
+        "ahead.count()",
+    ),
+    trap(
+        "a one-at-a-time list whose limit leaves out spacers",
+        "one_at_a_time/sequential.rs",
+        "self.passed_over(at) <= self.most_passed",
+        "self.reported(at) <= self.most_passed",
     ),
     fault(
         "a failed commit keeps its index",
