@@ -2,7 +2,8 @@
  * Two archives of the library beside each other in one process: time per call, before / after, on the same operations and equal words. Built by
  * beside.sh, which gives each archive's functions a prefix of their own. A round makes OPERATIONS puts, each followed by a take, with one archive and then
  * with the other; the order changes from round to round. Each number is the median of the rounds, and a ratio the median of the rounds' ratios.
- * The second archive makes the pools of both, so that the first may be one whose make has no stride.
+ * The second archive makes the pools of both, so that the first may be one whose make has no stride. No value is 0, so that the first may be one
+ * that counts spacers in a distance too: the answers of both are compared as well as the words.
  */
 #include "pool.h"
 #include <stdio.h>
@@ -31,7 +32,7 @@ typedef struct {
 
 static const Library libraries[2] = {{before_begin_put, before_begin_take, before_step}, {after_begin_put, after_begin_take, after_step}};
 
-static uint32_t words[2][POOL_MAX_WORDS], fields[POOL_FIELDS];
+static uint32_t words[2][POOL_MAX_WORDS], fields[POOL_FIELDS], answers[2];
 
 static double nanoseconds(void) {
     struct timespec now;
@@ -54,8 +55,14 @@ static uint32_t take(const Library *library, uint32_t *pool, size_t len, uint32_
     return calls;
 }
 
+/* A sum over all fields of all takes' answers, in which each place counts otherwise. */
+static uint32_t with_answer(uint32_t sum) {
+    for (int at = 0; at < POOL_FIELDS; at++) { sum = 31 * sum + fields[at]; }
+    return sum;
+}
+
 /* Time per call of a round's puts and of its takes. */
-static void measured(const Library *library, uint32_t *pool, size_t len, uint32_t workers, double *puts, double *takes) {
+static void measured(const Library *library, uint32_t *pool, size_t len, uint32_t workers, double *puts, double *takes, uint32_t *answered) {
     double put_time = 0, take_time = 0;
     uint32_t put_calls = 0, take_calls = 0;
     for (uint32_t at = 0; at < OPERATIONS; at++) {
@@ -65,6 +72,7 @@ static void measured(const Library *library, uint32_t *pool, size_t len, uint32_
         take_calls += take(library, pool, len, at % workers);
         put_time += between - start;
         take_time += nanoseconds() - between;
+        *answered = with_answer(*answered);
     }
     *puts = put_time / put_calls;
     *takes = take_time / take_calls;
@@ -107,11 +115,11 @@ int main(void) {
             for (int round = 0; round < ROUNDS; round++) {
                 for (int turn = 0; turn < 2; turn++) {
                     int side = (round + turn) % 2;
-                    measured(&libraries[side], words[side], len, workers, &puts[side][round], &takes[side][round]);
+                    measured(&libraries[side], words[side], len, workers, &puts[side][round], &takes[side][round], &answers[side]);
                 }
             }
-            if (memcmp(words[0], words[1], 4 * len) != 0) {
-                fprintf(stderr, "the words differ\n");
+            if (memcmp(words[0], words[1], 4 * len) != 0 || answers[0] != answers[1]) {
+                fprintf(stderr, "the words or the answers differ\n");
                 return 1;
             }
             printf("| %s | %u | %u | %u |", kind == POOL_QUEUE ? "queue" : "stack", width, workers, held);

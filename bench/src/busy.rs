@@ -2,6 +2,7 @@
 //! begins the next, a take after a put and a put after a take. Recorded once on
 //! the second implementation, like the other workloads.
 
+use crate::spacers::{value, SHARE};
 use crate::workload::held;
 use second::layout::{PHASE, STEPS_COUNTED, VALUE, WORKER_WORDS};
 use second::{Settings, PUT, TAKEN};
@@ -69,7 +70,7 @@ pub fn busy(settings: &Settings, items: u32, steps: u32) -> Busy {
 
 fn begin(words: &mut [u32], settings: &Settings, worker: u32, put: bool) -> Begin {
     let call = if put {
-        let value = words[STEPS_COUNTED];
+        let value = value(1 + words[STEPS_COUNTED], SHARE);
         Call::BeginPut { worker, value }
     } else {
         Call::BeginTake { worker }

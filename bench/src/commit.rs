@@ -3,9 +3,10 @@
 use crate::again::{walk_again, Again};
 use crate::image::spread;
 use crate::side::Compiled;
-use crate::walks::{by_rows, in_runs, plain_read, Held};
+use crate::spacers::value;
+use crate::walks::{by_rows, in_runs, read_cells, read_words, Held};
 use second::layout::SEEN;
-use second::{Answer, Settings, MOVING, TAKEN};
+use second::{Answer, Settings, MOVING, QUEUE, SPACER, TAKEN};
 use sides::{Call, COMPILED, SECOND};
 
 /// The step that takes an item where `before_commit` leads.
@@ -35,15 +36,12 @@ pub struct Commit {
 }
 
 impl Commit {
-    /// Every way to count is checked to give the distance.
-    pub fn of(settings: Settings, items: u32) -> Commit {
-        let words = before_commit(spread(&settings, items));
+    /// So many of a hundred items are spacers.
+    pub fn of(settings: Settings, items: u32, share: u32) -> Commit {
+        let words = before_commit(spread(&settings, items, share));
         let answer = step(&words);
-        let (stamp, distance) = (answer.stamp, answer.distance);
-        let held = Held::of(&settings, &words);
-        assert!(answer.number == TAKEN && distance.abs_diff(items / 2) <= 1);
-        assert!([by_rows, in_runs].map(|count| count(&held, stamp)) == [distance; 2]);
-        assert!(plain_read(&held) == items * (items + 1) / 2);
+        let stamp = answer.stamp;
+        check(&Held::of(&settings, &words), &answer, items, share);
         let mut late = words.clone();
         late[settings.workers_at() + SEEN] -= 1;
         assert!(step(&late).number == MOVING);
@@ -83,4 +81,24 @@ fn step(words: &[u32]) -> Answer {
     let answer = SECOND.call(&mut second, STEP);
     assert!(COMPILED.call(&mut compiled, STEP) == answer && compiled == second);
     answer
+}
+
+/// About half of the items are passed over. Every way to count gives the distance, and
+/// every way to read the sum of all values and stamps.
+fn check(held: &Held, answer: &Answer, items: u32, share: u32) {
+    let stamp = answer.stamp;
+    let passed = if held.kind == QUEUE {
+        1..stamp
+    } else {
+        stamp + 1..items + 1
+    };
+    assert!(answer.number == TAKEN && passed.len().abs_diff(items as usize / 2) <= 1);
+    let items = (1..=items).map(|number| [value(number, share), number]);
+    let counts = items
+        .clone()
+        .map(|[value, number]| u32::from(value != SPACER && passed.contains(&number)));
+    let distances = [answer.distance, by_rows(held, stamp), in_runs(held, stamp)];
+    assert!(distances == [counts.sum(); 3]);
+    let sum = items.flatten().sum();
+    assert!([read_cells(held), read_words(held)] == [sum; 2]);
 }

@@ -1,58 +1,96 @@
-//! What it costs that stamps lie two words apart: sums and counts of them beside
-//! those of words that lie one after the other.
+//! What a loop over cells pays for: the values beside the stamps alone, and that
+//! stamps lie two words apart, beside words that lie one after the other.
 
 use crate::again::{per_call, walk_again};
 use crate::image::{largest, spread};
+use crate::loops::{
+    count_by_branches, count_of_cells, count_of_stamps, count_of_words, sum_of_cells,
+    sum_of_stamps, sum_of_words,
+};
 use crate::measure::{in_turn, medians};
-use crate::walks::{count_of_stamps, count_of_words, sum_of_stamps, sum_of_words};
+use crate::spacers::SHARE;
 use second::QUEUE;
+use std::array::from_fn;
 use std::hint::black_box;
 
 /// Calls timed per round and way.
 const CALLS: u32 = 500;
-/// Stamps gone through.
-const STAMPS: u32 = 4_096;
+/// Cells gone through.
+const CELLS: u32 = 4_096;
 
 const TEXT: &str = "\
-Stamps are every second word of the cells. Nanoseconds for a sum of 4,096 stamps that lie
-in one run, and for a count of those below one of them, in loops of Rust's; beside them
-the same of as many words that lie one after the other. What the stamps take more is for
-the gather of every second word. All words: the same of all 8,192 words of these cells.
+Nanoseconds for loops of Rust's over 4,096 cells in one run, one in ten a spacer's.
 
-| loop | stamps | as many words | stamps / words | for the gather | all words |
-|---|---:|---:|---:|---:|---:|";
+- Value and stamp: the sum of both; the count of stamps below one of them (queue) or above
+  it (stack) whose value is not 0, which is the distance's loop.
+- Stamp alone: the same of every second word, whatever the values.
+- As many words: the same of 4,096 words that lie one after the other.
+- For the values, for the gather: what value and stamp take more than the stamp alone, and
+  the stamp alone more than as many words, as shares of the first column; each is the
+  median of the rounds' shares.
+- All words: the same of all 8,192 words of these cells, as they lie.
+
+| loop | value and stamp | stamp alone | as many words | for the values | for the gather \
+| all words |
+|---|---:|---:|---:|---:|---:|---:|";
 
 pub fn table() {
     println!("{TEXT}");
     let settings = largest(QUEUE, 4);
-    let words = spread(&settings, STAMPS);
+    let words = spread(&settings, CELLS, SHARE);
     let rounds = rounds(&words[settings.cells_at()..]);
-    let print = |name, of: fn([f64; 6]) -> [f64; 3]| {
-        let [stamps, few, ratio, share, all] = medians(&rounds, |times| {
-            let [stamps, few, all] = of(times);
-            let share = 100.0 * (stamps - few) / stamps;
-            [stamps, few, stamps / few, share, all]
+    for (row, name) in ["sum", "count, queue", "count, stack"].iter().enumerate() {
+        let [both, stamps, few, values, gather, all] = medians(&rounds, |times| {
+            let [both, stamps, few, all] = from_fn(|at| times[4 * row + at]);
+            let share = |more: f64| 100.0 * more / both;
+            let (values, gather) = (share(both - stamps), share(stamps - few));
+            [both, stamps, few, values, gather, all]
         });
-        println!("| {name} | {stamps:.0} | {few:.0} | {ratio:.2} | {share:.0}% | {all:.0} |");
-    };
-    print("sum", |[stamps, few, all, ..]| [stamps, few, all]);
-    print("count", |[.., stamps, few, all]| [stamps, few, all]);
-    println!();
+        println!(
+            "| {name} | {both:.0} | {stamps:.0} | {few:.0} | {values:.0}% | {gather:.0}% | {all:.0} |"
+        );
+    }
+    let [queue, stack] = medians(&rounds, |times| {
+        [times[12] / times[4], times[13] / times[8]]
+    });
+    println!(
+        "\nWhere a stamp is read only if the value is not 0, the count is not vector code, and takes\n\
+         {queue:.1} times as long (queue) and {stack:.1} times (stack).\n"
+    );
 }
 
-/// Times of the sum of the stamps, of as many words and of all; then of the counts.
-fn rounds(cells: &[u32]) -> Vec<[f64; 6]> {
-    let few = &cells[..STAMPS as usize];
-    let stamp = black_box(STAMPS / 2);
-    let below = |other| other < stamp;
+/// Times of the sums, of a queue's counts and of a stack's: each of the cells, of the
+/// stamps alone, of as many words and of all. Then of both counts with a branch.
+fn rounds(cells: &[u32]) -> Vec<[f64; 14]> {
+    let stamp = black_box(CELLS / 2);
+    let older = |other| other < stamp;
+    let newer = |other| other > stamp;
     in_turn(|way| {
         per_call(CALLS, |n| match way {
-            0 => walk_again(cells, sum_of_stamps, n),
-            1 => walk_again(few, sum_of_words, n),
-            2 => walk_again(cells, sum_of_words, n),
-            3 => walk_again(cells, |cells| count_of_stamps(cells, below), n),
-            4 => walk_again(few, |words| count_of_words(words, below), n),
-            _ => walk_again(cells, |words| count_of_words(words, below), n),
+            0..4 => sums(cells, way, n),
+            4..8 => counts(cells, older, way % 4, n),
+            8..12 => counts(cells, newer, way % 4, n),
+            12 => walk_again(cells, |cells| count_by_branches(cells, older), n),
+            _ => walk_again(cells, |cells| count_by_branches(cells, newer), n),
         })
     })
+}
+
+fn sums(cells: &[u32], of: usize, calls: u32) {
+    match of {
+        0 => walk_again(cells, sum_of_cells, calls),
+        1 => walk_again(cells, sum_of_stamps, calls),
+        2 => walk_again(&cells[..CELLS as usize], sum_of_words, calls),
+        _ => walk_again(cells, sum_of_words, calls),
+    }
+}
+
+fn counts(cells: &[u32], passes: impl Fn(u32) -> bool, of: usize, calls: u32) {
+    let words = |words: &[u32]| count_of_words(words, &passes);
+    match of {
+        0 => walk_again(cells, |cells| count_of_cells(cells, &passes), calls),
+        1 => walk_again(cells, |cells| count_of_stamps(cells, &passes), calls),
+        2 => walk_again(&cells[..CELLS as usize], words, calls),
+        _ => walk_again(cells, words, calls),
+    }
 }

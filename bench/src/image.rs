@@ -1,8 +1,9 @@
 //! A pool written directly: puts from make fill a queue's subs from the first cell
 //! on, and only with takes between them do they go past the last.
 
+use crate::spacers::value;
 use crate::tables::settings;
-use second::layout::{CELL_WORDS, PUTS_MADE, PUT_WINDOW, SUB_WORDS};
+use second::layout::{CELL_STAMP, CELL_VALUE, CELL_WORDS, PUTS_MADE, PUT_WINDOW, SUB_WORDS};
 use second::{Settings, QUEUE};
 use sides::{Call, SECOND};
 
@@ -18,9 +19,10 @@ pub fn largest(kind: u32, width: u32) -> Settings {
 }
 
 /// A pool that holds so many items, spread evenly over the subs: in a queue past the
-/// last cell and on from the first, in a stack from the first cell on. A take of sub 0
-/// passes over about half of them. A cell that is not held has a stamp that would count.
-pub fn spread(settings: &Settings, items: u32) -> Vec<u32> {
+/// last cell and on from the first, in a stack from the first cell on. So many of a
+/// hundred are spacers. A take of sub 0 passes over about half of them all. A cell that
+/// is not held has a value and a stamp that would count.
+pub fn spread(settings: &Settings, items: u32, share: u32) -> Vec<u32> {
     assert!(items.is_power_of_two() && items.is_multiple_of(settings.width));
     let held = items / settings.width;
     let mut words = vec![0; settings.needed_words()];
@@ -35,17 +37,25 @@ pub fn spread(settings: &Settings, items: u32) -> Vec<u32> {
     };
     words[PUT_WINDOW..][..2].copy_from_slice(&windows);
     let (subs_at, cells_at) = (settings.subs_at(), settings.cells_at());
-    words[cells_at..].fill(junk);
+    for cell in words[cells_at..].chunks_exact_mut(CELL_WORDS) {
+        write(cell, u32::MAX, junk);
+    }
     for j in 0..settings.width {
         words[subs_at + SUB_WORDS * j as usize..][..SUB_WORDS].copy_from_slice(&sub);
         for next in 0..held {
             let mixed = MIX.wrapping_mul(held * j + next);
             let stamp = 1 + mixed.wrapping_add(items / 2) % items;
             let cell = settings.rows * j + nth(settings, sub, next);
-            words[cells_at + CELL_WORDS * cell as usize..][..CELL_WORDS].fill(stamp);
+            let at = cells_at + CELL_WORDS * cell as usize;
+            write(&mut words[at..], value(stamp, share), stamp);
         }
     }
     words
+}
+
+fn write(cell: &mut [u32], value: u32, stamp: u32) {
+    cell[CELL_VALUE] = value;
+    cell[CELL_STAMP] = stamp;
 }
 
 /// Which of a sub's cells has the item that so many takes of the sub come before.

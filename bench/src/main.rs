@@ -9,10 +9,13 @@ mod dispatching;
 mod distance;
 mod gather;
 mod image;
+mod loops;
 mod machine;
 mod measure;
 mod reading;
+mod shares;
 mod side;
+mod spacers;
 mod tables;
 mod walks;
 mod workload;
@@ -43,7 +46,10 @@ fn all() {
     println!(
         "- Workers take turns with whole operations, each from its begin to its answer, but for"
     );
-    println!("  dispatches. A take's last step counts its distance over all held items.\n");
+    println!(
+        "  dispatches. A take's last step counts its distance over all held items; one item in"
+    );
+    println!("  ten is a spacer, of value 0, which does not count.\n");
     tables::all_sizes();
     tables::growth();
     dispatching::table();
@@ -53,5 +59,6 @@ fn all() {
 
 fn distances() {
     distance::table();
+    shares::table();
     gather::table();
 }

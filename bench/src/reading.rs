@@ -4,10 +4,10 @@
 
 use crate::again::{per_call, walk_again, Again};
 use crate::commit::{before_commit, STEP};
+use crate::loops::sum_of_words;
 use crate::measure::{median, ROUNDS};
 use crate::side::{Compiled, Fast};
 use crate::tables::{settings, CELLS, KINDS};
-use crate::walks::{sum_of_stamps, sum_of_words};
 use crate::workload::held;
 use second::layout::CELL_WORDS;
 use second::Settings;
@@ -21,13 +21,7 @@ const CALLS: u32 = 2_000;
 struct Case {
     words: Vec<u32>,
     again: Again,
-    reads: Reads,
-}
-
-enum Reads {
-    All(Range<usize>),
-    /// The second word of each cell.
-    Stamps(Range<usize>),
+    reads: Range<usize>,
 }
 
 pub fn table() {
@@ -41,7 +35,10 @@ pub fn table() {
     println!(
         "the same words. A call that names no worker shows the check alone; the last step of a"
     );
-    println!("take, the distance.\n");
+    println!(
+        "take, the distance. The words of held items are added up as they lie, values and stamps"
+    );
+    println!("alike.\n");
     println!("| kind | what | for each | compiled | fast | reading |");
     println!("|---|---|---|---:|---:|---:|");
     for (kind, name) in KINDS {
@@ -74,7 +71,7 @@ fn check(settings: &Settings) -> Case {
     let words = held(settings, 256);
     let worker = settings.workers;
     let again = Again::of(&words, Call::Step { worker });
-    let reads = Reads::All(0..settings.cells_at());
+    let reads = 0..settings.cells_at();
     Case {
         words,
         again,
@@ -87,7 +84,7 @@ fn distance(settings: &Settings, items: u32) -> Case {
     let words = before_commit(held(settings, items));
     let again = Again::of(&words, STEP);
     let cells = settings.cells_at();
-    let reads = Reads::Stamps(cells..cells + CELL_WORDS * items as usize);
+    let reads = cells..cells + CELL_WORDS * items as usize;
     Case {
         words,
         again,
@@ -105,9 +102,8 @@ fn times(case: &mut Case) -> [f64; 3] {
     [
         per_call(CALLS, |n| again.make(&mut Compiled::default(), words, n)),
         per_call(CALLS, |n| again.make(&mut Fast, words, n)),
-        per_call(CALLS, |n| match reads {
-            Reads::All(range) => walk_again(&words[range.clone()], sum_of_words, n),
-            Reads::Stamps(range) => walk_again(&words[range.clone()], sum_of_stamps, n),
+        per_call(CALLS, |n| {
+            walk_again(&words[reads.clone()], sum_of_words, n)
         }),
     ]
 }

@@ -1,20 +1,21 @@
-//! Walks through a pool's held cells: the distance of a take in two ways, and a
-//! plain read of the same stamps. Each is a function of its own in the compiled
-//! code, so that its loop can be found there.
+//! Walks through a pool's held cells: the distance of a take in two ways, and the
+//! same cells read in two ways. Each is a function of its own in the compiled code,
+//! so that its loop can be found there.
 
-use second::layout::{CELL_STAMP, CELL_WORDS, SUB_WORDS};
+use crate::loops::{count_of_cells, counted, sum_of_cells, sum_of_words};
+use second::layout::{CELL_WORDS, SUB_WORDS};
 use second::{Settings, QUEUE};
 
 /// What a walk goes through.
 pub struct Held<'a> {
-    kind: u32,
+    pub kind: u32,
     rows: u32,
     subs: &'a [[u32; SUB_WORDS]],
     cells: &'a [u32],
 }
 
-/// Held stamps smaller than `stamp` in a queue, greater in a stack: row by row, each
-/// row's cell by paper 01's formula, "cell j × R + (r - 1) mod R".
+/// Held items but spacers with a stamp smaller than `stamp` in a queue, greater in a
+/// stack: row by row, each row's cell by paper 01's formula, "cell j × R + (r - 1) mod R".
 #[inline(never)]
 pub fn by_rows(held: &Held, stamp: u32) -> u32 {
     if held.kind == QUEUE {
@@ -28,16 +29,22 @@ pub fn by_rows(held: &Held, stamp: u32) -> u32 {
 #[inline(never)]
 pub fn in_runs(held: &Held, stamp: u32) -> u32 {
     if held.kind == QUEUE {
-        held.runs(|run| count_of_stamps(run, |other| other < stamp))
+        held.runs(|run| count_of_cells(run, |other| other < stamp))
     } else {
-        held.runs(|run| count_of_stamps(run, |other| other > stamp))
+        held.runs(|run| count_of_cells(run, |other| other > stamp))
     }
 }
 
-/// The sum of the held stamps, in the same runs.
+/// The sum of the held values and stamps, cell by cell, in the same runs.
 #[inline(never)]
-pub fn plain_read(held: &Held) -> u32 {
-    held.runs(sum_of_stamps)
+pub fn read_cells(held: &Held) -> u32 {
+    held.runs(sum_of_cells)
+}
+
+/// The same sum, of the words as they lie.
+#[inline(never)]
+pub fn read_words(held: &Held) -> u32 {
+    held.runs(sum_of_words)
 }
 
 impl<'a> Held<'a> {
@@ -59,8 +66,8 @@ impl<'a> Held<'a> {
             let below = if self.kind == QUEUE { *second } else { 0 };
             for row in below + 1..=*first {
                 let cell = j * self.rows + (row - 1) % self.rows;
-                let stamp = self.cells[CELL_WORDS * cell as usize + CELL_STAMP];
-                count += u32::from(passes(stamp));
+                let cell = &self.cells[CELL_WORDS * cell as usize..][..CELL_WORDS];
+                count += counted(cell, &passes);
             }
         }
         count
@@ -101,25 +108,4 @@ impl<'a> Held<'a> {
         let at = CELL_WORDS * (j * self.rows as usize + start as usize);
         &self.cells[at..][..CELL_WORDS * cells as usize]
     }
-}
-
-/// One loop for all callers: so short a one takes up to twice as long where it lies
-/// across the end of a cache line, and two of them would not lie alike.
-#[inline(never)]
-pub fn sum_of_words(words: &[u32]) -> u32 {
-    words.iter().fold(0, |sum, word| sum.wrapping_add(*word))
-}
-
-pub fn sum_of_stamps(cells: &[u32]) -> u32 {
-    let cells = cells.chunks_exact(CELL_WORDS);
-    cells.fold(0, |sum, cell| sum.wrapping_add(cell[CELL_STAMP]))
-}
-
-pub fn count_of_words(words: &[u32], passes: impl Fn(u32) -> bool) -> u32 {
-    words.iter().fold(0, |n, word| n + u32::from(passes(*word)))
-}
-
-pub fn count_of_stamps(cells: &[u32], passes: impl Fn(u32) -> bool) -> u32 {
-    let cells = cells.chunks_exact(CELL_WORDS);
-    cells.fold(0, |n, cell| n + u32::from(passes(cell[CELL_STAMP])))
 }

@@ -1,6 +1,7 @@
 //! The calls to be timed: recorded once on the second implementation, so that
 //! every side makes exactly the same calls on exactly the same words.
 
+use crate::spacers::{value, SHARE};
 use second::{Settings, FULL, MOVING};
 use sides::{Call, SECOND};
 
@@ -52,7 +53,7 @@ pub fn workload(settings: &Settings, fill: Fill) -> Workload {
 }
 
 /// Operations of the workers in turn, each from its begin to its answer; the
-/// first "full" is the last.
+/// first "full" is the last. Some puts are of spacers.
 fn record(
     words: &mut [u32],
     settings: &Settings,
@@ -60,8 +61,9 @@ fn record(
     operations: u32,
 ) -> Vec<Call> {
     let mut calls = Vec::new();
-    for value in 0..operations {
-        let worker = value % settings.workers;
+    for number in 1..=operations {
+        let worker = (number - 1) % settings.workers;
+        let value = value(number, SHARE);
         let mut call = match operation {
             Operation::Put => Call::BeginPut { worker, value },
             Operation::Take => Call::BeginTake { worker },
