@@ -63,8 +63,11 @@ extern "C" {
 #define POOL_SUB 1       /* the sub that it lies or lay in, from 0 */
 #define POOL_ROW 2       /* its row there, from 1 */
 #define POOL_STAMP 3     /* the number of its put, from 1 */
-#define POOL_DISTANCE 4  /* 2 only: held items that the take passed over, older (queue) or newer (stack) */
+#define POOL_DISTANCE 4  /* 2 only: held items with a value other than 0 that the take passed over, older (queue) or newer (stack) */
 #define POOL_FIELDS 5
+
+/* The value of a spacer. */
+#define POOL_SPACER 0u
 
 /* pool_dispatch has a sixth: the worker that finished (1 to 4), or the one whose turn is next (6). */
 #define POOL_WORKER 5
@@ -75,9 +78,9 @@ extern "C" {
 #define POOL_MAX_WORDS 8492u
 
 /*
- * How many items a take may pass over, older ones (queue) or newer ones (stack): no distance is above it. The first is paper 01's, and the run
- * lister's 30 goes by it. The second is closer for a stack, and exact: with two workers or more some run comes to it. Proved:
- * crates/rules/specs/Statement.antt, Newer.antt; crates/reached/specs/Reached.antt.
+ * How many items a take may pass over, older ones (queue) or newer ones (stack), spacers among them: no distance is above it, as a distance
+ * counts the others alone. The first is paper 01's, and the run lister's 30 goes by it. The second is closer for a stack, and exact: with two
+ * workers or more some run comes to it. Proved: crates/rules/specs/Statement.antt, Newer.antt, Spacers.antt; crates/reached/specs/Reached.antt.
  */
 #define POOL_BOUND(kind, width, depth, shift)                                                                                               \
     (((width)-1u) * ((kind) == POOL_QUEUE ? 1u * (depth) : 2u * (depth) + 2u * (shift)))
@@ -144,7 +147,10 @@ static inline uint32_t pool_steps_left(const uint32_t *words) {
 uint32_t pool_make(uint32_t *words, size_t len, uint32_t kind, uint32_t width, uint32_t depth, uint32_t shift, uint32_t rows,
                    uint32_t workers, uint32_t stride, uint32_t fields[POOL_FIELDS]);
 
-/* Begins a put of a value by an idle worker; pool_step then carries it on. */
+/*
+ * Begins a put of a value by an idle worker; pool_step then carries it on. A value of 0 is a spacer: it is put, held and taken like any other item,
+ * and counts where items held are counted, but no distance counts it. Its own take has a distance like every other's.
+ */
 uint32_t pool_begin_put(uint32_t *words, size_t len, uint32_t worker, uint32_t value, uint32_t fields[POOL_FIELDS]);
 
 /* Begins a take by an idle worker. */
