@@ -77,8 +77,8 @@ fn segments_reported(words: &[u32], g: Settings, j: u32, x: Segments, kind: u32,
         + segment_reported(words, g, j, x.second, kind, s)
 }
 
-// How many held items of sub `j` the distance counts. Each call has its kind as a number, so that the compiler makes the loop of each kind, and
-// no cell asks for it.
+// How many held items of sub `j` the distance counts. Each call has its kind as a number, so that the compiler makes the loop of
+// each kind, and no cell asks for it.
 fn sub_reported(words: &[u32], g: Settings, j: u32, s: Stamp) -> u32
     requires { ⌜ Bounds g ⌝ }
     requires { ⌜ (needed g ≤ length (now words)) × (j < g .width) ⌝ }

@@ -6,17 +6,16 @@ use mathlib.Core.List.{List, [], _∷_}
 use mathlib.Core.Option.{Option, none, some}
 use Prim.Native.Nat.{ℕ, _+_, _≤_}
 use native.Mathlib.Omega.{arith}
-use lib.Dec.{eqb}
-use borrow.Author.Tests.{eqb-true, eq-eqb}
+use borrow.Author.Tests.{eq-eqb}
 use Rattle.laws.specs.Choice.{cond}
 use Rattle.rules.specs.Held.{Item, heldItems, isSpacer, passedOver, reported, countItems, passedOf, distanceOf}
 use Rattle.rules.specs.Apply.{takenOf}
-use Rattle.rules.specs.Sequential.{Found, find, keeping, Given, giveBy, giveWithin, reportedBy}
+use Rattle.rules.specs.Sequential.{find, Given, giveBy, giveWithin, reportedBy}
 use Rattle.rules.specs.Spacers.{spacerPassed, fedTake, PassedInTwo, NeverAbove, EveryTakeHasDistance, GivenBoth, NotAllowedBeyond, SpacersReportNothing}
 use Rattle.rules.proofs.Types.{Settings}
 use Rattle.rules.proofs.counts.Sums.{bit}
 use Rattle.rules.proofs.counts.Held.{count-none, count-cons}
-use Rattle.rules.proofs.order.Given.{Leaves, leaves}
+use Rattle.rules.proofs.order.Given.{found-is, Leaves, leaves}
 
 -- ---- any list of items
 reported-or-spacer : (spacer passed : Bool) → bit passed ≡ bit (cond spacer false passed) + bit (cond spacer passed false)
@@ -83,25 +82,11 @@ pub every-take-has-distance : EveryTakeHasDistance
 unfolding takenOf
 every-take-has-distance ws g j row = refl
 
--- the item found has the stamp
-find-stamp : (stamp : ℕ) (xs : List Item) (f : Found) → find stamp xs ≡ some f → f .item .stamp ≡ stamp
-unfolding find cond
-find-stamp stamp [] f e = let z : _≡_ {A = ℕ} 0 1 = cc in absurd (omega arith)
-find-stamp stamp (x ∷ xs) f e = by (eqb (x .stamp) stamp) (find stamp xs) (find-stamp stamp xs) refl refl e
-  where
-    by : (b : Bool) (o : Option Found) → ((h : Found) → find stamp xs ≡ some h → h .item .stamp ≡ stamp)
-        → eqb (x .stamp) stamp ≡ b → find stamp xs ≡ o → cond b (some (record { item = x; others = xs })) (keeping x o) ≡ some f → f .item .stamp ≡ stamp
-    by true o ih t u e = let y : _≡_ {A = Found} (record { item = x; others = xs }) f = cc in rw (← y) (eqb-true (x .stamp) stamp t)
-    by false none ih t u e = let z : _≡_ {A = ℕ} 0 1 = cc in absurd (omega arith)
-    by false (some h) ih t u e =
-        let y : _≡_ {A = Found} (record { item = h .item; others = x ∷ h .others }) f = cc in
-        rw (← y) (ih h u)
-
 pub given-both : GivenBoth
 unfolding giveBy cond
 given-both most g q stamp r e =
     let h : Leaves most g q 2 stamp r = leaves most g q 2 stamp r (find stamp (q .items)) refl e in
-    let there : h .0 .item .stamp ≡ stamp = find-stamp stamp (q .items) (h .0) (h .1) in
+    let there : h .0 .item .stamp ≡ stamp = found-is isSpacer stamp (q .items) (h .0) (h .1) .0 in
     (sym (ap (λ (x : Given). x .distance) (h .2)) ∙ ap (reportedBy g q) there, rw there at (h .3))
 
 pub not-allowed-beyond : NotAllowedBeyond

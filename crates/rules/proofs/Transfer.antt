@@ -19,7 +19,7 @@ use Rattle.rules.proofs.Types.{Settings, Answer}
 use Rattle.rules.proofs.counts.Held.{count-none}
 use Rattle.rules.proofs.order.Law.{Next, events, Status, idle, pending, tried, refused, opened, walks, tries, stays, loses, ends, wins, Others}
 use Rattle.rules.proofs.order.Order.{one-at-a-time}
-use Rattle.rules.proofs.order.NoSpacers.{NoSpacerUnderWay, NoSpacers as NoSpacersOf, goes-on, begun-no-spacer, no-spacer-joins}
+use Rattle.rules.proofs.order.NoSpacers.{NoSpacerUnderWay, NoSpacers as NoSpacersOf, no-spacers-next, begun-no-spacer, no-spacer-joins}
 use Rattle.rules.proofs.Fitness.{settings-bounds}
 use Rattle.rules.proofs.machine.Machine.{State, nextIn, madeIn}
 use Rattle.rules.proofs.machine.Phases.{statusOf, idle-phase}
@@ -75,9 +75,9 @@ module _ (g : Settings) (limits : settingsFit g ≡ true) (k : Kind g) where
     pub no-spacers : NoSpacer c → NoSpacers s q → NoSpacers (o .state) list
 
   -- worker i's operation goes on, and the list stays
-  goes : {s t : State} {q : Contents} (i : ℕ) (x y : Status) → statusIn g s i ≡ x → statusIn g t i ≡ y → (NoSpacerUnderWay x → NoSpacerUnderWay y)
+  no-spacers-kept : {s t : State} {q : Contents} (i : ℕ) (x y : Status) → statusIn g s i ≡ x → statusIn g t i ≡ y → (NoSpacerUnderWay x → NoSpacerUnderWay y)
       → Others g (nextIn g) (statusIn g) Whole (k .Snap) s i t → NoSpacers s q → NoSpacers t q
-  goes i x y a b on w n = goes-on g (nextIn g) (statusIn g) Whole (k .Snap) i x y a b on w (n .listed) n
+  no-spacers-kept i x y a b on w n = no-spacers-next g (nextIn g) (statusIn g) Whole (k .Snap) i x y a b on w (n .listed) n
 
   idle-by : {s : State} {q : Contents} {c : Call} {o : Next State} → numberOf (o .answer) ≡ 0 → Whole (o .state) q
       → (NoSpacer c → NoSpacers s q → NoSpacers (o .state) q) → Onward s q c o
@@ -92,24 +92,24 @@ module _ (g : Settings) (limits : settingsFit g ≡ true) (k : Kind g) where
         changed = unchanged-by (exactBound g) g q _ (λ u. omega arith) (λ u. omega arith);
         no-spacers = λ ok v. rw e v;
       }
-  onward-by s q c h (opened i op u n a b w h′) = idle-by n h′ (λ ok v. goes i idle (pending op) a b (λ z. begun-no-spacer c i op u ok) w v)
-  onward-by s q c h (walks i op u n a b w h′) = idle-by n h′ (λ ok v. goes i (pending op) (pending op) a b (λ z. z) w v)
-  onward-by s q c h (tries i op u n a b w h′ z) = idle-by n h′ (λ ok v. goes i (pending op) (tried op) a b (λ y. y) w v)
-  onward-by s q c h (stays i op u n a b w h′ z) = idle-by n h′ (λ ok v. goes i (tried op) (tried op) a b (λ y. y) w v)
-  onward-by s q c h (loses i op u n a b w h′) = idle-by n h′ (λ ok v. goes i (tried op) (pending op) a b (λ z. z) w v)
+  onward-by s q c h (opened i op u n a b w h′) = idle-by n h′ (λ ok v. no-spacers-kept i idle (pending op) a b (λ z. begun-no-spacer c i op u ok) w v)
+  onward-by s q c h (walks i op u n a b w h′) = idle-by n h′ (λ ok v. no-spacers-kept i (pending op) (pending op) a b (λ z. z) w v)
+  onward-by s q c h (tries i op u n a b w h′ z) = idle-by n h′ (λ ok v. no-spacers-kept i (pending op) (tried op) a b (λ y. y) w v)
+  onward-by s q c h (stays i op u n a b w h′ z) = idle-by n h′ (λ ok v. no-spacers-kept i (tried op) (tried op) a b (λ y. y) w v)
+  onward-by s q c h (loses i op u n a b w h′) = idle-by n h′ (λ ok v. no-spacers-kept i (tried op) (pending op) a b (λ z. z) w v)
   onward-by s q c h (ends i op u n a b w q′ give h′) =
       record {
         list = q′;
         whole = h′;
         changed = gives-changed (exactBound g) g q _ q′ op give;
-        no-spacers = λ ok v. goes-on g (nextIn g) (statusIn g) Whole (k .Snap) i (pending op) idle a b (λ z. tt) w (no-spacer-joins g q (nextIn g s c .answer) q′ op (rw a at (v .under-way i)) give (v .listed)) v;
+        no-spacers = λ ok v. no-spacers-next g (nextIn g) (statusIn g) Whole (k .Snap) i (pending op) idle a b (λ z. tt) w (no-spacer-joins g q (nextIn g s c .answer) q′ op (rw a at (v .under-way i)) give (v .listed)) v;
       }
   onward-by s q c h (wins i op u n l a b w h′ z) =
       record {
         list = q;
         whole = h′;
         changed = unchanged-by (exactBound g) g q _ (λ e. omega arith) (λ e. omega arith);
-        no-spacers = λ ok v. goes i (tried op) idle a b (λ y. tt) w v;
+        no-spacers = λ ok v. no-spacers-kept i (tried op) idle a b (λ y. tt) w v;
       }
 
   pub onward : (s : State) (q : Contents) → Whole s q → (c : Call) → Onward s q c (nextIn g s c)

@@ -54,9 +54,9 @@ module _ {S : Type 0} (g : Settings) (next : S → Call → Next S) (status : S 
     pub under-way : (i : ℕ) → NoSpacerUnderWay (status s i)
 
   -- worker i's operation goes on as another status, or ends, and the others stay
-  pub goes-on : {s t : S} {q q′ : Contents} (i : ℕ) (x y : Status) → status s i ≡ x → status t i ≡ y → (NoSpacerUnderWay x → NoSpacerUnderWay y)
+  pub no-spacers-next : {s t : S} {q q′ : Contents} (i : ℕ) (x y : Status) → status s i ≡ x → status t i ≡ y → (NoSpacerUnderWay x → NoSpacerUnderWay y)
       → Others g next status I Snap s i t → countItems isSpacer (q′ .items) ≡ 0 → NoSpacers s q → NoSpacers t q′
-  goes-on {s} {t} i x y a b on w listed n = record { listed = listed; under-way = λ j. go j (ℕ-discrete j i) }
+  no-spacers-next {s} {t} i x y a b on w listed n = record { listed = listed; under-way = λ j. go j (ℕ-discrete j i) }
     where
       go : (j : ℕ) → Dec (j ≡ i) → NoSpacerUnderWay (status t j)
       go j (yes e) = rw (e, b) (on (rw a at (n .under-way i)))
