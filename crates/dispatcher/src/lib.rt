@@ -1,18 +1,20 @@
 // Turns for the workers: steps of the busy ones, round and round by number, up to the first final answer.
 use fitness::refusal;
 use image::idle_at;
-use image::settings;
+use image::shipped_settings;
 use image::worker_at;
 use rules::Dispatched;
 use rules::Settings;
 use rules::Turn;
 use rules::numbers::NO_SUCH_WORKER;
+use rules::numbers::SHIPPED;
 use step::answers::final_answer;
 use step::fit_answer;
 ghost use mathlib.Core.Path.{_≡_};
 ghost use Prim.Native.Nat.{_<_};
 ghost use Rattle.rules.specs.Fit.{Fit, FitPool, checkedOf};
 ghost use Rattle.rules.specs.Dispatch.{dispatched, turnFrom, endedOf, turnsOf, fitDispatch, dispatchOf};
+ghost use Rattle.rules.specs.Make.{shipped};
 
 // The first busy worker from `from` on.
 fn turn_from(words: &[u32], g: Settings, from: u32) -> Turn
@@ -49,7 +51,8 @@ fn ended(j: u32, n: u32, five: [u32; 5]) -> Dispatched
 
 // Turns from worker `first` of a fit pool on, up to a count of steps. A step that answers 0 leaves the pool fit, so it is checked once.
 fn turns(words: &mut [u32], g: Settings, first: u32, steps: u32) -> Dispatched
-    requires { ⌜ checkedOf (now words) ≡ Fit g ⌝ }
+    requires { ⌜ checkedOf (g .edition) (now words) ≡ Fit g ⌝ }
+    requires { ⌜ g .edition ≡ shipped ⌝ }
     requires { ⌜ first < g .workers ⌝ }
     ensures { λ r. ⌜ dispatched r (now (words .exit)) ≡ turnsOf (now (words .entry)) g first steps ⌝ }
 {
@@ -77,7 +80,8 @@ fn turns(words: &mut [u32], g: Settings, first: u32, steps: u32) -> Dispatched
 
 // Turns from worker `i` of a fit pool on.
 fn fit_dispatch(words: &mut [u32], g: Settings, i: u32, steps: u32) -> Dispatched
-    requires { ⌜ checkedOf (now words) ≡ Fit g ⌝ }
+    requires { ⌜ checkedOf (g .edition) (now words) ≡ Fit g ⌝ }
+    requires { ⌜ g .edition ≡ shipped ⌝ }
     ensures { λ r. ⌜ dispatched r (now (words .exit)) ≡ fitDispatch (now (words .entry)) g i steps ⌝ }
 {
     if g.workers <= i {
@@ -88,12 +92,12 @@ fn fit_dispatch(words: &mut [u32], g: Settings, i: u32, steps: u32) -> Dispatche
 
 // Steps the busy workers round and round by number, from `worker` on, up to `steps` steps or the first final answer.
 pub fn dispatch(words: &mut [u32], worker: u32, steps: u32) -> Dispatched
-    ensures { λ r. ⌜ dispatched r (now (words .exit)) ≡ dispatchOf (now (words .entry)) worker steps ⌝ }
+    ensures { λ r. ⌜ dispatched r (now (words .exit)) ≡ dispatchOf shipped (now (words .entry)) worker steps ⌝ }
 {
-    let n = refusal(words);
+    let n = refusal(words, SHIPPED);
     if n != 0 {
         return Dispatched::Refused(n);
     }
-    let g = settings(words);
+    let g = shipped_settings(words);
     fit_dispatch(words, g, worker, steps)
 }

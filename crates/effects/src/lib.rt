@@ -14,7 +14,7 @@ use worker::fresh_slot;
 use worker::slot_of;
 ghost use mathlib.Core.Path.{_≡_};
 ghost use Prim.Native.Nat.{_<_};
-ghost use Rattle.rules.specs.Commit.{landedOf, removedOf};
+ghost use Rattle.rules.specs.Commit.{lostOf, landedOf, removedOf};
 ghost use Rattle.rules.specs.Shift.{shiftedOf};
 ghost use Rattle.rules.specs.Limits.{Bounds};
 ghost use Rattle.rules.specs.Effects.{nextOf, hopOf, keepOf, refusedOf, movedOf, restartOf, finishedOf, nothingFor, withPass};
@@ -81,6 +81,17 @@ pub fn restart(v: View, index: u32, side: Side) -> Effect
 {
     let kept = v.kept;
     moved(v, index, Phase::Window(side), kept)
+}
+
+// A commit that failed: on by the stride, and counted.
+pub fn lost(g: Settings, v: View, side: Side) -> Effect
+    requires { ⌜ Bounds g ⌝ }
+    requires { ⌜ v .worker .index < g .width ⌝ }
+    ensures { λ r. ⌜ r ≡ lostOf g v side ⌝ }
+{
+    let restarted = restart(v, hop(g, v.worker.index), side);
+    let slot = restarted.slot;
+    keep(v, Outcome::Lost, slot)
 }
 
 pub fn finished(v: View, outcome: Outcome, index: u32) -> Effect

@@ -2,8 +2,8 @@
 use image::INDEX;
 use image::PHASE;
 use image::SCAN;
-use image::WORKER_WORDS;
 use image::worker_at;
+use image::worker_words;
 use rules::Settings;
 use rules::numbers::COMMIT;
 use rules::numbers::CONFIRM;
@@ -84,12 +84,13 @@ pub fn workers_fit(words: &[u32], g: Settings) -> bool
     ensures { λ r. ⌜ r ≡ workersFit (now (words .entry)) g ⌝ }
 {
     let n = g.workers;
+    let each = worker_words(g.edition);
     let mut fit = true;
     let mut i: u32 = 0;
     'workers: while i < n {
         let at = worker_at(g, i);
         let mut k: usize = 0;
-        while k < WORKER_WORDS {
+        while k < each {
             let x = words[at + k];
             if !word_fit(g, k, x) {
                 fit = false;

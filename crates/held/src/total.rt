@@ -4,10 +4,12 @@ use fitness::refusal;
 use image::settings;
 use image::sub_of;
 use rules::Settings;
+use rules::numbers::SHIPPED;
 ghost use mathlib.Core.Path.{_≡_};
 ghost use lib.ListN.{length};
 ghost use Rattle.rules.specs.Fit.{FitPool};
 ghost use Rattle.rules.specs.Held.{heldItems, heldOf};
+ghost use Rattle.rules.specs.Make.{shipped};
 
 // The items held by a fit pool, sub by sub.
 fn fit_items(words: &[u32], g: Settings) -> u32
@@ -27,9 +29,9 @@ fn fit_items(words: &[u32], g: Settings) -> u32
 
 // The items held; none by words that are no fit pool.
 pub fn items(words: &[u32]) -> u32
-    ensures { λ r. ⌜ r ≡ heldOf (now (words .entry)) ⌝ }
+    ensures { λ r. ⌜ r ≡ heldOf shipped (now (words .entry)) ⌝ }
 {
-    if refusal(words) != 0 {
+    if refusal(words, SHIPPED) != 0 {
         return 0;
     }
     let g = settings(words);

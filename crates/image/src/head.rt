@@ -1,5 +1,6 @@
 // The words of the head.
 use crate::places::DEPTH;
+use crate::places::EDITION;
 use crate::places::KIND;
 use crate::places::MARK;
 use crate::places::PUTS;
@@ -13,6 +14,7 @@ use crate::places::WORKER_COUNT;
 use laws::num::plus;
 use rules::Effect;
 use rules::Settings;
+use rules::numbers::SHIPPED;
 use rules::numbers::STEP_LIMIT;
 ghost use mathlib.Core.Path.{_≡_};
 ghost use Prim.Native.Nat.{_<_, _≤_};
@@ -22,7 +24,7 @@ ghost use Rattle.laws.specs.Wrap.{add32};
 ghost use Rattle.rules.specs.Apply.{putShifted};
 ghost use Rattle.rules.specs.Begin.{outOfSteps};
 ghost use Rattle.rules.specs.Layout.{headWords, settingsOf, stepsAt};
-ghost use Rattle.rules.specs.Make.{newMark, newHead};
+ghost use Rattle.rules.specs.Make.{shipped, newMark, newHead};
 
 // The settings that the words hold.
 pub fn settings(words: &[u32]) -> Settings
@@ -37,6 +39,25 @@ pub fn settings(words: &[u32]) -> Settings
         rows: words[ROWS],
         workers: words[WORKER_COUNT],
         stride: words[STRIDE],
+        edition: words[EDITION],
+    }
+}
+
+// The same of a pool of the shipped edition. That number is written here, and not read, so that the compiler knows how many words a worker has.
+pub fn shipped_settings(words: &[u32]) -> Settings
+    requires { ⌜ (headWords ≤ length (now words)) × (settingsOf (now words) .edition ≡ shipped) ⌝ }
+    ensures { λ r. ⌜ r ≡ settingsOf (now (words .entry)) ⌝ }
+{
+    let g = settings(words);
+    Settings {
+        kind: g.kind,
+        width: g.width,
+        depth: g.depth,
+        shift: g.shift,
+        rows: g.rows,
+        workers: g.workers,
+        stride: g.stride,
+        edition: SHIPPED,
     }
 }
 
@@ -90,4 +111,5 @@ pub fn put_head(words: &mut [u32], g: Settings)
     words[TOP] = g.depth;
     words[MARK] = mark;
     words[STRIDE] = g.stride;
+    words[EDITION] = g.edition;
 }

@@ -7,10 +7,10 @@ use rules::numbers::MOST_WORKERS;
 use rules::numbers::WIDEST;
 ghost use mathlib.Core.Path.{_≡_};
 ghost use Prim.Native.Nat.{_+_, _<_, _≤_};
-ghost use Rattle.rules.specs.Layout.{cellWords, subAt, workerAt, subCellsAt, cellAt, needed};
+ghost use Rattle.rules.specs.Layout.{cellWords, subAt, workerWords, workerAt, subCellsAt, cellAt, needed};
 ghost use Rattle.rules.specs.Limits.{Bounds};
 
-// The head: the settings but one.
+// The head: the settings but two.
 pub const KIND: usize = 0;
 
 pub const WIDTH: usize = 1;
@@ -33,11 +33,10 @@ pub const TOP: usize = 8;
 
 pub const MARK: usize = 9;
 
-// The last setting.
+// The last settings.
 pub const STRIDE: usize = 10;
 
-// Zero in every pool.
-pub const ZERO: usize = 11;
+pub const EDITION: usize = 11;
 
 pub const HEAD_WORDS: usize = 12;
 
@@ -61,12 +60,16 @@ pub const SEEN: usize = 6;
 
 pub const SUM: usize = 7;
 
-pub const WORKER_WORDS: usize = 8;
+// Its failed commits, from edition 1 on.
+pub const LOST: usize = SUM + 1;
+
+// How many words a worker has in the edition of the shipped calls.
+pub const WORKER_WORDS: usize = 9;
 
 // A cell: value, stamp.
 pub const CELL_WORDS: usize = 2;
 
-// Enough for every pool.
+// Enough for every pool of that edition.
 pub const MOST_WORDS: usize = HEAD_WORDS
     + SUB_WORDS * (WIDEST as usize)
     + WORKER_WORDS * (MOST_WORKERS as usize)
@@ -79,11 +82,18 @@ pub fn sub_at(j: u32) -> usize
     HEAD_WORDS + SUB_WORDS * (j as usize)
 }
 
+// How many words a worker has in an edition.
+pub fn worker_words(edition: u32) -> usize
+    ensures { λ r. ⌜ r ≡ workerWords edition ⌝ }
+{
+    if edition == 0 { LOST } else { WORKER_WORDS }
+}
+
 // Where worker `i` lies: behind the subs.
 pub fn worker_at(g: Settings, i: u32) -> usize
     ensures { λ r. ⌜ r ≡ workerAt g i ⌝ }
 {
-    sub_at(g.width) + WORKER_WORDS * (i as usize)
+    sub_at(g.width) + worker_words(g.edition) * (i as usize)
 }
 
 // Where the cells of sub `j` lie: behind the workers.

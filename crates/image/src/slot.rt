@@ -1,27 +1,31 @@
-// A worker's words as they lie, from `at` on.
+// A worker's words as they lie, from `at` on: those that a step's rules read, and its failed commits.
 use crate::head::count_step;
 use crate::places::EXTRA;
 use crate::places::INDEX;
+use crate::places::LOST;
 use crate::places::PHASE;
 use crate::places::SCAN;
 use crate::places::SEEN;
 use crate::places::SEEN_WINDOW;
 use crate::places::SUM;
 use crate::places::VALUE;
+use crate::places::worker_words;
+use laws::num::plus;
 use rules::Effect;
+use rules::Settings;
 use rules::Slot;
 use rules::numbers::IDLE;
 ghost use mathlib.Core.Path.{_≡_};
 ghost use Prim.Native.Nat.{_+_, _<_, _≤_};
 ghost use lib.ListN.{length, getD, set};
-ghost use Rattle.rules.specs.Apply.{putWorker};
+ghost use Rattle.rules.specs.Apply.{countLost, putWorker};
 ghost use Rattle.rules.specs.Begin.{idleAt};
-ghost use Rattle.rules.specs.Layout.{workerWords, indexAt};
+ghost use Rattle.rules.specs.Layout.{workerWords, slotWords, indexAt};
 ghost use Rattle.rules.specs.Worker.{slotAt, putSlot};
 
 // Word `k` of the worker.
 fn word(words: &[u32], at: usize, k: usize) -> u32
-    requires { ⌜ (at + workerWords ≤ length (now words)) × (k < workerWords) ⌝ }
+    requires { ⌜ (at + slotWords ≤ length (now words)) × (k < slotWords) ⌝ }
     ensures { λ r. ⌜ r ≡ getD (now (words .entry)) (at + k) 0 ⌝ }
 {
     words[at + k]
@@ -29,7 +33,7 @@ fn word(words: &[u32], at: usize, k: usize) -> u32
 
 // Writes word `k` of the worker.
 fn put_word(words: &mut [u32], at: usize, k: usize, x: u32)
-    requires { ⌜ (at + workerWords ≤ length (now words)) × (k < workerWords) ⌝ }
+    requires { ⌜ (at + slotWords ≤ length (now words)) × (k < slotWords) ⌝ }
     ensures { λ r. ⌜ now (words .exit) ≡ set (now (words .entry)) (at + k) x ⌝ }
 {
     words[at + k] = x;
@@ -37,7 +41,7 @@ fn put_word(words: &mut [u32], at: usize, k: usize, x: u32)
 
 // Whether the worker is idle.
 pub fn idle_at(words: &[u32], at: usize) -> bool
-    requires { ⌜ at + workerWords ≤ length (now words) ⌝ }
+    requires { ⌜ at + slotWords ≤ length (now words) ⌝ }
     ensures { λ r. ⌜ r ≡ idleAt (now (words .entry)) at ⌝ }
 {
     word(words, at, PHASE) == IDLE
@@ -45,7 +49,7 @@ pub fn idle_at(words: &[u32], at: usize) -> bool
 
 // The worker's index.
 pub fn index_of(words: &[u32], at: usize) -> u32
-    requires { ⌜ at + workerWords ≤ length (now words) ⌝ }
+    requires { ⌜ at + slotWords ≤ length (now words) ⌝ }
     ensures { λ r. ⌜ r ≡ getD (now (words .entry)) (indexAt at) 0 ⌝ }
 {
     word(words, at, INDEX)
@@ -53,15 +57,15 @@ pub fn index_of(words: &[u32], at: usize) -> u32
 
 // Writes the worker's index.
 pub fn put_index(words: &mut [u32], at: usize, x: u32)
-    requires { ⌜ at + workerWords ≤ length (now words) ⌝ }
+    requires { ⌜ at + slotWords ≤ length (now words) ⌝ }
     ensures { λ r. ⌜ now (words .exit) ≡ set (now (words .entry)) (indexAt at) x ⌝ }
 {
     put_word(words, at, INDEX, x);
 }
 
-// All eight.
+// All of them but its failed commits.
 pub fn load(words: &[u32], at: usize) -> Slot
-    requires { ⌜ at + workerWords ≤ length (now words) ⌝ }
+    requires { ⌜ at + slotWords ≤ length (now words) ⌝ }
     ensures { λ r. ⌜ r ≡ slotAt (now (words .entry)) at ⌝ }
 {
     Slot {
@@ -76,9 +80,9 @@ pub fn load(words: &[u32], at: usize) -> Slot
     }
 }
 
-// Writes all eight.
+// Writes all of them but its failed commits.
 pub fn store(words: &mut [u32], at: usize, s: Slot)
-    requires { ⌜ at + workerWords ≤ length (now words) ⌝ }
+    requires { ⌜ at + slotWords ≤ length (now words) ⌝ }
     ensures { λ r. ⌜ now (words .exit) ≡ putSlot (now (words .entry)) at s ⌝ }
 {
     put_word(words, at, PHASE, s.number);
@@ -91,9 +95,20 @@ pub fn store(words: &mut [u32], at: usize, s: Slot)
     put_word(words, at, SUM, s.sum);
 }
 
+// Counts a failed commit of the worker, in an edition that does.
+pub fn count_lost(words: &mut [u32], g: Settings, at: usize)
+    requires { ⌜ at + workerWords (g .edition) ≤ length (now words) ⌝ }
+    ensures { λ r. ⌜ now (words .exit) ≡ countLost (now (words .entry)) g at ⌝ }
+{
+    if LOST < worker_words(g.edition) {
+        let lost = plus(words[at + LOST], 1);
+        words[at + LOST] = lost;
+    }
+}
+
 // Counts the step, and writes the worker's words.
 pub fn put_worker(words: &mut [u32], at: usize, e: Effect)
-    requires { ⌜ at + workerWords ≤ length (now words) ⌝ }
+    requires { ⌜ at + slotWords ≤ length (now words) ⌝ }
     ensures { λ r. ⌜ now (words .exit) ≡ putWorker (now (words .entry)) at e ⌝ }
 {
     count_step(words);

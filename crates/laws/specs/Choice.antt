@@ -53,9 +53,13 @@ Holds [] = Unit
 Holds (b ∷ bs) = (b ≡ true) × Holds bs
 
 -- ---- laws
-both-false : (b : Bool) → both b false ≡ false
+pub both-false : (b : Bool) → both b false ≡ false
 both-false true = refl
 both-false false = refl
+
+pub both-one : (b : Bool) → both b true ≡ b
+both-one true = refl
+both-one false = refl
 
 pub both-true : (a b : Bool) → both a b ≡ true → (a ≡ true) × (b ≡ true)
 both-true true b e = (refl, e)

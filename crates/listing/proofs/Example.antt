@@ -3,7 +3,7 @@ use mathlib.Core.List.{List, [], _∷_}
 use mathlib.Core.Path.{_≡_, refl, ap}
 use Prim.Native.Nat.{ℕ, _/_, _%_}
 use Rattle.laws.specs.Choice.{cond, allBelow}
-use Rattle.rules.specs.Apply.{putItem, putSub, putLanded, putShifted, putWorker, takenOf, applyBy, applyOf}
+use Rattle.rules.specs.Apply.{putItem, putSub, putLanded, putShifted, countLost, putWorker, takenOf, applyBy, applyOf}
 use Rattle.rules.specs.Begin.{slotBegin, fitBegin, checkedBegin, beginOf}
 use Rattle.rules.specs.Check.{checkRule}
 use Rattle.rules.specs.Commit.{commitBy, queueCommit, stackCommit}
@@ -11,6 +11,7 @@ use Rattle.rules.specs.Confirm.{confirmedOf, confirmRule}
 use Rattle.rules.specs.Effects.{viewOf, nextOf}
 use Rattle.rules.specs.Fit.{headFit, subFit, subsFit, phaseFit, wordFit, workersFit, bodyChecked, checkedOf}
 use Rattle.rules.specs.Held.{itemsAbove, heldSub, heldBelow, countItems, distanceOf, heldBy, heldOf}
+use Rattle.rules.specs.Layout.{workerWords}
 use Rattle.rules.specs.Limits.{settingsFit}
 use Rattle.rules.specs.Make.{zeroed, indexed, madeWords, makeOf}
 use Rattle.rules.specs.Read.{missOf, queuePutRead, queueTakeRead, stackRead}
@@ -36,7 +37,7 @@ file =
     (0x10001021 ∷ 0x20000802 ∷ 0x30000007 ∷ 0x50000000 ∷ 0x50000000 ∷ 0x50000000 ∷ 0x40000000 ∷ 0x50000000 ∷ 0x50000000 ∷ 0x50000000 ∷ 0x60000000 ∷ [])
 
 lines-are : linesOf file ≡ entry (5 ∷ 1 ∷ 0 ∷ 7 ∷ 0 ∷ 1 ∷ 1 ∷ 0 ∷ []) ∷ entry (9 ∷ 2 ∷ 0 ∷ 7 ∷ 0 ∷ 1 ∷ 1 ∷ 0 ∷ []) ∷ closing 0 0 ∷ []
-unfolding stored file cond allBelow putItem putSub putLanded putShifted putWorker takenOf applyBy applyOf slotBegin fitBegin checkedBegin beginOf checkRule commitBy queueCommit stackCommit confirmedOf confirmRule viewOf nextOf headFit subFit subsFit phaseFit wordFit workersFit bodyChecked checkedOf itemsAbove heldSub heldBelow countItems distanceOf settingsFit zeroed indexed madeWords makeOf missOf queuePutRead queueTakeRead stackRead shiftBy queueShift stackShift ruleBy ruleOf slotStep fitStep checkedStep stepOf windowRule slotAt putSlot queuePhase stackPhase phaseOf encodePhase encode fileFrom fileOf firstOf secondOf laterOf itemOf readsOf readAt mostPassed boundIn cappedOf stops heldBy heldOf linesFrom linesOf
+unfolding stored file cond allBelow putItem putSub putLanded putShifted countLost putWorker takenOf applyBy applyOf slotBegin fitBegin checkedBegin beginOf checkRule commitBy queueCommit stackCommit confirmedOf confirmRule viewOf nextOf headFit subFit subsFit phaseFit wordFit workersFit bodyChecked checkedOf itemsAbove heldSub heldBelow countItems distanceOf settingsFit zeroed indexed madeWords makeOf missOf queuePutRead queueTakeRead stackRead shiftBy queueShift stackShift ruleBy ruleOf slotStep fitStep checkedStep stepOf windowRule slotAt putSlot queuePhase stackPhase phaseOf encodePhase encode fileFrom fileOf firstOf secondOf laterOf itemOf readsOf readAt mostPassed boundIn cappedOf stops heldBy heldOf workerWords linesFrom linesOf
 lines-are = refl
 
 -- "5 1 0 7 0 1 1 0", "9 2 0 7 0 1 1 0", "held 0 worst 0", a newline after each

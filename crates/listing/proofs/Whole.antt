@@ -23,6 +23,7 @@ use Rattle.lines.specs.Lines.{numbersOf}
 use Rattle.lines.specs.declared.line.Entry.{Entry}
 use Rattle.rules.specs.Layout.{mostWords}
 use Rattle.rules.specs.Held.{heldOf}
+use Rattle.rules.specs.Make.{shipped}
 use Rattle.listing.specs.Listing.{Line, entry, closing, callOf, distanceIn, cappedOf, stops, lineThen, answerThen, linesFrom, linesOf}
 use Rattle.listing.specs.Turn.{Turned, onward, plain, lineTurn, answerTurn, cappedTurn, callTurn, itemTurn, wordTurn, endTurn, turnOf, newLister}
 use Rattle.listing.specs.Turns.{listedThen, turnsFrom, turnsOf}
@@ -118,14 +119,14 @@ shift (suc n) a b c d rest at ws l =
 
 -- where there is no word
 end-lines : (ws : List ℕ) (l : Lister) (fault : ℕ)
-    → listedThen ((endTurn ws l fault) .listed) [] ≡ cond (eqb fault 0) (closing (heldOf ws) (l .worst) ∷ []) (lineThen (l .position) fault 0 noFields [])
+    → listedThen ((endTurn ws l fault) .listed) [] ≡ cond (eqb fault 0) (closing (heldOf shipped ws) (l .worst) ∷ []) (lineThen (l .position) fault 0 noFields [])
 unfolding endTurn cond
 end-lines ws l fault = go (eqb fault 0)
   where
     by : Bool → Turn
-    by b = cond b (record { lister = l; listed = Closing (heldOf ws) (l .worst) }) (lineTurn l (plain (l .position) fault 0))
+    by b = cond b (record { lister = l; listed = Closing (heldOf shipped ws) (l .worst) }) (lineTurn l (plain (l .position) fault 0))
 
-    go : (b : Bool) → listedThen ((by b) .listed) [] ≡ cond b (closing (heldOf ws) (l .worst) ∷ []) (lineThen (l .position) fault 0 noFields [])
+    go : (b : Bool) → listedThen ((by b) .listed) [] ≡ cond b (closing (heldOf shipped ws) (l .worst) ∷ []) (lineThen (l .position) fault 0 noFields [])
     go true = refl
     go false = line-lines (λ l′. []) l (plain (l .position) fault 0)
 
@@ -144,4 +145,4 @@ follows (a ∷ b ∷ c ∷ d ∷ rest) ws l few =
 
 pub turns-list : (bytes : List ℕ) → length bytes < 2 ^ 64 → turnsOf bytes ≡ linesOf bytes
 unfolding turnsOf linesOf fileOf
-turns-list bytes few = follows bytes (replicate mostWords 0) newLister (omega arith)
+turns-list bytes few = follows bytes (replicate (mostWords shipped) 0) newLister (omega arith)

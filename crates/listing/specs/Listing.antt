@@ -10,7 +10,7 @@ use Rattle.laws.specs.Choice.{cond}
 use Rattle.rules.specs.Answers.{Out, out, fieldsOf, noFields, offLimits, fileCut, badWord, overBound}
 use Rattle.rules.specs.Limits.{settingsFit}
 use Rattle.rules.specs.Layout.{mostWords}
-use Rattle.rules.specs.Make.{makeOf}
+use Rattle.rules.specs.Make.{shipped, shippedFrom, makeOf}
 use Rattle.rules.specs.Begin.{beginPutOf, beginTakeOf}
 use Rattle.rules.specs.Step.{stepOf}
 use Rattle.rules.specs.Held.{heldOf}
@@ -45,10 +45,10 @@ call worker bound o = record { worker = worker; bound = bound; out = o }
 -- the calls on the pool's words; the first word and the end word make none
 abbrev pub callOf : List ℕ → ℕ → Item → Call
 callOf ws bound (Open opening) = call 0 bound (out Moving ws)
-callOf ws bound (Make g) = call 0 (boundIn g) (makeOf ws g)
-callOf ws bound (BeginPut worker value) = call worker bound (beginPutOf ws worker value)
-callOf ws bound (BeginTake worker) = call worker bound (beginTakeOf ws worker)
-callOf ws bound (Step worker) = call worker bound (stepOf ws worker)
+callOf ws bound (Make g) = call 0 (boundIn g) (makeOf ws (shippedFrom g))
+callOf ws bound (BeginPut worker value) = call worker bound (beginPutOf shipped ws worker value)
+callOf ws bound (BeginTake worker) = call worker bound (beginTakeOf shipped ws worker)
+callOf ws bound (Step worker) = call worker bound (stepOf shipped ws worker)
 callOf ws bound End = call 0 bound (out Moving ws)
 callOf ws bound Bad = call 0 bound (out Moving ws)
 
@@ -91,7 +91,7 @@ pub record Pool : Type 0 where
 -- the lines of a file's items from a position on, and of the fault that ends the file (0: none)
 unfoldable pub linesFrom : ℕ → Pool → List Item → ℕ → List Line
 linesFrom position s [] fault =
-    cond (eqb fault 0) (closing (heldOf (s .words)) (s .worst) ∷ []) (lineThen position fault 0 noFields [])
+    cond (eqb fault 0) (closing (heldOf shipped (s .words)) (s .worst) ∷ []) (lineThen position fault 0 noFields [])
 linesFrom position s (item ∷ items) fault =
     let c = callOf (s .words) (s .bound) item in
     let a = cappedOf (c .bound) (c .out .answer) in
@@ -100,7 +100,7 @@ linesFrom position s (item ∷ items) fault =
 
 -- before the first word: enough words for the largest pool, so that make never answers 21
 abbrev pub noPool : Pool
-noPool = record { words = replicate mostWords 0; bound = 0; worst = 0 }
+noPool = record { words = replicate (mostWords shipped) 0; bound = 0; worst = 0 }
 
 unfoldable pub linesOf : List ℕ → List Line
 linesOf bytes = linesFrom 0 noPool ((fileOf bytes) .items) ((fileOf bytes) .fault)

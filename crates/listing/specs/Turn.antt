@@ -6,6 +6,7 @@ use lib.Dec.{eqb}
 use Rattle.laws.specs.Choice.{cond}
 use Rattle.rules.specs.Answers.{badWord}
 use Rattle.rules.specs.Held.{heldOf}
+use Rattle.rules.specs.Make.{shipped}
 use Rattle.rules.specs.declared.Row.{Row}
 use Rattle.rules.specs.declared.Stamp.{Stamp}
 use Rattle.rules.specs.declared.Answer.{Answer}
@@ -101,7 +102,7 @@ wordTurn ws l word = itemTurn ws l (itemOf (l .place) word)
 unfoldable pub endTurn : List ℕ → Lister → ℕ → Turn
 endTurn ws l fault =
     cond (eqb fault 0)
-    (record { lister = l; listed = Closing (heldOf ws) (l .worst) })
+    (record { lister = l; listed = Closing (heldOf shipped ws) (l .worst) })
     (lineTurn l (plain (l .position) fault 0))
 
 unfoldable pub turnOf : List ℕ → Lister → Read → Turned

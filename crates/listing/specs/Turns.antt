@@ -5,6 +5,7 @@ use lib.ListN.{length, replicate}
 use Rattle.runfile.specs.Words.{wordBytes, readAt}
 use Rattle.lines.specs.Lines.{numbersOf}
 use Rattle.rules.specs.Layout.{mostWords}
+use Rattle.rules.specs.Make.{shipped}
 use Rattle.listing.specs.Listing.{Line, entry, closing}
 use Rattle.listing.specs.Turn.{newLister, turnOf}
 use Rattle.listing.specs.declared.answer.Lister.{Lister}
@@ -27,4 +28,4 @@ turnsFrom (suc n) bytes at ws l =
 
 -- a turn for each whole word, and one for the end of the file
 unfoldable pub turnsOf : List ℕ → List Line
-turnsOf bytes = turnsFrom (length bytes / wordBytes + 1) bytes 0 (replicate mostWords 0) newLister
+turnsOf bytes = turnsFrom (length bytes / wordBytes + 1) bytes 0 (replicate (mostWords shipped) 0) newLister

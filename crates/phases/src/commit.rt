@@ -1,11 +1,10 @@
 // The commit phase.
 use crate::views::queue_view;
 use crate::views::stack_view;
-use effects::hop;
 use effects::landed;
+use effects::lost;
 use effects::refused;
 use effects::removed;
-use effects::restart;
 use laws::num::minus;
 use laws::num::plus;
 use rules::Effect;
@@ -20,7 +19,7 @@ ghost use Prim.Native.Nat.{_<_};
 ghost use Rattle.rules.specs.Commit.{commitBy, queueCommit, stackCommit};
 ghost use Rattle.rules.specs.Limits.{Bounds};
 
-// What a commit does that matches, if it is able to; a lost one hops.
+// What a commit does that matches, if it is able to, and one that does not.
 fn commit_by(g: Settings, v: View, side: Side, matches: bool, able: bool, done: Effect) -> Effect
     requires { ⌜ Bounds g ⌝ }
     requires { ⌜ v .worker .index < g .width ⌝ }
@@ -32,7 +31,7 @@ fn commit_by(g: Settings, v: View, side: Side, matches: bool, able: bool, done: 
         }
         return refused(v, NOT_FIT);
     }
-    restart(v, hop(g, v.worker.index), side)
+    lost(g, v, side)
 }
 
 pub fn queue_commit(g: Settings, v: View, side: Side, seen: u32) -> Effect

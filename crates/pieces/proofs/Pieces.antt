@@ -10,6 +10,7 @@ use lib.Seq.{take-paste, take-length}
 use Rattle.laws.specs.Choice.{cond, cases}
 use Rattle.runfile.specs.Words.{readsOf, readAt}
 use Rattle.rules.specs.Layout.{mostWords}
+use Rattle.rules.specs.Make.{shipped}
 use Rattle.listing.specs.Listing.{Line, textOf, listingOf}
 use Rattle.listing.specs.Turn.{Turned, turnOf}
 use Rattle.listing.specs.Turns.{listedThen, turnsFrom, turnsOf}
@@ -129,7 +130,7 @@ module _ (bytes : List ℕ) (p : ℕ) (src : List ℕ) (last : Bool) (piece : Pi
 
 -- before the first word
 pub begins : (bytes out : List ℕ) → length bytes < 2 ^ 64
-    → Progress bytes 0 [] (stretched newStretch (replicate mostWords 0) out)
+    → Progress bytes 0 [] (stretched newStretch (replicate (mostWords shipped) 0) out)
 unfolding listingOf turnsOf
 begins bytes out few = let all : length bytes / 4 + 1 - 0 ≡ length bytes / 4 + 1 = omega arith in rw all (ap textOf (turns-list bytes few))
 

@@ -3,7 +3,7 @@ use fitness::refusal;
 use image::idle_at;
 use image::index_of;
 use image::out_of_steps;
-use image::settings;
+use image::shipped_settings;
 use image::store;
 use image::worker_at;
 use rules::Answer;
@@ -11,6 +11,7 @@ use rules::Phase;
 use rules::Settings;
 use rules::Side;
 use rules::numbers::NO_SUCH_WORKER;
+use rules::numbers::SHIPPED;
 use rules::numbers::STEPS_SPENT;
 use rules::numbers::WORKER_BUSY;
 use worker::fresh_slot;
@@ -19,6 +20,7 @@ ghost use Rattle.rules.specs.Answers.{out};
 ghost use Rattle.rules.specs.Fit.{FitPool};
 ghost use Rattle.rules.specs.Layout.{Lent};
 ghost use Rattle.rules.specs.Begin.{slotBegin, fitBegin, beginOf, beginPutOf, beginTakeOf};
+ghost use Rattle.rules.specs.Make.{shipped};
 
 // Begins the worker whose words start at `at`.
 fn slot_begin(words: &mut [u32], g: Settings, at: usize, side: Side, value: u32) -> Answer
@@ -49,26 +51,26 @@ fn fit_begin(words: &mut [u32], g: Settings, i: u32, side: Side, value: u32) -> 
 }
 
 fn begin(words: &mut [u32], i: u32, side: Side, value: u32) -> Answer
-    ensures { λ r. ⌜ out r (now (words .exit)) ≡ beginOf (now (words .entry)) i side value ⌝ }
+    ensures { λ r. ⌜ out r (now (words .exit)) ≡ beginOf shipped (now (words .entry)) i side value ⌝ }
 {
-    let n = refusal(words);
+    let n = refusal(words, SHIPPED);
     if n != 0 {
         return Answer::Refused(n);
     }
-    let g = settings(words);
+    let g = shipped_settings(words);
     fit_begin(words, g, i, side, value)
 }
 
 // Begins a put of a value by a worker.
 pub fn begin_put(words: &mut [u32], worker: u32, value: u32) -> Answer
-    ensures { λ r. ⌜ out r (now (words .exit)) ≡ beginPutOf (now (words .entry)) worker value ⌝ }
+    ensures { λ r. ⌜ out r (now (words .exit)) ≡ beginPutOf shipped (now (words .entry)) worker value ⌝ }
 {
     begin(words, worker, Side::Putting, value)
 }
 
 // Begins a take by a worker.
 pub fn begin_take(words: &mut [u32], worker: u32) -> Answer
-    ensures { λ r. ⌜ out r (now (words .exit)) ≡ beginTakeOf (now (words .entry)) worker ⌝ }
+    ensures { λ r. ⌜ out r (now (words .exit)) ≡ beginTakeOf shipped (now (words .entry)) worker ⌝ }
 {
     begin(words, worker, Side::Taking, 0)
 }

@@ -6,6 +6,7 @@ use dispatcher::dispatch;
 use fitness::refusal;
 use rules::Answer;
 use rules::Dispatched;
+use rules::numbers::SHIPPED;
 use step::answers::answered;
 use step::answers::fields;
 use step::answers::number;
@@ -14,7 +15,7 @@ ghost use mathlib.Core.Path.{_≡_};
 ghost use Rattle.rules.specs.Answers.{returned, returnedOf};
 ghost use Rattle.rules.specs.Begin.{beginPutOf, beginTakeOf};
 ghost use Rattle.rules.specs.Dispatch.{dispatchOf, dispatchReturned, resultNumber, resultFields};
-ghost use Rattle.rules.specs.Make.{settingsFrom, makeOf};
+ghost use Rattle.rules.specs.Make.{shipped, settingsFrom, makeOf};
 ghost use Rattle.rules.specs.Step.{stepOf};
 
 #[no_mangle]
@@ -42,7 +43,7 @@ pub extern "C" fn pool_begin_put(
     value: u32,
     fields: &mut [u32; 5],
 ) -> u32
-    ensures { λ r. ⌜ returned r (now (words .exit)) (now (fields .exit)) ≡ returnedOf (beginPutOf (now (words .entry)) worker value) ⌝ }
+    ensures { λ r. ⌜ returned r (now (words .exit)) (now (fields .exit)) ≡ returnedOf (beginPutOf shipped (now (words .entry)) worker value) ⌝ }
 {
     let a = begin_put(words, worker, value);
     answered(a, fields)
@@ -50,7 +51,7 @@ pub extern "C" fn pool_begin_put(
 
 #[no_mangle]
 pub extern "C" fn pool_begin_take(words: &mut [u32], worker: u32, fields: &mut [u32; 5]) -> u32
-    ensures { λ r. ⌜ returned r (now (words .exit)) (now (fields .exit)) ≡ returnedOf (beginTakeOf (now (words .entry)) worker) ⌝ }
+    ensures { λ r. ⌜ returned r (now (words .exit)) (now (fields .exit)) ≡ returnedOf (beginTakeOf shipped (now (words .entry)) worker) ⌝ }
 {
     let a = begin_take(words, worker);
     answered(a, fields)
@@ -59,9 +60,9 @@ pub extern "C" fn pool_begin_take(words: &mut [u32], worker: u32, fields: &mut [
 // As `step` and `answered` would give it; see `fit_answer`.
 #[no_mangle]
 pub extern "C" fn pool_step(words: &mut [u32], worker: u32, fields: &mut [u32; 5]) -> u32
-    ensures { λ r. ⌜ returned r (now (words .exit)) (now (fields .exit)) ≡ returnedOf (stepOf (now (words .entry)) worker) ⌝ }
+    ensures { λ r. ⌜ returned r (now (words .exit)) (now (fields .exit)) ≡ returnedOf (stepOf shipped (now (words .entry)) worker) ⌝ }
 {
-    let n = refusal(words);
+    let n = refusal(words, SHIPPED);
     if n != 0 {
         return answered(Answer::Refused(n), fields);
     }
@@ -100,7 +101,7 @@ pub extern "C" fn pool_dispatch(
     steps: u32,
     fields: &mut [u32; 6],
 ) -> u32
-    ensures { λ r. ⌜ returned r (now (words .exit)) (now (fields .exit)) ≡ dispatchReturned (dispatchOf (now (words .entry)) worker steps) ⌝ }
+    ensures { λ r. ⌜ returned r (now (words .exit)) (now (fields .exit)) ≡ dispatchReturned (dispatchOf shipped (now (words .entry)) worker steps) ⌝ }
 {
     let r = dispatch(words, worker, steps);
     came_to(r, fields)

@@ -7,6 +7,7 @@ use image::worker_at;
 use rules::Answer;
 use rules::Settings;
 use rules::numbers::OFF_LIMITS;
+use rules::numbers::SHIPPED;
 use rules::numbers::TOO_FEW_WORDS;
 ghost use mathlib.Core.Path.{_≡_};
 ghost use Prim.Native.Nat.{_≤_};
@@ -51,7 +52,7 @@ fn fill(words: &mut [u32], g: Settings, n: usize)
     put_indices(words, g);
 }
 
-// Makes a new pool of the settings in the lent words.
+// Makes a new pool of the settings in the lent words, of the shipped edition.
 pub fn make(
     words: &mut [u32],
     kind: u32,
@@ -72,6 +73,7 @@ pub fn make(
         rows,
         workers,
         stride,
+        edition: SHIPPED,
     };
     if settings_fit(g) {
         let n = words_needed(g);

@@ -148,7 +148,7 @@ module _ (g : Settings) (limits : settingsFit g ≡ true) (kind : g .kind ≡ 1)
 -- ---- of the words
 -- they answer as the machine does, after the same calls
 answer-same : (g : Settings) (limits : settingsFit g ≡ true) (k : Kind g) {ws : List ℕ} {s : State} → Related g limits k ws s
-    → (cs : List Call) (c : Call) → callOf (wordsAfter ws cs) c .answer ≡ nextIn g (after g s cs) c .answer
+    → (cs : List Call) (c : Call) → callOf (g .edition) (wordsAfter (g .edition) ws cs) c .answer ≡ nextIn g (after g s cs) c .answer
 unfolding wordsAfter after
 answer-same g limits k r [] c = next-related g limits k r c .answer
 answer-same g limits k r (d ∷ cs) c = answer-same g limits k (next-related g limits k r d .related) cs c
@@ -162,13 +162,13 @@ reached ws g made kind two =
     let same = answer-same g (a .limits) k (made-related g (a .limits) k ws a) (m .calls) (step (m .worker)) in
     let taken = ap numberOf same ∙ m .taken in
     let reports = ap distanceIn same ∙ m .reports in
-    let stamp : Stamp = record { 0 = stampIn (answerAfter (makeOf ws g .words) (m .calls) (m .worker)) } in
+    let stamp : Stamp = record { 0 = stampIn (answerAfter (g .edition) (makeOf ws g .words) (m .calls) (m .worker)) } in
     let t = takes-within-exact ws g (m .calls) made (m .worker) taken in
     record {
       calls = m .calls;
       worker = m .worker;
       taken = taken;
-      passes = le-antisymm (t .passes) (omega (arith, t .reports, reports, never-above g .held (wordsAfter (makeOf ws g .words) (m .calls)) stamp));
+      passes = le-antisymm (t .passes) (omega (arith, t .reports, reports, never-above g .held (wordsAfter (g .edition) (makeOf ws g .words) (m .calls)) stamp));
       reports = reports;
     }
 

@@ -17,9 +17,9 @@ use Rattle.rules.specs.declared.Settings.{Settings}
 pub record Passes (g : Settings) (ws : List ℕ) (most : ℕ) : Type 0 where
   pub calls : List Call
   pub worker : ℕ
-  pub taken : numberOf (answerAfter ws calls worker) ≡ 2
-  pub passes : passedOf (wordsAfter ws calls) g (record { 0 = stampIn (answerAfter ws calls worker) }) ≡ most
-  pub reports : distanceIn (answerAfter ws calls worker) ≡ most
+  pub taken : numberOf (answerAfter (g .edition) ws calls worker) ≡ 2
+  pub passes : passedOf (wordsAfter (g .edition) ws calls) g (record { 0 = stampIn (answerAfter (g .edition) ws calls worker) }) ≡ most
+  pub reports : distanceIn (answerAfter (g .edition) ws calls worker) ≡ most
 
 -- every stack that make accepts with two workers or more has such a list, with the exact figure
 abbrev pub Reached : Type 0

@@ -20,6 +20,7 @@ ghost use mathlib.Core.Path.{_≡_};
 ghost use lib.ListN.{replicate};
 ghost use Rattle.rules.specs.Layout.{mostWords};
 ghost use Rattle.rules.specs.Limits.{Bounds};
+ghost use Rattle.rules.specs.Make.{shipped};
 ghost use Rattle.rules.specs.Sequential.{mostPassed};
 ghost use Rattle.listing.specs.Listing.{boundIn};
 ghost use Rattle.listing.specs.Turn.{turned, placed, callTurn, wordTurn, turnOf};
@@ -27,7 +28,7 @@ ghost use Rattle.runfile.specs.Words.{readAt};
 
 // The lent words before a file's first word: enough for the largest pool.
 pub fn lent_words() -> [u32; MOST_WORDS]
-    ensures { λ r. ⌜ r ≡ replicate mostWords 0 ⌝ }
+    ensures { λ r. ⌜ r ≡ replicate (mostWords shipped) 0 ⌝ }
 {
     [0; MOST_WORDS]
 }

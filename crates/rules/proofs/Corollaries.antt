@@ -37,10 +37,10 @@ stamps-once ws g cs made stamp =
 
 -- each distance reported is within demand 3's bound, and within the exact figure
 pub within-bound : OfEveryRun (WithinBound mostPassed)
-within-bound ws g cs made = bounded (mostPassed g) g (run (makeOf ws g .words) cs) (demand3 ws g cs made)
+within-bound ws g cs made = bounded (mostPassed g) g (run (g .edition) (makeOf ws g .words) cs) (demand3 ws g cs made)
 
 pub within-exact : OfEveryRun (WithinBound exactBound)
-within-exact ws g cs made = bounded (exactBound g) g (run (makeOf ws g .words) cs) (exact ws g cs made)
+within-exact ws g cs made = bounded (exactBound g) g (run (g .edition) (makeOf ws g .words) cs) (exact ws g cs made)
 
 -- what each take reports and passes over is counted in the pool just before it, the second within the same bounds
 pub takes-within-exact : OfEveryRun (TakesWithin exactBound)
@@ -61,14 +61,14 @@ all-reported ws g cs made all i two =
     let a = accepted ws g made in
     let k = kindOf g (a .limits) in
     takes-within-exact ws g cs made i two .reports
-    ∙ without-spacers (g .kind) (stampIn (answerAfter (makeOf ws g .words) cs i)) _ (no-spacers-after g (a .limits) k (made-related g (a .limits) k ws a) (made-no-spacers g (a .limits) k) cs all)
+    ∙ without-spacers (g .kind) (stampIn (answerAfter (g .edition) (makeOf ws g .words) cs i)) _ (no-spacers-after g (a .limits) k (made-related g (a .limits) k ws a) (made-no-spacers g (a .limits) k) cs all)
 
 -- an operation that finished before another began stands before it
-pub real-time : (ws : List ℕ) (g : Settings) (cs : List Call) (made : _) → InRealTime (mostPassed g) g (run (makeOf ws g .words) cs) (demand3 ws g cs made)
-real-time ws g cs made = in-real-time (mostPassed g) g (run (makeOf ws g .words) cs) (demand3 ws g cs made)
+pub real-time : (ws : List ℕ) (g : Settings) (cs : List Call) (made : _) → InRealTime (mostPassed g) g (run (g .edition) (makeOf ws g .words) cs) (demand3 ws g cs made)
+real-time ws g cs made = in-real-time (mostPassed g) g (run (g .edition) (makeOf ws g .words) cs) (demand3 ws g cs made)
 
 -- no count and no sum of a step reaches 2^32, and no difference but confirm's passes below 0
-pub no-sum-wraps : OfEveryRun (λ g ws cs. NoSumWraps g (wordsAfter ws cs))
+pub no-sum-wraps : OfEveryRun (λ g ws cs. NoSumWraps g (wordsAfter (g .edition) ws cs))
 no-sum-wraps ws g cs made =
     let a = accepted ws g made in
     safe-after g (a .limits) (kindOf g (a .limits)) (made-related g (a .limits) (kindOf g (a .limits)) ws a) cs

@@ -1,7 +1,7 @@
 -- What the tests of settings and fitness say where they hold: settings within limits have the limits as orders, and a
 -- pool that is checked fit has each field of `FitPool`. Each test is read off the choice that it stands in.
 use Prim.Native.Nat.{ℕ, _+_, _-_, _%_, _<_, _≤_}
-use mathlib.Core.Path.{_≡_, refl, subst}
+use mathlib.Core.Path.{_≡_, refl, sym, subst}
 use mathlib.Core.List.{List}
 use mathlib.Core.Bool.{Bool, true, false}
 use native.Mathlib.Omega.{arith}
@@ -10,10 +10,11 @@ use lib.Dec.{ltb, leb, lit<}
 use borrow.Author.Tests.{ltb-true, ltb-false, leb-true, eq-eqb, ne-eqb, eqb-true}
 use Rattle.laws.specs.Choice.{cond, cases, both-true, all, all-holds, allBelow-at}
 use Rattle.rules.specs.Answers.{tooFewWords, notFit}
-use Rattle.rules.specs.Layout.{headWords, zeroAt, workerWords, workerAt, needed, settingsOf}
+use Rattle.rules.specs.Layout.{headWords, workerWords, workerAt, phaseWord, indexWord, scanWord, needed, settingsOf}
 use Rattle.rules.specs.Limits.{limits, queueLimits, settingsFit, Bounds}
 use Rattle.rules.specs.Fit.{Checked, Unfit, Fit, headFit, subFit, subsFit, phaseFit, wordFit, workersFit, bodyChecked, checkedOf, refusalOf, SubFits, FitPool}
 use Rattle.rules.specs.declared.Settings.{Settings}
+use Rattle.rules.proofs.Workers.{word-lt}
 
 -- ---- settings
 pub settings-bounds : (g : Settings) → settingsFit g ≡ true → Bounds g
@@ -76,9 +77,9 @@ sub-fits g first second e =
     }
 
 -- a word of a worker of those that are fit
-pub worker-word : (ws : List ℕ) (g : Settings) (i k : ℕ) → i < g .workers → k < workerWords → workersFit ws g ≡ true → wordFit g k (getD ws (workerAt g i + k) 0) ≡ true
+pub worker-word : (ws : List ℕ) (g : Settings) (i k : ℕ) → i < g .workers → k < workerWords (g .edition) → workersFit ws g ≡ true → wordFit g k (getD ws (workerAt g i + k) 0) ≡ true
 unfolding workersFit
-worker-word ws g i k h l e = allBelow-at workerWords _ k l (allBelow-at (g .workers) _ i h e)
+worker-word ws g i k h l e = allBelow-at (workerWords (g .edition)) _ k l (allBelow-at (g .workers) _ i h e)
 
 body-fit : (ws : List ℕ) (h g : Settings) → settingsOf ws ≡ h → settingsFit h ≡ true → bodyChecked ws h ≡ Fit g → FitPool h ws × (h ≡ g)
 unfolding bodyChecked subsFit wordFit cond
@@ -91,34 +92,38 @@ body-fit ws h g s limits e =
         enough = ltb-false _ _ (long .0);
         settings = s;
         sub = λ j l. sub-fits h _ _ (allBelow-at (h .width) _ j l (subs .0));
-        index = λ i l. ltb-true _ _ (worker-word ws h i 2 l (lit< tt) (workers .0));
-        scan = λ i l. ltb-true _ _ (worker-word ws h i 5 l (lit< tt) (workers .0));
+        index = λ i l. ltb-true _ _ (worker-word ws h i indexWord l (word-lt (h .edition) _ (lit< tt)) (workers .0));
+        scan = λ i l. ltb-true _ _ (worker-word ws h i scanWord l (word-lt (h .edition) _ (lit< tt)) (workers .0));
       },
       fit-settings h g (workers .1),
     )
 
-pub head-bounds : (ws : List ℕ) → headFit ws ≡ true → Bounds (settingsOf ws)
+pub head-bounds : (ed : ℕ) (g : Settings) → headFit ed g ≡ true → Bounds g
 unfolding headFit
-head-bounds ws e = settings-bounds (settingsOf ws) (both-true _ _ e .0)
+head-bounds ed g e = settings-bounds g (both-true _ _ e .0)
 
 -- a pool that is checked fit
-pub fit-pool : (ws : List ℕ) (g : Settings) → checkedOf ws ≡ Fit g → FitPool g ws
+pub fit-pool : (ed : ℕ) (ws : List ℕ) (g : Settings) → checkedOf ed ws ≡ Fit g → FitPool g ws
 unfolding checkedOf headFit
-fit-pool ws g e =
-    let head = passed (headFit ws) notFit _ g (passed-not (ltb (length ws) headWords) tooFewWords _ g e .1) in
+fit-pool ed ws g e =
+    let head = passed (headFit ed (settingsOf ws)) notFit _ g (passed-not (ltb (length ws) headWords) tooFewWords _ g e .1) in
     let p = body-fit ws (settingsOf ws) g refl (both-true _ _ (head .0) .0) (head .1) in
     subst (λ (h : Settings). FitPool h ws) (p .1) (p .0)
 
--- its settings are within limits and its word 11 zero, and each worker is in a phase of its kind
-head-is : (ws : List ℕ) → headFit ws ≡ true → (settingsFit (settingsOf ws) ≡ true) × (getD ws zeroAt 0 ≡ 0)
+-- its settings are within limits and it is of the edition asked for, and each worker is in a phase of its kind
+head-is : (ed : ℕ) (g : Settings) → headFit ed g ≡ true → (settingsFit g ≡ true) × (g .edition ≡ ed)
 unfolding headFit
-head-is ws e = let t = both-true (settingsFit (settingsOf ws)) _ e in (t .0, eqb-true _ _ (t .1))
+head-is ed g e = let t = both-true (settingsFit g) _ e in (t .0, eqb-true _ _ (t .1))
 
-pub fit-head : (ws : List ℕ) (g : Settings) → checkedOf ws ≡ Fit g → (settingsFit g ≡ true) × (getD ws zeroAt 0 ≡ 0)
+pub fit-head : (ed : ℕ) (ws : List ℕ) (g : Settings) → checkedOf ed ws ≡ Fit g → (settingsFit g ≡ true) × (g .edition ≡ ed)
 unfolding checkedOf
-fit-head ws g e =
-    let h = head-is ws (passed (headFit ws) notFit _ g (passed-not (ltb (length ws) headWords) tooFewWords _ g e .1) .0) in
-    (subst (λ (x : Settings). settingsFit x ≡ true) (fit-pool ws g e .settings) (h .0), h .1)
+fit-head ed ws g e =
+    let h = head-is ed (settingsOf ws) (passed (headFit ed (settingsOf ws)) notFit _ g (passed-not (ltb (length ws) headWords) tooFewWords _ g e .1) .0) in
+    subst (λ (x : Settings). (settingsFit x ≡ true) × (x .edition ≡ ed)) (fit-pool ed ws g e .settings) h
+
+-- so it is fit by its own edition
+pub fit-own : (ed : ℕ) (ws : List ℕ) (g : Settings) → checkedOf ed ws ≡ Fit g → checkedOf (g .edition) ws ≡ Fit g
+fit-own ed ws g e = subst (λ (x : ℕ). checkedOf x ws ≡ Fit g) (sym (fit-head ed ws g e .1)) e
 
 body-workers : (ws : List ℕ) (h g : Settings) → bodyChecked ws h ≡ Fit g → (workersFit ws h ≡ true) × (h ≡ g)
 unfolding bodyChecked
@@ -126,14 +131,14 @@ body-workers ws h g e =
     let workers = passed (workersFit ws h) notFit _ g (passed (subsFit ws h) notFit _ g (passed-not (ltb (length ws) (needed h)) tooFewWords _ g e .1) .1) in
     (workers .0, fit-settings h g (workers .1))
 
-pub fit-number : (ws : List ℕ) (g : Settings) → checkedOf ws ≡ Fit g → (i : ℕ) → i < g .workers → phaseFit (g .kind) (getD ws (workerAt g i) 0) ≡ true
+pub fit-number : (ed : ℕ) (ws : List ℕ) (g : Settings) → checkedOf ed ws ≡ Fit g → (i : ℕ) → i < g .workers → phaseFit (g .kind) (getD ws (workerAt g i) 0) ≡ true
 unfolding checkedOf wordFit cond
-fit-number ws g e i l =
-    let body = passed (headFit ws) notFit _ g (passed-not (ltb (length ws) headWords) tooFewWords _ g e .1) .1 in
+fit-number ed ws g e i l =
+    let body = passed (headFit ed (settingsOf ws)) notFit _ g (passed-not (ltb (length ws) headWords) tooFewWords _ g e .1) .1 in
     let p = body-workers ws (settingsOf ws) g body in
     let workers : workersFit ws g ≡ true = subst (λ (h : Settings). workersFit ws h ≡ true) (p .1) (p .0) in
     let z : workerAt g i + 0 ≡ workerAt g i = omega arith in
-    rw z at (worker-word ws g i 0 l (lit< tt) workers)
+    rw z at (worker-word ws g i phaseWord l (word-lt (g .edition) _ (lit< tt)) workers)
 
 -- a refusal's number is not 0, so 0 means that the pool is fit, and any other number is the refusal
 Numbered : Settings → Checked → Type 0
@@ -146,22 +151,22 @@ body-numbered ws g =
     cases (Numbered g) (ltb (length ws) (needed g)) _ _ (λ e. omega arith)
     (λ e. cases (Numbered g) (subsFit ws g) _ _ (λ f. cases (Numbered g) (workersFit ws g) _ _ (λ h. refl) (λ h. omega arith)) (λ f. omega arith))
 
-numbered : (ws : List ℕ) → Numbered (settingsOf ws) (checkedOf ws)
+numbered : (ed : ℕ) (ws : List ℕ) → Numbered (settingsOf ws) (checkedOf ed ws)
 unfolding checkedOf Numbered
-numbered ws =
+numbered ed ws =
     cases (Numbered (settingsOf ws)) (ltb (length ws) headWords) _ _ (λ e. omega arith)
-    (λ e. cases (Numbered (settingsOf ws)) (headFit ws) _ _ (λ f. body-numbered ws (settingsOf ws)) (λ f. omega arith))
+    (λ e. cases (Numbered (settingsOf ws)) (headFit ed (settingsOf ws)) _ _ (λ f. body-numbered ws (settingsOf ws)) (λ f. omega arith))
 
-pub refusal-none : (ws : List ℕ) → refusalOf (checkedOf ws) ≡ 0 → checkedOf ws ≡ Fit (settingsOf ws)
+pub refusal-none : (ed : ℕ) (ws : List ℕ) → refusalOf (checkedOf ed ws) ≡ 0 → checkedOf ed ws ≡ Fit (settingsOf ws)
 unfolding Numbered
-refusal-none ws = go (checkedOf ws) (numbered ws)
+refusal-none ed ws = go (checkedOf ed ws) (numbered ed ws)
   where
     go : (c : Checked) → Numbered (settingsOf ws) c → refusalOf c ≡ 0 → c ≡ Fit (settingsOf ws)
     go (Unfit n) h e = absurd (omega arith)
     go (Fit g) h e = rw h refl
 
-pub refusal-some : (ws : List ℕ) → ¬ (refusalOf (checkedOf ws) ≡ 0) → checkedOf ws ≡ Unfit (refusalOf (checkedOf ws))
-refusal-some ws = go (checkedOf ws)
+pub refusal-some : (ed : ℕ) (ws : List ℕ) → ¬ (refusalOf (checkedOf ed ws) ≡ 0) → checkedOf ed ws ≡ Unfit (refusalOf (checkedOf ed ws))
+refusal-some ed ws = go (checkedOf ed ws)
   where
     go : (c : Checked) → ¬ (refusalOf c ≡ 0) → c ≡ Unfit (refusalOf c)
     go (Unfit n) h = refl

@@ -118,14 +118,14 @@ module _ (ws : List ℕ) (g : Settings) (few : (j : ℕ) → firstOf ws j < 2 ^ 
 -- ---- the theorem
 pub held-in-segments : HeldInSegments
 held-in-segments ws g j image l =
-    let fit = fit-pool ws g (image .fit) in
+    let fit = fit-pool (g .edition) ws g (image .fit) in
     held-cells ws g j (fit .bounds) (image .words _) (fit .sub j l)
 
 pub walk-meets-held : WalkMeetsHeld
-walk-meets-held ws g image = walked-below ws g (λ j. image .words _) (fit-pool ws g (image .fit)) (g .width) (omega arith)
+walk-meets-held ws g image = walked-below ws g (λ j. image .words _) (fit-pool (g .edition) ws g (image .fit)) (g .width) (omega arith)
 
 pub same-distance : SameDistance
-same-distance ws g s image = distance-walked ws g (λ j. image .words _) (fit-pool ws g (image .fit)) s
+same-distance ws g s image = distance-walked ws g (λ j. image .words _) (fit-pool (g .edition) ws g (image .fit)) s
 
 pub same-number : SameNumber
 unfolding heldOf heldBy

@@ -20,7 +20,7 @@ use Rattle.rules.specs.Newer.{exactBound}
 use Rattle.rules.specs.Spacers.{TakenWithin, TakesWithin, NoSpacer}
 use Rattle.rules.specs.Consequences.{wordsAfter, itemIn, itemsIn, hasStamp, NoSumWraps}
 use Rattle.rules.proofs.Types.{Settings, Putting, Taking, Effect, Outcome}
-use Rattle.rules.specs.declared.Outcome.the-variants.{Refused, Moving, Shifted, Landed, Removed, Empty, Full}
+use Rattle.rules.specs.declared.Outcome.the-variants.{Refused, Moving, Lost, Shifted, Landed, Removed, Empty, Full}
 use Rattle.rules.proofs.counts.Sums.{bit, bit-le}
 use Rattle.rules.proofs.order.Law.{Next}
 use Rattle.rules.proofs.Fitness.{settings-bounds}
@@ -59,8 +59,8 @@ module _ (g : Settings) (limits : settingsFit g ≡ true) (k : Kind g) where
       held-same g ws s (r .says) order p ∙ sym (held-count (k .holding s (r .list) (r .whole .inv) .held) order p)
 
   pub accounted : {ws : List ℕ} {s : State} (r : Rel ws s) (cs : List Call) (p : Item → Bool)
-      → countItems p (heldItems (wordsAfter ws cs) g) + countItems p (itemsIn 2 (run ws cs))
-      ≡ countItems p (r .list .items) + countItems p (itemsIn 1 (run ws cs))
+      → countItems p (heldItems (wordsAfter (g .edition) ws cs) g) + countItems p (itemsIn 2 (run (g .edition) ws cs))
+      ≡ countItems p (r .list .items) + countItems p (itemsIn 1 (run (g .edition) ws cs))
   unfolding wordsAfter run itemsIn
   accounted r [] p = omega (arith, held-listed r p, count-none p)
   accounted {ws} r (c ∷ cs) p =
@@ -69,16 +69,16 @@ module _ (g : Settings) (limits : settingsFit g ≡ true) (k : Kind g) where
         arith,
         accounted (n .related) cs p,
         n .changed .counts p,
-        count-append p (itemIn 1 (callOf ws c .answer)) (itemsIn 1 (run (callOf ws c .words) cs)),
-        count-append p (itemIn 2 (callOf ws c .answer)) (itemsIn 2 (run (callOf ws c .words) cs)),
+        count-append p (itemIn 1 (callOf (g .edition) ws c .answer)) (itemsIn 1 (run (g .edition) (callOf (g .edition) ws c .words) cs)),
+        count-append p (itemIn 2 (callOf (g .edition) ws c .answer)) (itemsIn 2 (run (g .edition) (callOf (g .edition) ws c .words) cs)),
       )
 
   -- ---- both counts of a take are those of the pool just before
-  taken-within : {ws : List ℕ} {s : State} (r : Rel ws s) (i : ℕ) → numberOf (callOf ws (step i) .answer) ≡ 2
-      → TakenWithin (exactBound g) g ws (callOf ws (step i) .answer)
+  taken-within : {ws : List ℕ} {s : State} (r : Rel ws s) (i : ℕ) → numberOf (callOf (g .edition) ws (step i) .answer) ≡ 2
+      → TakenWithin (exactBound g) g ws (callOf (g .edition) ws (step i) .answer)
   unfolding distanceOf passedOf
   taken-within {ws} r i two =
-      let stamp = stampIn (callOf ws (step i) .answer) in
+      let stamp = stampIn (callOf (g .edition) ws (step i) .answer) in
       let t = next-related g limits k r (step i) .changed .taken two in
       record {
         reports = t .0 ∙ sym (held-listed r (reported (g .kind) stamp));
@@ -90,21 +90,21 @@ module _ (g : Settings) (limits : settingsFit g ≡ true) (k : Kind g) where
 
   -- where no call begins a put of a spacer, none is held
   pub no-spacers-after : {ws : List ℕ} {s : State} (r : Rel ws s) → NoSpacers g limits k s (r .list) → (cs : List Call) → All NoSpacer cs
-      → countItems isSpacer (heldItems (wordsAfter ws cs) g) ≡ 0
+      → countItems isSpacer (heldItems (wordsAfter (g .edition) ws cs) g) ≡ 0
   unfolding wordsAfter
   no-spacers-after r none [] all = held-listed r isSpacer ∙ none .listed
   no-spacers-after r none (c ∷ cs) all = let n = next-related g limits k r c in no-spacers-after (n .related) (n .no-spacers (all .0) none) cs (all .1)
 
   -- ---- a put hands out a stamp above all before
   pub stamped-once : {ws : List ℕ} {s : State} (r : Rel ws s) (cs : List Call) (stamp : ℕ)
-      → countItems (hasStamp stamp) (itemsIn 1 (run ws cs)) + bit (leb stamp (r .list .count)) ≤ 1
+      → countItems (hasStamp stamp) (itemsIn 1 (run (g .edition) ws cs)) + bit (leb stamp (r .list .count)) ≤ 1
   unfolding run itemsIn
   stamped-once r [] stamp = omega (arith, count-none (hasStamp stamp), bit-le (leb stamp (r .list .count)))
   stamped-once {ws} r (c ∷ cs) stamp =
       let n = next-related g limits k r c in
-      let a = callOf ws c .answer in
+      let a = callOf (g .edition) ws c .answer in
       let ih = stamped-once (n .related) cs stamp in
-      let both = count-append (hasStamp stamp) (itemIn 1 a) (itemsIn 1 (run (callOf ws c .words) cs)) in
+      let both = count-append (hasStamp stamp) (itemIn 1 a) (itemsIn 1 (run (g .edition) (callOf (g .edition) ws c .words) cs)) in
       elim (ℕ-discrete (numberOf a) 1) [
         | yes e ↦
             let t = n .changed .put e in
@@ -137,7 +137,7 @@ module _ (g : Settings) (limits : settingsFit g ≡ true) (k : Kind g) where
         rule = λ i l. rw (view-same g ws s says i l (r .whole .common .slots i .index)) (safe .rule i);
       }
 
-  pub safe-after : {ws : List ℕ} {s : State} → Rel ws s → (cs : List Call) → NoSumWraps g (wordsAfter ws cs)
+  pub safe-after : {ws : List ℕ} {s : State} → Rel ws s → (cs : List Call) → NoSumWraps g (wordsAfter (g .edition) ws cs)
   safe-after r cs = safe-words (related-after g limits k r cs .related)
 
   -- ---- no call finds the pool unfit
@@ -149,6 +149,7 @@ module _ (g : Settings) (limits : settingsFit g ≡ true) (k : Kind g) where
   not-21 s i e (Refused n) (inl h) u = omega arith
   not-21 s i e (Refused n) (inr h) u = omega arith
   not-21 s i e Moving h u = omega arith
+  not-21 s i e Lost h u = omega arith
   not-21 s i e Shifted h u = omega arith
   not-21 s i e (Landed value row stamp) h u = omega arith
   not-21 s i e (Removed row) h u = omega arith
@@ -174,7 +175,7 @@ module _ (g : Settings) (limits : settingsFit g ≡ true) (k : Kind g) where
   fine-call s q common inv (step i) = fine-called (step-called g s i) (λ able. fine-rule s q common inv i)
 
   pub fine-at : {ws : List ℕ} {s : State} → Rel ws s → (cs : List Call) (f : ℕ)
-      → (numberOf (at (run ws cs) f .answer) ≢ tooFewWords) × (numberOf (at (run ws cs) f .answer) ≢ notFit)
+      → (numberOf (at (run (g .edition) ws cs) f .answer) ≢ tooFewWords) × (numberOf (at (run (g .edition) ws cs) f .answer) ≢ notFit)
   unfolding run
   fine-at r [] f = ((λ u. omega arith), (λ u. omega arith))
   fine-at {s = s} r (c ∷ cs) zero =

@@ -136,15 +136,15 @@ module _ (g : Settings) (limits : settingsFit g ≡ true) (k : Kind g) where
 
   -- the words after a call, with the list after it
   pub record Next-related (ws : List ℕ) (s : State) (q : Contents) (c : Call) : Type 0 where
-    pub answer : callOf ws c .answer ≡ nextIn g s c .answer
-    pub related : Related (callOf ws c .words) (nextIn g s c .state)
-    pub changed : Changed (exactBound g) g q (callOf ws c .answer) (related .list)
+    pub answer : callOf (g .edition) ws c .answer ≡ nextIn g s c .answer
+    pub related : Related (callOf (g .edition) ws c .words) (nextIn g s c .state)
+    pub changed : Changed (exactBound g) g q (callOf (g .edition) ws c .answer) (related .list)
     pub no-spacers : NoSpacer c → NoSpacers s q → NoSpacers (nextIn g s c .state) (related .list)
 
   pub next-related : {ws : List ℕ} {s : State} (r : Related ws s) (c : Call) → Next-related ws s (r .list) c
   next-related {ws} {s} r c =
       let h = r .whole in
-      let f : Follows g (callOf ws c) (nextIn g s c) = follows g limits ws s (r .says) (h .common) (k .counts s (r .list) (h .inv)) c in
+      let f : Follows g (callOf (g .edition) ws c) (nextIn g s c) = follows g limits ws s (r .says) (h .common) (k .counts s (r .list) (h .inv)) c in
       let n = onward s (r .list) h c in
       record {
         answer = f .answer;
@@ -153,7 +153,7 @@ module _ (g : Settings) (limits : settingsFit g ≡ true) (k : Kind g) where
         no-spacers = n .no-spacers;
       }
 
-  pub events-same : {ws : List ℕ} {s : State} → Related ws s → (cs : List Call) → run ws cs ≡ events (nextIn g) s cs
+  pub events-same : {ws : List ℕ} {s : State} → Related ws s → (cs : List Call) → run (g .edition) ws cs ≡ events (nextIn g) s cs
   unfolding run events
   events-same r [] = refl
   events-same r (c ∷ cs) =
@@ -166,7 +166,7 @@ module _ (g : Settings) (limits : settingsFit g ≡ true) (k : Kind g) where
     pub state : State
     pub related : Related ws state
 
-  pub related-after : {ws : List ℕ} {s : State} → Related ws s → (cs : List Call) → After-calls (wordsAfter ws cs)
+  pub related-after : {ws : List ℕ} {s : State} → Related ws s → (cs : List Call) → After-calls (wordsAfter (g .edition) ws cs)
   unfolding wordsAfter
   related-after {s = s} r [] = record { state = s; related = r }
   related-after r (c ∷ cs) = related-after (next-related r c .related) cs
@@ -175,5 +175,5 @@ module _ (g : Settings) (limits : settingsFit g ≡ true) (k : Kind g) where
   made-related ws a =
       record { says = rw (a .words) (made-says ws g (a .enough)); list = noItems; whole = made-whole }
 
-  pub words-order : (ws : List ℕ) → Accepted ws g → (cs : List Call) → OneAtATime g (run (makeOf ws g .words) cs)
+  pub words-order : (ws : List ℕ) → Accepted ws g → (cs : List Call) → OneAtATime g (run (g .edition) (makeOf ws g .words) cs)
   words-order ws a cs = rw (events-same (made-related ws a) cs) (machine-order cs)

@@ -7,17 +7,17 @@ use native.Mathlib.Omega.{arith}
 use lib.ListN.{getD, set, length, length-set}
 use lib.Seq.{getD-set-other, sets}
 use lib.Dec.{leb, ltb, eqb}
-use borrow.Author.Tests.{leb-false}
+use borrow.Author.Tests.{ltb-true, leb-false}
 use Rattle.laws.specs.Choice.{cases}
 use Rattle.laws.specs.Wrap.{sub32}
 use Rattle.rules.specs.Answers.{Out}
-use Rattle.rules.specs.Layout.{needed, workerAt, settingsOf, indexAt}
+use Rattle.rules.specs.Layout.{needed, workerWords, lostWord, workerAt, settingsOf, indexAt}
 use Rattle.rules.specs.Limits.{settingsFit}
 use Rattle.rules.specs.Worker.{putSlot, wordsOf}
 use Rattle.rules.specs.Fit.{Checked, Unfit, Fit, checkedOf, FitPool}
 use Rattle.rules.specs.Make.{zeroed, newHead, indexed, madeWords, makeOf}
 use Rattle.rules.specs.Begin.{outOfSteps, slotBegin, fitBegin, checkedBegin, beginOf}
-use Rattle.rules.specs.Apply.{putItem, putSub, putLanded, putShifted, putWorker, applyBy, applyOf}
+use Rattle.rules.specs.Apply.{countLost, putItem, putSub, putLanded, putShifted, putWorker, applyBy, applyOf}
 use Rattle.rules.specs.Step.{slotStep, fitStep, checkedStep, stepOf}
 use Rattle.rules.specs.Untouched.{Beyond, MakeKeeps, BeginKeeps, StepKeeps}
 use Rattle.rules.specs.declared.Settings.{Settings}
@@ -27,7 +27,8 @@ use Rattle.rules.specs.declared.Row.{Row}
 use Rattle.rules.specs.declared.Stamp.{Stamp}
 use Rattle.rules.specs.declared.Effect.{Effect}
 use Rattle.rules.specs.declared.Outcome.{Outcome}
-use Rattle.rules.specs.declared.Outcome.the-variants.{Refused, Moving, Shifted, Landed, Removed, Empty, Full}
+use Rattle.rules.specs.declared.Outcome.the-variants.{Refused, Moving, Lost, Shifted, Landed, Removed, Empty, Full}
+use Rattle.rules.proofs.Workers.{slot-within, worker-within}
 use Rattle.rules.proofs.Cells.{cell-lt}
 use Rattle.rules.proofs.Fitness.{fit-pool}
 
@@ -56,7 +57,7 @@ indexed-keeps : (g : Settings) (i : ℕ) (ws after : List ℕ) → i ≤ g .work
 unfolding indexed
 indexed-keeps g zero ws after l b = b
 indexed-keeps g (suc i) ws after l b =
-    store-keeps (needed g) (indexAt (workerAt g i)) (i % g .width) ws (indexed after g i) (omega arith) (indexed-keeps g i ws after (omega arith) b)
+    store-keeps (needed g) (indexAt (workerAt g i)) (i % g .width) ws (indexed after g i) (omega (arith, worker-within g i l, slot-within (g .edition))) (indexed-keeps g i ws after (omega arith) b)
 
 pub make-keeps : MakeKeeps
 unfolding makeOf madeWords
@@ -71,7 +72,7 @@ make-keeps ws g =
 -- ---- begin and step
 slot-keeps : (g : Settings) (i : ℕ) (x : Slot) (ws after : List ℕ) → i < g .workers → Beyond (needed g) ws after → Beyond (needed g) ws (putSlot after (workerAt g i) x)
 unfolding putSlot
-slot-keeps g i x ws after l b = stores-keep (wordsOf x) (needed g) (workerAt g i) ws after (omega arith) b
+slot-keeps g i x ws after l b = stores-keep (wordsOf x) (needed g) (workerAt g i) ws after (omega (arith, worker-within g i l, slot-within (g .edition))) b
 
 begin-slot-keeps : (g : Settings) (ws : List ℕ) (i : ℕ) (side : Side) (value : ℕ) → i < g .workers → Beyond (needed g) ws (slotBegin ws (workerAt g i) side value .words)
 unfolding slotBegin
@@ -91,12 +92,12 @@ begin-fit-keeps g ws i side value =
 
 pub begin-keeps : BeginKeeps
 unfolding beginOf checkedBegin
-begin-keeps ws i side value = go (checkedOf ws) refl
+begin-keeps ed ws i side value = go (checkedOf ed ws) refl
   where
-    go : (c : Checked) → checkedOf ws ≡ c → Beyond (needed (settingsOf ws)) ws (checkedBegin ws c i side value .words)
+    go : (c : Checked) → checkedOf ed ws ≡ c → Beyond (needed (settingsOf ws)) ws (checkedBegin ws c i side value .words)
     go (Unfit n) e = unchanged _ ws
     go (Fit g) e =
-        subst (λ (h : Settings). Beyond (needed h) ws (fitBegin ws g i side value .words)) (sym (fit-pool ws g e .settings))
+        subst (λ (h : Settings). Beyond (needed h) ws (fitBegin ws g i side value .words)) (sym (fit-pool ed ws g e .settings))
         (begin-fit-keeps g ws i side value)
 
 module _ (g : Settings) (ws : List ℕ) (fit : FitPool g ws) (i j : ℕ) (li : i < g .workers) (lj : j < g .width) where
@@ -112,6 +113,13 @@ module _ (g : Settings) (ws : List ℕ) (fit : FitPool g ws) (i j : ℕ) (li : i
   unfolding putWorker
   worker-keeps e after b = slot-keeps g i (e .slot) ws _ li (store-keeps _ _ _ ws after (omega arith) b)
 
+  lost-keeps : Beyond (needed g) ws (countLost ws g (workerAt g i))
+  unfolding countLost
+  lost-keeps =
+      cases (Beyond (needed g) ws) (ltb lostWord (workerWords (g .edition))) _ _
+      (λ e. store-keeps _ _ _ ws ws (omega (arith, worker-within g i li, ltb-true lostWord (workerWords (g .edition)) e)) (unchanged _ ws))
+      (λ e. unchanged _ ws)
+
   item-keeps : (value : ℕ) (row : Row) (stamp : Stamp) → Beyond (needed g) ws (putItem ws g j value row stamp)
   unfolding putItem
   item-keeps value row stamp =
@@ -126,6 +134,7 @@ module _ (g : Settings) (ws : List ℕ) (fit : FitPool g ws) (i j : ℕ) (li : i
   unfolding applyBy
   apply-keeps e (Refused n) = unchanged _ ws
   apply-keeps e Moving = worker-keeps e ws (unchanged _ ws)
+  apply-keeps e Lost = worker-keeps e _ lost-keeps
   apply-keeps e Shifted = worker-keeps e _ (shifted-keeps e)
   apply-keeps e (Landed value row stamp) = worker-keeps e _ (landed-keeps value row stamp e)
   apply-keeps e (Removed row) = worker-keeps e _ (sub-keeps e ws (unchanged _ ws))
@@ -145,10 +154,10 @@ step-fit-keeps g ws fit i =
 
 pub step-keeps : StepKeeps
 unfolding stepOf checkedStep
-step-keeps ws i = go (checkedOf ws) refl
+step-keeps ed ws i = go (checkedOf ed ws) refl
   where
-    go : (c : Checked) → checkedOf ws ≡ c → Beyond (needed (settingsOf ws)) ws (checkedStep ws c i .words)
+    go : (c : Checked) → checkedOf ed ws ≡ c → Beyond (needed (settingsOf ws)) ws (checkedStep ws c i .words)
     go (Unfit n) e = unchanged _ ws
     go (Fit g) e =
-        let fit = fit-pool ws g e in
+        let fit = fit-pool ed ws g e in
         subst (λ (h : Settings). Beyond (needed h) ws (fitStep ws g i .words)) (sym (fit .settings)) (step-fit-keeps g ws fit i)

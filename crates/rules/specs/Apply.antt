@@ -2,9 +2,11 @@
 use Prim.Native.Nat.{ℕ}
 use mathlib.Core.List.{List}
 use lib.ListN.{getD, set}
+use lib.Dec.{ltb}
+use Rattle.laws.specs.Choice.{cond}
 use Rattle.laws.specs.Wrap.{add32}
 use Rattle.rules.specs.Answers.{Out, out, refuse}
-use Rattle.rules.specs.Layout.{stepsAt, putsAt, topAt, markAt, firstAt, secondAt, cellAt, stampAt}
+use Rattle.rules.specs.Layout.{stepsAt, putsAt, topAt, markAt, firstAt, secondAt, workerWords, lostWord, lostAt, cellAt, stampAt}
 use Rattle.rules.specs.Worker.{putSlot}
 use Rattle.rules.specs.Held.{itemAt, distanceOf}
 use Rattle.rules.specs.declared.Settings.{Settings}
@@ -12,7 +14,7 @@ use Rattle.rules.specs.declared.Row.{Row}
 use Rattle.rules.specs.declared.Stamp.{Stamp}
 use Rattle.rules.specs.declared.Effect.{Effect}
 use Rattle.rules.specs.declared.Outcome.{Outcome}
-use Rattle.rules.specs.declared.Outcome.the-variants.{Refused as Stays, Moving as Moves, Shifted, Landed, Removed, Empty as NoItem, Full as NoRoom}
+use Rattle.rules.specs.declared.Outcome.the-variants.{Refused as Stays, Moving as Moves, Lost, Shifted, Landed, Removed, Empty as NoItem, Full as NoRoom}
 use Rattle.rules.specs.declared.Answer.{Answer}
 use Rattle.rules.specs.declared.Answer.the-variants.{Moving, Put, Taken, Empty, Full}
 
@@ -32,6 +34,10 @@ putLanded ws g j value row stamp e = putSub (set (putItem ws g j value row stamp
 unfoldable pub putShifted : List ℕ → Effect → List ℕ
 putShifted ws e = set (set ws topAt (e .top)) markAt (e .mark)
 
+-- one failed commit more, "modulo 2^32", in the editions that count them
+unfoldable pub countLost : List ℕ → Settings → ℕ → List ℕ
+countLost ws g at = cond (ltb lostWord (workerWords (g .edition))) (set ws (lostAt at) (add32 (getD ws (lostAt at) 0) 1)) ws
+
 -- the worker's words, and the step counted
 unfoldable pub putWorker : List ℕ → ℕ → Effect → List ℕ
 putWorker ws at e = putSlot (set ws stepsAt (add32 (getD ws stepsAt 0) 1)) at (e .slot)
@@ -48,6 +54,7 @@ takenOf ws g j row =
 unfoldable pub applyBy : List ℕ → Settings → ℕ → ℕ → Effect → Outcome → Out
 applyBy ws g at j e (Stays n) = refuse n ws
 applyBy ws g at j e Moves = out Moving (putWorker ws at e)
+applyBy ws g at j e Lost = out Moving (putWorker (countLost ws g at) at e)
 applyBy ws g at j e Shifted = out Moving (putWorker (putShifted ws e) at e)
 applyBy ws g at j e (Landed value row stamp) = out (Put value j row stamp) (putWorker (putLanded ws g j value row stamp e) at e)
 applyBy ws g at j e (Removed row) = out (takenOf ws g j row) (putWorker (putSub ws j e) at e)

@@ -1,4 +1,5 @@
--- "Begin" sets the value (0 for a take), phase 1 or 9, other words zero, index kept.
+-- "Begin" sets the value (0 for a take), phase 1 or 9, other words zero, index kept. A worker's failed commits survive it. Each call is one of an
+-- edition `e`, and takes the pools of that edition alone.
 use Prim.Native.Nat.{ℕ}
 use mathlib.Core.List.{List}
 use mathlib.Core.Bool.{Bool}
@@ -39,11 +40,11 @@ unfoldable pub checkedBegin : List ℕ → Checked → ℕ → Side → ℕ → 
 checkedBegin ws (Unfit n) i side value = refuse n ws
 checkedBegin ws (Fit g) i side value = fitBegin ws g i side value
 
-unfoldable pub beginOf : List ℕ → ℕ → Side → ℕ → Out
-beginOf ws i side value = checkedBegin ws (checkedOf ws) i side value
+unfoldable pub beginOf : ℕ → List ℕ → ℕ → Side → ℕ → Out
+beginOf e ws i side value = checkedBegin ws (checkedOf e ws) i side value
 
-abbrev pub beginPutOf : List ℕ → ℕ → ℕ → Out
-beginPutOf ws i value = beginOf ws i Putting value
+abbrev pub beginPutOf : ℕ → List ℕ → ℕ → ℕ → Out
+beginPutOf e ws i value = beginOf e ws i Putting value
 
-abbrev pub beginTakeOf : List ℕ → ℕ → Out
-beginTakeOf ws i = beginOf ws i Taking 0
+abbrev pub beginTakeOf : ℕ → List ℕ → ℕ → Out
+beginTakeOf e ws i = beginOf e ws i Taking 0

@@ -1,4 +1,4 @@
--- "Commit": where the count or version differs from seen, a hop by the stride and a restart; else a put stores value and new
+-- "Commit": where the count or version differs from seen, a hop by the stride and a restart, counted on the worker's card; else a put stores value and new
 -- stamp in the row above, and a take takes the oldest (queue) or top (stack) row. Counts change by one, and a stack's
 -- version grows by one. A commit that matches with no free cell or no item is refused.
 use Prim.Native.Nat.{ℕ}
@@ -8,7 +8,7 @@ use Rattle.laws.specs.Choice.{cond}
 use Rattle.laws.specs.Wrap.{add32, sub32}
 use Rattle.rules.specs.Answers.{notFit}
 use Rattle.rules.specs.Worker.{fresh}
-use Rattle.rules.specs.Effects.{refusedOf, restartOf, hopOf, itemsPut, itemsTaken, itemsHeld, subVersion}
+use Rattle.rules.specs.Effects.{keepOf, refusedOf, restartOf, hopOf, itemsPut, itemsTaken, itemsHeld, subVersion}
 use Rattle.rules.specs.declared.Settings.{Settings}
 use Rattle.rules.specs.declared.Side.{Side}
 use Rattle.rules.specs.declared.Side.the-variants.{Putting, Taking}
@@ -18,7 +18,7 @@ use Rattle.rules.specs.declared.Stamp.{Stamp}
 use Rattle.rules.specs.declared.Version.{Version}
 use Rattle.rules.specs.declared.View.{View}
 use Rattle.rules.specs.declared.Effect.{Effect}
-use Rattle.rules.specs.declared.Outcome.the-variants.{Landed, Removed}
+use Rattle.rules.specs.declared.Outcome.the-variants.{Lost, Landed, Removed}
 
 -- the stamp of an item that lands: "the number of the put"
 abbrev pub stampNext : View → Stamp
@@ -54,10 +54,14 @@ removedOf v first second row =
       second = second;
     }
 
--- what a commit does that matches, if it is able to; a lost one hops
+-- a commit that failed: a hop by the stride and a restart, and it is counted
+abbrev pub lostOf : Settings → View → Side → Effect
+lostOf g v side = keepOf v Lost (restartOf v (hopOf g (v .worker .index)) side .slot)
+
+-- what a commit does that matches, if it is able to, and one that does not
 unfoldable pub commitBy : Settings → View → Side → Bool → Bool → Effect → Effect
 commitBy g v side matches able done =
-    cond matches (cond able done (refusedOf v notFit)) (restartOf v (hopOf g (v .worker .index)) side)
+    cond matches (cond able done (refusedOf v notFit)) (lostOf g v side)
 
 unfoldable pub queueCommit : Settings → View → Side → ℕ → Effect
 queueCommit g v Putting seen =

@@ -22,9 +22,9 @@ use Rattle.rules.specs.declared.View.{View}
 use Rattle.rules.specs.declared.Answer.{Answer}
 
 -- the words after a list of calls
-unfoldable pub wordsAfter : List ℕ → List Call → List ℕ
-wordsAfter ws [] = ws
-wordsAfter ws (c ∷ cs) = wordsAfter (callOf ws c .words) cs
+unfoldable pub wordsAfter : ℕ → List ℕ → List Call → List ℕ
+wordsAfter e ws [] = ws
+wordsAfter e ws (c ∷ cs) = wordsAfter e (callOf e ws c .words) cs
 
 -- a claim about the words of a new pool and any list of calls on it
 abbrev pub OfEveryRun : (Settings → List ℕ → List Call → Type 0) → Type 0
@@ -44,7 +44,7 @@ itemsIn n (x ∷ xs) = itemIn n (x .answer) ++ itemsIn n xs
 abbrev pub NothingLost : Settings → List ℕ → List Call → Type 0
 NothingLost g ws cs =
     (p : Item → Bool)
-    → countItems p (heldItems (wordsAfter ws cs) g) + countItems p (itemsIn 2 (run ws cs)) ≡ countItems p (itemsIn 1 (run ws cs))
+    → countItems p (heldItems (wordsAfter (g .edition) ws cs) g) + countItems p (itemsIn 2 (run (g .edition) ws cs)) ≡ countItems p (itemsIn 1 (run (g .edition) ws cs))
 
 -- ---- no stamp is handed out twice, neither by a put nor by a take
 abbrev pub hasStamp : ℕ → Item → Bool
@@ -53,13 +53,13 @@ hasStamp stamp x = eqb (x .stamp) stamp
 abbrev pub StampsOnce : Settings → List ℕ → List Call → Type 0
 StampsOnce g ws cs =
     (stamp : ℕ)
-    → (countItems (hasStamp stamp) (itemsIn 1 (run ws cs)) ≤ 1) × (countItems (hasStamp stamp) (itemsIn 2 (run ws cs)) ≤ 1)
+    → (countItems (hasStamp stamp) (itemsIn 1 (run (g .edition) ws cs)) ≤ 1) × (countItems (hasStamp stamp) (itemsIn 2 (run (g .edition) ws cs)) ≤ 1)
 
 -- ---- each distance reported is within a bound; so is what is passed over, spacers too: specs/Spacers, `TakesWithin`
 abbrev pub WithinBound : (Settings → ℕ) → Settings → List ℕ → List Call → Type 0
 WithinBound most g ws cs =
-    (i f : ℕ) → at (run ws cs) f .call ≡ step i → numberOf (at (run ws cs) f .answer) ≡ 2
-    → distanceIn (at (run ws cs) f .answer) ≤ most g
+    (i f : ℕ) → at (run (g .edition) ws cs) f .call ≡ step i → numberOf (at (run (g .edition) ws cs) f .answer) ≡ 2
+    → distanceIn (at (run (g .edition) ws cs) f .answer) ≤ most g
 
 -- ---- an operation that finished before another began stands before it in the order
 abbrev pub InRealTime : (most : ℕ) → (g : Settings) → (es : List Event) → OneAtATimeWithin most g es → Type 0
@@ -107,4 +107,4 @@ pub record NoSumWraps (g : Settings) (ws : List ℕ) : Type 0 where
 -- ---- no call finds the pool unfit, and no commit that matches is refused
 abbrev pub NeverUnfit : Settings → List ℕ → List Call → Type 0
 NeverUnfit g ws cs =
-    (f : ℕ) → (numberOf (at (run ws cs) f .answer) ≢ tooFewWords) × (numberOf (at (run ws cs) f .answer) ≢ notFit)
+    (f : ℕ) → (numberOf (at (run (g .edition) ws cs) f .answer) ≢ tooFewWords) × (numberOf (at (run (g .edition) ws cs) f .answer) ≢ notFit)

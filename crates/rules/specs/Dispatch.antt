@@ -79,7 +79,7 @@ afterStep j o rest = cond (eqb (numberOf (o .answer)) 0) rest (dispatched (ended
 unfoldable pub turnsOf : List ℕ → Settings → ℕ → ℕ → DispatchOut
 turnsOf ws g i zero = ifBusy ws (turnFrom ws g i) (λ j. dispatched (RanOut i) ws)
 turnsOf ws g i (suc k) =
-    ifBusy ws (turnFrom ws g i) (λ j. afterStep j (stepOf ws j) (turnsOf (stepOf ws j .words) g (workerAfter g j) k))
+    ifBusy ws (turnFrom ws g i) (λ j. afterStep j (stepOf (g .edition) ws j) (turnsOf (stepOf (g .edition) ws j .words) g (workerAfter g j) k))
 
 -- ---- the call: fitness, then 24, whatever the count and whoever is busy
 unfoldable pub fitDispatch : List ℕ → Settings → ℕ → ℕ → DispatchOut
@@ -89,8 +89,8 @@ unfoldable pub checkedDispatch : List ℕ → Checked → ℕ → ℕ → Dispat
 checkedDispatch ws (Unfit n) i steps = dispatched (Refused n) ws
 checkedDispatch ws (Fit g) i steps = fitDispatch ws g i steps
 
-unfoldable pub dispatchOf : List ℕ → ℕ → ℕ → DispatchOut
-dispatchOf ws i steps = checkedDispatch ws (checkedOf ws) i steps
+unfoldable pub dispatchOf : ℕ → List ℕ → ℕ → ℕ → DispatchOut
+dispatchOf e ws i steps = checkedDispatch ws (checkedOf e ws) i steps
 
 -- ---- as the code has it: `endedBy` of an answer's number and five fields
 unfoldable pub endedOf : ℕ → ℕ → List ℕ → Dispatched

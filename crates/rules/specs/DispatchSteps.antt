@@ -17,31 +17,31 @@ use Rattle.rules.specs.declared.Turn.the-variants.{Worker}
 use Rattle.rules.specs.declared.Dispatched.the-variants.{Finished, NoneBusy, RanOut, Refused}
 
 -- the calls that lead from words to a result: steps that answer 0, and at the end a final one or none. A step that was refused is not made
-pub data Made : List ℕ → List Call → DispatchOut → Type 0 where
-  nobody : {ws : List ℕ} → Made ws [] (dispatched NoneBusy ws)
-  ran-out : {ws : List ℕ} {next : ℕ} → Made ws [] (dispatched (RanOut next) ws)
-  refused : {ws : List ℕ} {n : ℕ} → Made ws [] (dispatched (Refused n) ws)
-  finished : {ws : List ℕ} {j : ℕ} → Final (stepOf ws j .answer) → Made ws (step j ∷ []) (dispatched (Finished j (stepOf ws j .answer)) (stepOf ws j .words))
-  moved : {ws : List ℕ} {j : ℕ} {cs : List Call} {o : DispatchOut} → numberOf (stepOf ws j .answer) ≡ 0 → Made (stepOf ws j .words) cs o
-      → Made ws (step j ∷ cs) o
+pub data Made (e : ℕ) : List ℕ → List Call → DispatchOut → Type 0 where
+  nobody : {ws : List ℕ} → Made e ws [] (dispatched NoneBusy ws)
+  ran-out : {ws : List ℕ} {next : ℕ} → Made e ws [] (dispatched (RanOut next) ws)
+  refused : {ws : List ℕ} {n : ℕ} → Made e ws [] (dispatched (Refused n) ws)
+  finished : {ws : List ℕ} {j : ℕ} → Final (stepOf e ws j .answer) → Made e ws (step j ∷ []) (dispatched (Finished j (stepOf e ws j .answer)) (stepOf e ws j .words))
+  moved : {ws : List ℕ} {j : ℕ} {cs : List Call} {o : DispatchOut} → numberOf (stepOf e ws j .answer) ≡ 0 → Made e (stepOf e ws j .words) cs o
+      → Made e ws (step j ∷ cs) o
 
 -- of all words, from make or not
-pub record BySteps (ws : List ℕ) (i steps : ℕ) : Type 0 where
+pub record BySteps (e : ℕ) (ws : List ℕ) (i steps : ℕ) : Type 0 where
   pub calls : List Call
-  pub made : Made ws calls (dispatchOf ws i steps)
+  pub made : Made e ws calls (dispatchOf e ws i steps)
   pub few : length calls ≤ steps
-  pub words : dispatchOf ws i steps .words ≡ wordsAfter ws calls
+  pub words : dispatchOf e ws i steps .words ≡ wordsAfter e ws calls
 
 abbrev pub DispatchBySteps : Type 0
-DispatchBySteps = (ws : List ℕ) (i steps : ℕ) → BySteps ws i steps
+DispatchBySteps = (e : ℕ) (ws : List ℕ) (i steps : ℕ) → BySteps e ws i steps
 
 -- ---- "with no busy worker .. it says which": of a fit pool and a worker of its, exactly where none is busy at the call, whatever the count
 pub record SaysNobody (g : Settings) (ws : List ℕ) (i steps : ℕ) : Type 0 where
-  pub says : ¬ (Busy g ws) → dispatchOf ws i steps ≡ dispatched NoneBusy ws
-  pub only : dispatchOf ws i steps .result ≡ NoneBusy → ¬ (Busy g ws)
+  pub says : ¬ (Busy g ws) → dispatchOf (g .edition) ws i steps ≡ dispatched NoneBusy ws
+  pub only : dispatchOf (g .edition) ws i steps .result ≡ NoneBusy → ¬ (Busy g ws)
 
 abbrev pub DispatchNobody : Type 0
-DispatchNobody = (ws : List ℕ) (g : Settings) (i steps : ℕ) → checkedOf ws ≡ Fit g → i < g .workers → SaysNobody g ws i steps
+DispatchNobody = (ws : List ℕ) (g : Settings) (i steps : ℕ) → checkedOf (g .edition) ws ≡ Fit g → i < g .workers → SaysNobody g ws i steps
 
 -- ---- "from a worker the caller names": its turn is the first, where it is busy
 abbrev pub NamedFirst : Type 0
@@ -50,30 +50,30 @@ NamedFirst = (ws : List ℕ) (g : Settings) (i : ℕ) → i < g .workers → get
 -- ---- where the count runs out, a dispatch from the worker named then goes on as one with a greater count would have
 abbrev pub DispatchGoesOn : Type 0
 DispatchGoesOn =
-    (ws : List ℕ) (i steps more next : ℕ) → dispatchOf ws i steps .result ≡ RanOut next
-    → dispatchOf ws i (steps + more) ≡ dispatchOf (dispatchOf ws i steps .words) next more
+    (e : ℕ) (ws : List ℕ) (i steps more next : ℕ) → dispatchOf e ws i steps .result ≡ RanOut next
+    → dispatchOf e ws i (steps + more) ≡ dispatchOf e (dispatchOf e ws i steps .words) next more
 
 -- ---- a list of calls with dispatches among them comes to the words of a list of calls
 pub data Ask : Type 0 where
   call : Call → Ask
   dispatch : ℕ → ℕ → Ask
 
-unfoldable pub wordsAsked : List ℕ → List Ask → List ℕ
-wordsAsked ws [] = ws
-wordsAsked ws (call c ∷ asks) = wordsAsked (callOf ws c .words) asks
-wordsAsked ws (dispatch i steps ∷ asks) = wordsAsked (dispatchOf ws i steps .words) asks
+unfoldable pub wordsAsked : ℕ → List ℕ → List Ask → List ℕ
+wordsAsked e ws [] = ws
+wordsAsked e ws (call c ∷ asks) = wordsAsked e (callOf e ws c .words) asks
+wordsAsked e ws (dispatch i steps ∷ asks) = wordsAsked e (dispatchOf e ws i steps .words) asks
 
 -- the calls asked for, in their order, and in place of each dispatch the steps that it makes
-pub data Spliced : List ℕ → List Ask → List Call → Type 0 where
-  end : {ws : List ℕ} → Spliced ws [] []
-  called : {ws : List ℕ} {c : Call} {asks : List Ask} {cs : List Call} → Spliced (callOf ws c .words) asks cs → Spliced ws (call c ∷ asks) (c ∷ cs)
-  dispatched-to : {ws : List ℕ} {i steps : ℕ} {ds : List Call} {asks : List Ask} {cs : List Call} → Made ws ds (dispatchOf ws i steps)
-      → Spliced (dispatchOf ws i steps .words) asks cs → Spliced ws (dispatch i steps ∷ asks) (ds ++ cs)
+pub data Spliced (e : ℕ) : List ℕ → List Ask → List Call → Type 0 where
+  end : {ws : List ℕ} → Spliced e ws [] []
+  called : {ws : List ℕ} {c : Call} {asks : List Ask} {cs : List Call} → Spliced e (callOf e ws c .words) asks cs → Spliced e ws (call c ∷ asks) (c ∷ cs)
+  dispatched-to : {ws : List ℕ} {i steps : ℕ} {ds : List Call} {asks : List Ask} {cs : List Call} → Made e ws ds (dispatchOf e ws i steps)
+      → Spliced e (dispatchOf e ws i steps .words) asks cs → Spliced e ws (dispatch i steps ∷ asks) (ds ++ cs)
 
-pub record ByCalls (ws : List ℕ) (asks : List Ask) : Type 0 where
+pub record ByCalls (e : ℕ) (ws : List ℕ) (asks : List Ask) : Type 0 where
   pub calls : List Call
-  pub spliced : Spliced ws asks calls
-  pub words : wordsAsked ws asks ≡ wordsAfter ws calls
+  pub spliced : Spliced e ws asks calls
+  pub words : wordsAsked e ws asks ≡ wordsAfter e ws calls
 
 abbrev pub AskedByCalls : Type 0
-AskedByCalls = (ws : List ℕ) (asks : List Ask) → ByCalls ws asks
+AskedByCalls = (e : ℕ) (ws : List ℕ) (asks : List Ask) → ByCalls e ws asks

@@ -1,4 +1,4 @@
--- "Fit", and the order of the refusals before it.
+-- "Fit", of an edition, and the order of the refusals before it.
 use Prim.Native.Nat.{ℕ, _+_, _-_, _<_, _≤_}
 use mathlib.Core.Path.{_≡_}
 use mathlib.Core.List.{List}
@@ -7,15 +7,15 @@ use lib.ListN.{getD, length}
 use lib.Dec.{ltb, leb, eqb}
 use Rattle.laws.specs.Choice.{cond, both, allBelow}
 use Rattle.rules.specs.Answers.{tooFewWords, notFit}
-use Rattle.rules.specs.Layout.{headWords, zeroAt, workerWords, workerAt, phaseWord, indexWord, scanWord, indexAt, scanAt, needed, settingsOf, firstOf, secondOf}
+use Rattle.rules.specs.Layout.{headWords, workerWords, workerAt, phaseWord, indexWord, scanWord, indexAt, scanAt, needed, settingsOf, firstOf, secondOf}
 use Rattle.rules.specs.Limits.{settingsFit, Bounds}
 use Rattle.rules.specs.Worker.{checkPhase, confirmPhase, sideBase, numberFor}
 use Rattle.rules.specs.declared.Settings.{Settings}
 use Rattle.rules.specs.declared.Side.the-variants.{Putting, Taking}
 
--- settings within limits, the stride in word 10 among them; word 11 zero
-unfoldable pub headFit : List ℕ → Bool
-headFit ws = both (settingsFit (settingsOf ws)) (eqb (getD ws zeroAt 0) 0)
+-- settings within limits, the stride in word 10 among them; and of the edition that is asked for, in word 11
+unfoldable pub headFit : ℕ → Settings → Bool
+headFit e g = both (settingsFit g) (eqb (g .edition) e)
 
 -- items taken at most items put, and put minus taken at most R
 abbrev pub queueSubFit : ℕ → ℕ → ℕ → Bool
@@ -44,7 +44,7 @@ wordFit g k x =
     (cond (eqb k indexWord) (ltb x (g .width)) (cond (eqb k scanWord) (ltb x (g .width)) true))
 
 unfoldable pub workersFit : List ℕ → Settings → Bool
-workersFit ws g = allBelow (g .workers) (λ i. allBelow workerWords (λ k. wordFit g k (getD ws (workerAt g i + k) 0)))
+workersFit ws g = allBelow (g .workers) (λ i. allBelow (workerWords (g .edition)) (λ k. wordFit g k (getD ws (workerAt g i + k) 0)))
 
 -- ---- the check
 -- a pool's settings where it is fit, or the refusal's number
@@ -58,9 +58,9 @@ bodyChecked ws g =
     cond (ltb (length ws) (needed g)) (Unfit tooFewWords)
     (cond (subsFit ws g) (cond (workersFit ws g) (Fit g) (Unfit notFit)) (Unfit notFit))
 
--- 21 for 12 words, 23 for the settings and word 11, then the above
-unfoldable pub checkedOf : List ℕ → Checked
-checkedOf ws = cond (ltb (length ws) headWords) (Unfit tooFewWords) (cond (headFit ws) (bodyChecked ws (settingsOf ws)) (Unfit notFit))
+-- 21 for 12 words, 23 for the settings and the edition, then the above
+unfoldable pub checkedOf : ℕ → List ℕ → Checked
+checkedOf e ws = cond (ltb (length ws) headWords) (Unfit tooFewWords) (cond (headFit e (settingsOf ws)) (bodyChecked ws (settingsOf ws)) (Unfit notFit))
 
 -- the number of a refusal; 0 for a fit pool
 abbrev pub refusalOf : Checked → ℕ

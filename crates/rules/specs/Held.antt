@@ -51,8 +51,8 @@ unfoldable pub heldBy : List ℕ → Checked → ℕ
 heldBy ws (Unfit n) = 0
 heldBy ws (Fit g) = length (heldItems ws g)
 
-unfoldable pub heldOf : List ℕ → ℕ
-heldOf ws = heldBy ws (checkedOf ws)
+unfoldable pub heldOf : ℕ → List ℕ → ℕ
+heldOf e ws = heldBy ws (checkedOf e ws)
 
 -- how many items of a list pass a test
 unfoldable pub countItems : (Item → Bool) → List Item → ℕ

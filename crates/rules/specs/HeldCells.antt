@@ -19,7 +19,7 @@ use Rattle.rules.specs.declared.Segments.{Segments}
 -- "lent 32-bit words", and fit, with these settings
 pub record FitImage (ws : List ℕ) (g : Settings) : Type 0 where
   pub words : (k : ℕ) → getD ws k 0 < 2 ^ 32
-  pub fit : checkedOf ws ≡ Fit g
+  pub fit : checkedOf (g .edition) ws ≡ Fit g
 
 -- ---- the held cells of a sub
 -- a row that sub j holds: in a queue above those taken and up to those put, in a stack from 1 up to those held
@@ -56,4 +56,4 @@ SameDistance = (ws : List ℕ) (g : Settings) (s : Stamp) → FitImage ws g → 
 
 -- and as many are met as the pool holds
 abbrev pub SameNumber : Type 0
-SameNumber = (ws : List ℕ) (g : Settings) → FitImage ws g → length (walkedItems ws g) ≡ heldOf ws
+SameNumber = (ws : List ℕ) (g : Settings) → FitImage ws g → length (walkedItems ws g) ≡ heldOf (g .edition) ws

@@ -1,5 +1,5 @@
 -- "The pool's words": where each word lies. Nothing else knows a place.
-use Prim.Native.Nat.{ℕ, _+_, _*_, _%_, _≤_}
+use Prim.Native.Nat.{ℕ, zero, suc, _+_, _*_, _%_, _≤_}
 use mathlib.Core.List.{List}
 use lib.ListN.{getD, length}
 use Rattle.laws.specs.Wrap.{sub32}
@@ -7,7 +7,7 @@ use Rattle.rules.specs.Limits.{widest, mostWorkers, mostCells}
 use Rattle.rules.specs.declared.Settings.{Settings}
 
 -- ---- the head
--- words 0 to 5, the settings but one: kind, w, d, s, R, n
+-- words 0 to 5, the settings but two: kind, w, d, s, R, n
 abbrev pub kindAt : ℕ
 kindAt = 0
 
@@ -40,13 +40,12 @@ topAt = 8
 abbrev pub markAt : ℕ
 markAt = 9
 
--- the last setting: "a stride, held in word 10"
+-- the last settings: "a stride, held in word 10"; "word 11 becomes the edition"
 abbrev pub strideAt : ℕ
 strideAt = 10
 
--- word 11 is zero
-abbrev pub zeroAt : ℕ
-zeroAt = 11
+abbrev pub editionAt : ℕ
+editionAt = 11
 
 abbrev pub headWords : ℕ
 headWords = 12
@@ -61,6 +60,7 @@ settingsOf ws =
       rows = getD ws rowsAt 0;
       workers = getD ws workerCountAt 0;
       stride = getD ws strideAt 0;
+      edition = getD ws editionAt 0;
     }
 
 -- ---- the subs: items put and items taken, or items held and version
@@ -82,15 +82,17 @@ firstOf ws j = getD ws (firstAt j) 0
 abbrev pub secondOf : List ℕ → ℕ → ℕ
 secondOf ws j = getD ws (secondAt j) 0
 
--- ---- the workers: phase, value, index, seen window, extra, scan, seen, sum
-abbrev pub workerWords : ℕ
-workerWords = 8
+-- ---- the workers: phase, value, index, seen window, extra, scan, seen, sum; from edition 1 on "a ninth word, its failed commits since make"
+-- how many words a worker has, by edition
+unfoldable pub workerWords : ℕ → ℕ
+workerWords zero = 8
+workerWords (suc e) = 9
 
 abbrev pub workersAt : Settings → ℕ
 workersAt g = headWords + subWords * g .width
 
 abbrev pub workerAt : Settings → ℕ → ℕ
-workerAt g i = workersAt g + workerWords * i
+workerAt g i = workersAt g + workerWords (g .edition) * i
 
 -- which of a worker's words is which; the fit check asks for three of them by number
 abbrev pub phaseWord : ℕ
@@ -117,6 +119,14 @@ seenWord = 6
 abbrev pub sumWord : ℕ
 sumWord = 7
 
+-- so many are read by the rules of a step
+abbrev pub slotWords : ℕ
+slotWords = sumWord + 1
+
+-- and none reads the next
+abbrev pub lostWord : ℕ
+lostWord = slotWords
+
 -- of the worker whose words start at `at`
 abbrev pub phaseAt : ℕ → ℕ
 phaseAt at = at
@@ -142,12 +152,15 @@ seenAt at = at + seenWord
 abbrev pub sumAt : ℕ → ℕ
 sumAt at = at + sumWord
 
+abbrev pub lostAt : ℕ → ℕ
+lostAt at = at + lostWord
+
 -- ---- the cells: value, stamp
 abbrev pub cellWords : ℕ
 cellWords = 2
 
 abbrev pub cellsAt : Settings → ℕ
-cellsAt g = workersAt g + workerWords * g .workers
+cellsAt g = workersAt g + workerWords (g .edition) * g .workers
 
 -- row r of sub j is cell j × R + (r - 1) mod R; of the sub's own cells, from 0, it is this one
 abbrev pub cellOf : Settings → ℕ → ℕ
@@ -172,12 +185,14 @@ stampAt cell = cell + 1
 abbrev pub needed : Settings → ℕ
 needed g = cellsAt g + cellWords * (g .width * g .rows)
 
--- enough for every pool
-abbrev pub mostWords : ℕ
-mostWords = headWords + subWords * widest + workerWords * mostWorkers + cellWords * mostCells
+-- enough for every pool of an edition
+abbrev pub mostWords : ℕ → ℕ
+mostWords e = headWords + subWords * widest + workerWords e * mostWorkers + cellWords * mostCells
 
 -- the words are enough, and those of a worker start at `at`
 pub record Lent (g : Settings) (ws : List ℕ) (at : ℕ) : Type 0 where
   pub enough : needed g ≤ length ws
   pub low : workersAt g ≤ at
-  pub high : at + workerWords ≤ cellsAt g
+  pub high : at + workerWords (g .edition) ≤ cellsAt g
+  -- so those that the rules read
+  pub slot : at + slotWords ≤ cellsAt g

@@ -1,4 +1,4 @@
--- "Make": P = T = d, or G = d; worker i has index i mod w; all other needed words but the settings are zero.
+-- "Make": P = T = d, or G = d; worker i has index i mod w; all other needed words but the settings, the edition among them, are zero.
 use Prim.Native.Nat.{ℕ, zero, suc, _%_}
 use mathlib.Core.List.{List, [], _∷_}
 use lib.ListN.{set, length}
@@ -11,10 +11,18 @@ use Rattle.rules.specs.Limits.{settingsFit}
 use Rattle.rules.specs.declared.Settings.{Settings}
 use Rattle.rules.specs.declared.Answer.the-variants.{Moving}
 
--- the settings that a call of make names, in its order
+-- the edition of the shipped calls: "set to 1 by make"
+abbrev pub shipped : ℕ
+shipped = 1
+
+-- the settings that a call of make names, in its order; it names no edition
 abbrev pub settingsFrom : ℕ → ℕ → ℕ → ℕ → ℕ → ℕ → ℕ → Settings
 settingsFrom kind width depth shift rows workers stride =
-    record { kind = kind; width = width; depth = depth; shift = shift; rows = rows; workers = workers; stride = stride }
+    record { kind = kind; width = width; depth = depth; shift = shift; rows = rows; workers = workers; stride = stride; edition = shipped }
+
+-- settings as a call of make that names them has them
+abbrev pub shippedFrom : Settings → Settings
+shippedFrom g = settingsFrom (g .kind) (g .width) (g .depth) (g .shift) (g .rows) (g .workers) (g .stride)
 
 -- the first n words zero
 unfoldable pub zeroed : List ℕ → ℕ → List ℕ
@@ -25,10 +33,10 @@ zeroed ws (suc i) = set (zeroed ws i) i 0
 abbrev pub newMark : Settings → ℕ
 newMark g = cond (eqb (g .kind) 0) (g .depth) 0
 
--- the first words of a new pool, in their order, up to the stride
+-- the first words of a new pool, in their order
 abbrev pub newHead : Settings → List ℕ
 newHead g =
-    g .kind ∷ g .width ∷ g .depth ∷ g .shift ∷ g .rows ∷ g .workers ∷ 0 ∷ 0 ∷ g .depth ∷ newMark g ∷ g .stride ∷ []
+    g .kind ∷ g .width ∷ g .depth ∷ g .shift ∷ g .rows ∷ g .workers ∷ 0 ∷ 0 ∷ g .depth ∷ newMark g ∷ g .stride ∷ g .edition ∷ []
 
 -- each worker below n has its index
 unfoldable pub indexed : List ℕ → Settings → ℕ → List ℕ

@@ -21,20 +21,20 @@ abbrev pub begin : ℕ → Operation → Call
 begin i (putting v) = beginPut i v
 begin i taking = beginTake i
 
--- what a call answers, and the words that it leaves
-unfoldable pub callOf : List ℕ → Call → Out
-callOf ws (beginPut i v) = beginPutOf ws i v
-callOf ws (beginTake i) = beginTakeOf ws i
-callOf ws (step i) = stepOf ws i
+-- what a call of an edition answers, and the words that it leaves
+unfoldable pub callOf : ℕ → List ℕ → Call → Out
+callOf e ws (beginPut i v) = beginPutOf e ws i v
+callOf e ws (beginTake i) = beginTakeOf e ws i
+callOf e ws (step i) = stepOf e ws i
 
 pub record Event : Type 0 where
   pub call : Call
   pub answer : Answer
 
 -- the run of a list of calls from given words: each call with its answer, refused calls too
-unfoldable pub run : List ℕ → List Call → List Event
-run ws [] = []
-run ws (c ∷ cs) = record { call = c; answer = callOf ws c .answer } ∷ run (callOf ws c .words) cs
+unfoldable pub run : ℕ → List ℕ → List Call → List Event
+run e ws [] = []
+run e ws (c ∷ cs) = record { call = c; answer = callOf e ws c .answer } ∷ run e (callOf e ws c .words) cs
 
 -- the event at a position; past the end, a call that was refused
 abbrev pub nothing : Event

@@ -23,11 +23,14 @@ pub record Contents : Type 0 where
 abbrev pub noItems : Contents
 noItems = record { items = []; count = 0 }
 
--- it is fed put or take, the value begun, the answer's number and, for a 2, the answer's stamp
+-- it is fed put or take, the value begun, the answer's number and, for a 2, the answer's stamp; and, with the answer, how many items a take may
+-- pass over at the most, and how many are there at the least where a put answers 4
 pub record Fed : Type 0 where
   pub operation : Operation
   pub number : ℕ
   pub stamp : ℕ
+  pub most : ℕ
+  pub least : ℕ
 
 -- what it gives, and what it holds afterwards
 pub record Given : Type 0 where
@@ -104,16 +107,16 @@ unfoldable pub leaving : ℕ → Settings → Contents → Option Found → Opti
 leaving most g q none = none
 leaving most g q (some f) = allowed (leb (passedBy g q (f .item .stamp)) most) (without g q f)
 
--- a put may answer 1, or 4 where at least demand 3's number of items is there;
+-- a put may answer 1, or 4 where at least so many items are there;
 -- a take may answer 2, or 3 where no item is there
-unfoldable pub giveBy : ℕ → Settings → Contents → ℕ → ℕ → Operation → Option Given
-giveBy most g q number stamp (putting v) =
+unfoldable pub giveBy : ℕ → ℕ → Settings → Contents → ℕ → ℕ → Operation → Option Given
+giveBy most least g q number stamp (putting v) =
     cond (eqb number 1) (some (joined q v))
-    (cond (eqb number 4) (allowed (leb (leastFull g) (length (q .items))) (unchanged q)) none)
-giveBy most g q number stamp taking =
+    (cond (eqb number 4) (allowed (leb least (length (q .items))) (unchanged q)) none)
+giveBy most least g q number stamp taking =
     cond (eqb number 2) (leaving most g q (find stamp (q .items)))
     (cond (eqb number 3) (allowed (eqb (length (q .items)) 0) (unchanged q)) none)
 
--- with a bound on what a take passes over; demand 3's is `mostPassed`
-abbrev pub giveWithin : ℕ → Settings → Contents → Fed → Option Given
-giveWithin most g q f = giveBy most g q (f .number) (f .stamp) (f .operation)
+-- by the numbers that it is fed; demand 3's are `mostPassed` and `leastFull`
+abbrev pub give : Settings → Contents → Fed → Option Given
+give g q f = giveBy (f .most) (f .least) g q (f .number) (f .stamp) (f .operation)

@@ -35,13 +35,13 @@ abbrev pub soloSteps : Settings → Operation → ℕ
 soloSteps g o = cond (eqb (g .kind) 0) (queueSteps g o) (stackSteps g)
 
 -- ---- a begin that was not refused, with n steps left in the step count
-pub record Begun (ws : List ℕ) (i : ℕ) (o : Operation) (n : ℕ) : Type 0 where
-  pub accepted : numberOf (callOf ws (begin i o) .answer) ≡ 0
+pub record Begun (e : ℕ) (ws : List ℕ) (i : ℕ) (o : Operation) (n : ℕ) : Type 0 where
+  pub accepted : numberOf (callOf e ws (begin i o) .answer) ≡ 0
   pub enough : getD ws stepsAt 0 + n ≤ stepLimit
 
 -- the run of more calls after it
-abbrev pub afterBegin : List ℕ → ℕ → Operation → List Call → List Event
-afterBegin ws i o ds = run (callOf ws (begin i o) .words) ds
+abbrev pub afterBegin : ℕ → List ℕ → ℕ → Operation → List Call → List Event
+afterBegin e ws i o ds = run e (callOf e ws (begin i o) .words) ds
 
 -- "whose worker alone steps": no step of another is taken. Begins of any worker, and refused calls, may stand between
 abbrev pub Solo : ℕ → List Event → Type 0
@@ -75,8 +75,8 @@ EndsWithin i n es = (p : ℕ) → p < length es → at es p .call ≡ step i →
 -- ---- the claim: after any list of calls on a new pool, so that the other workers may have stopped in any phase
 abbrev pub SoloWithin : (Settings → Operation → ℕ) → Type 0
 SoloWithin most = OfEveryRun (λ g ws cs.
-    (i : ℕ) (o : Operation) (ds : List Call) → Begun (wordsAfter ws cs) i o (most g o)
-    → Solo i (afterBegin (wordsAfter ws cs) i o ds) → EndsWithin i (most g o) (afterBegin (wordsAfter ws cs) i o ds))
+    (i : ℕ) (o : Operation) (ds : List Call) → Begun (g .edition) (wordsAfter (g .edition) ws cs) i o (most g o)
+    → Solo i (afterBegin (g .edition) (wordsAfter (g .edition) ws cs) i o ds) → EndsWithin i (most g o) (afterBegin (g .edition) (wordsAfter (g .edition) ws cs) i o ds))
 
 abbrev pub K3 : Type 0
 K3 = SoloWithin k3Steps
@@ -94,8 +94,8 @@ pub record Ends (n : ℕ) (es : List Event) : Type 0 where
 
 abbrev pub PlainWithin : (Settings → Operation → ℕ) → Type 0
 PlainWithin most = OfEveryRun (λ g ws cs.
-    (i : ℕ) (o : Operation) → Begun (wordsAfter ws cs) i o (most g o)
-    → Ends (most g o) (afterBegin (wordsAfter ws cs) i o (replicate (most g o) (step i))))
+    (i : ℕ) (o : Operation) → Begun (g .edition) (wordsAfter (g .edition) ws cs) i o (most g o)
+    → Ends (most g o) (afterBegin (g .edition) (wordsAfter (g .edition) ws cs) i o (replicate (most g o) (step i))))
 
 abbrev pub PlainK3 : Type 0
 PlainK3 = PlainWithin k3Steps

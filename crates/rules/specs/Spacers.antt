@@ -14,7 +14,7 @@ use Rattle.laws.specs.Choice.{cond}
 use Rattle.rules.specs.Answers.{numberOf}
 use Rattle.rules.specs.Apply.{stampInCell, takenOf}
 use Rattle.rules.specs.Held.{Item, isSpacer, passedOver, reported, countItems, passedOf, distanceOf}
-use Rattle.rules.specs.Sequential.{taking, Contents, Fed, Given, giveWithin, passedBy, reportedBy}
+use Rattle.rules.specs.Sequential.{taking, Contents, Fed, Given, give, passedBy, reportedBy}
 use Rattle.rules.specs.Run.{Call, beginPut, beginTake, step, callOf, stampIn, distanceIn}
 use Rattle.rules.specs.Statement.{All}
 use Rattle.rules.specs.Consequences.{wordsAfter}
@@ -51,24 +51,24 @@ EveryTakeHasDistance =
 
 -- ---- "on the one-at-a-time list"
 -- a take that answers 2 with a stamp
-abbrev pub fedTake : ℕ → Fed
-fedTake stamp = record { operation = taking; number = 2; stamp = stamp }
+abbrev pub fedTake : ℕ → ℕ → ℕ → Fed
+fedTake most least stamp = record { operation = taking; number = 2; stamp = stamp; most = most; least = least }
 
 -- "the reported number skips spacers, while the limit on items passed over still counts them all": what a take is given
 abbrev pub GivenBoth : Type 0
 GivenBoth =
-    (most : ℕ) (g : Settings) (q : Contents) (stamp : ℕ) (r : Given) → giveWithin most g q (fedTake stamp) ≡ some r
+    (most least : ℕ) (g : Settings) (q : Contents) (stamp : ℕ) (r : Given) → give g q (fedTake most least stamp) ≡ some r
     → (r .distance ≡ reportedBy g q stamp) × (passedBy g q stamp ≤ most)
 
 -- so a take that would pass over more is not allowed, even if all that it passes over are spacers, of which 0 is reported
 abbrev pub NotAllowedBeyond : Type 0
 NotAllowedBeyond =
-    (most : ℕ) (g : Settings) (q : Contents) (stamp : ℕ) → most < passedBy g q stamp → giveWithin most g q (fedTake stamp) ≡ none
+    (most least : ℕ) (g : Settings) (q : Contents) (stamp : ℕ) → most < passedBy g q stamp → give g q (fedTake most least stamp) ≡ none
 
 -- ---- every list of calls from a new pool, and then a take
 -- what a step of worker i answers after it
-abbrev pub answerAfter : List ℕ → List Call → ℕ → Answer
-answerAfter ws cs i = callOf (wordsAfter ws cs) (step i) .answer
+abbrev pub answerAfter : ℕ → List ℕ → List Call → ℕ → Answer
+answerAfter e ws cs i = callOf e (wordsAfter e ws cs) (step i) .answer
 
 -- both counts are of the pool just before: the distance is what is reported there, and what is passed over is within a bound
 pub record TakenWithin (most : ℕ) (g : Settings) (ws : List ℕ) (a : Answer) : Type 0 where
@@ -77,7 +77,7 @@ pub record TakenWithin (most : ℕ) (g : Settings) (ws : List ℕ) (a : Answer) 
 
 abbrev pub TakesWithin : (Settings → ℕ) → Settings → List ℕ → List Call → Type 0
 TakesWithin most g ws cs =
-    (i : ℕ) → numberOf (answerAfter ws cs i) ≡ 2 → TakenWithin (most g) g (wordsAfter ws cs) (answerAfter ws cs i)
+    (i : ℕ) → numberOf (answerAfter (g .edition) ws cs i) ≡ 2 → TakenWithin (most g) g (wordsAfter (g .edition) ws cs) (answerAfter (g .edition) ws cs i)
 
 -- where no call begins a put of 0, all that is passed over is reported
 abbrev pub NoSpacer : Call → Type 0
@@ -87,5 +87,5 @@ NoSpacer (step i) = Unit {0}
 
 abbrev pub AllReported : Settings → List ℕ → List Call → Type 0
 AllReported g ws cs =
-    All NoSpacer cs → (i : ℕ) → numberOf (answerAfter ws cs i) ≡ 2
-    → distanceIn (answerAfter ws cs i) ≡ passedOf (wordsAfter ws cs) g (record { 0 = stampIn (answerAfter ws cs i) })
+    All NoSpacer cs → (i : ℕ) → numberOf (answerAfter (g .edition) ws cs i) ≡ 2
+    → distanceIn (answerAfter (g .edition) ws cs i) ≡ passedOf (wordsAfter (g .edition) ws cs) g (record { 0 = stampIn (answerAfter (g .edition) ws cs i) })

@@ -53,5 +53,5 @@ unfoldable pub checkedStep : List ℕ → Checked → ℕ → Out
 checkedStep ws (Unfit n) i = refuse n ws
 checkedStep ws (Fit g) i = fitStep ws g i
 
-unfoldable pub stepOf : List ℕ → ℕ → Out
-stepOf ws i = checkedStep ws (checkedOf ws) i
+unfoldable pub stepOf : ℕ → List ℕ → ℕ → Out
+stepOf e ws i = checkedStep ws (checkedOf e ws) i

@@ -15,25 +15,25 @@ use Rattle.rules.specs.declared.Settings.{Settings}
 
 -- ---- of any words, fit or damaged
 -- the same list of calls on words whose word 10 is 1, and on the same words but for a 0 there
-pub record OneAsZero (ws : List ℕ) (cs : List Call) : Type 0 where
+pub record OneAsZero (e : ℕ) (ws : List ℕ) (cs : List Call) : Type 0 where
   -- each call with its answer, refused calls too
-  pub answers : run (set ws strideAt 1) cs ≡ run (set ws strideAt 0) cs
-  pub words : wordsAfter (set ws strideAt 1) cs ≡ set (wordsAfter (set ws strideAt 0) cs) strideAt 1
+  pub answers : run e (set ws strideAt 1) cs ≡ run e (set ws strideAt 0) cs
+  pub words : wordsAfter e (set ws strideAt 1) cs ≡ set (wordsAfter e (set ws strideAt 0) cs) strideAt 1
 
 -- "a pool of width 1 has only 0": with a 1 it is not fit
 abbrev pub StrideOneOnWords : Type 0
-StrideOneOnWords = (ws : List ℕ) (cs : List Call) → getD ws widthAt 0 ≢ 1 → OneAsZero ws cs
+StrideOneOnWords = (e : ℕ) (ws : List ℕ) (cs : List Call) → getD ws widthAt 0 ≢ 1 → OneAsZero e ws cs
 
 -- ---- of a new pool
 abbrev pub withStride : Settings → ℕ → Settings
 withStride g x =
-    record { kind = g .kind; width = g .width; depth = g .depth; shift = g .shift; rows = g .rows; workers = g .workers; stride = x }
+    record { kind = g .kind; width = g .width; depth = g .depth; shift = g .shift; rows = g .rows; workers = g .workers; stride = x; edition = g .edition }
 
 -- a pool made with these settings, and one made with stride 0 instead
 pub record AsStrideZero (ws : List ℕ) (g : Settings) (cs : List Call) : Type 0 where
   pub made : makeOf ws g .answer ≡ makeOf ws (withStride g 0) .answer
-  pub answers : run (makeOf ws g .words) cs ≡ run (makeOf ws (withStride g 0) .words) cs
-  pub words : wordsAfter (makeOf ws g .words) cs ≡ set (wordsAfter (makeOf ws (withStride g 0) .words) cs) strideAt (g .stride)
+  pub answers : run (g .edition) (makeOf ws g .words) cs ≡ run (g .edition) (makeOf ws (withStride g 0) .words) cs
+  pub words : wordsAfter (g .edition) (makeOf ws g .words) cs ≡ set (wordsAfter (g .edition) (makeOf ws (withStride g 0) .words) cs) strideAt (g .stride)
 
 -- of every list of calls, the empty one too
 abbrev pub StrideOne : Type 0

@@ -20,10 +20,10 @@ abbrev pub MakeKeeps : Type 0
 MakeKeeps = (ws : List ℕ) (g : Settings) → Beyond (needed g) ws (makeOf ws g .words)
 
 abbrev pub BeginKeeps : Type 0
-BeginKeeps = (ws : List ℕ) (i : ℕ) (side : Side) (value : ℕ) → Beyond (needed (settingsOf ws)) ws (beginOf ws i side value .words)
+BeginKeeps = (e : ℕ) (ws : List ℕ) (i : ℕ) (side : Side) (value : ℕ) → Beyond (needed (settingsOf ws)) ws (beginOf e ws i side value .words)
 
 abbrev pub StepKeeps : Type 0
-StepKeeps = (ws : List ℕ) (i : ℕ) → Beyond (needed (settingsOf ws)) ws (stepOf ws i .words)
+StepKeeps = (e : ℕ) (ws : List ℕ) (i : ℕ) → Beyond (needed (settingsOf ws)) ws (stepOf e ws i .words)
 
 abbrev pub DispatchKeeps : Type 0
-DispatchKeeps = (ws : List ℕ) (i steps : ℕ) → Beyond (needed (settingsOf ws)) ws (dispatchOf ws i steps .words)
+DispatchKeeps = (e : ℕ) (ws : List ℕ) (i steps : ℕ) → Beyond (needed (settingsOf ws)) ws (dispatchOf e ws i steps .words)

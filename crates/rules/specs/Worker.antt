@@ -46,7 +46,7 @@ abbrev pub numberFor : Side → ℕ → ℕ
 numberFor side phase = sideBase side + phase
 
 -- ---- a worker's words
--- the words of a worker from `at` on
+-- the words of a worker from `at` on, but for its failed commits
 unfoldable pub slotAt : List ℕ → ℕ → Slot
 slotAt ws at =
     record {

@@ -10,7 +10,8 @@ pub struct Stamp(pub u32);
 // How often a stack's window, or a sub of it, has changed.
 pub struct Version(pub u32);
 
-// A pool's settings, words 0 to 5 and 10. Kind 0 is a queue (paper 01's line), 1 a stack (its pile).
+// A pool's settings, words 0 to 5, 10 and 11. Kind 0 is a queue (paper 01's line), 1 a stack (its pile). The edition says how many words a
+// worker has.
 pub struct Settings {
     pub kind: u32,
     pub width: u32,
@@ -19,6 +20,7 @@ pub struct Settings {
     pub rows: u32,
     pub workers: u32,
     pub stride: u32,
+    pub edition: u32,
 }
 
 // So many of a sub's cells, one after the other, from its cell `start` on, counted from 0: paper 02's straight run.
@@ -105,7 +107,7 @@ pub struct Worker {
     pub phase: Phase,
 }
 
-// A worker's words as they lie; `number` is the phase's.
+// A worker's words as they lie, but for its failed commits; `number` is the phase's.
 pub struct Slot {
     pub number: u32,
     pub value: u32,
@@ -147,11 +149,12 @@ pub struct StackView {
     pub sub_version: Version,
 }
 
-// How a step ends, and so which words it writes: the worker's and the step count, where the window moved its two words,
-// where an item landed or was removed the two of its sub.
+// How a step ends, and so which words it writes: the worker's and the step count, where a commit failed (`Lost`) the worker's count of
+// those, where the window moved its two words, where an item landed or was removed the two of its sub.
 pub enum Outcome {
     Refused(u32),
     Moving,
+    Lost,
     Shifted,
     Landed { value: u32, row: Row, stamp: Stamp },
     Removed { row: Row },

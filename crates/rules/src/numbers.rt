@@ -1,4 +1,4 @@
-// Numbers with a meaning, each with its definition in specs/: the refusals (Answers), the phases (Worker), the limits (Limits).
+// Numbers with a meaning, each with its definition in specs/: the refusals (Answers), the phases (Worker), the limits (Limits), the edition (Make).
 
 // The refusals.
 pub const TOO_FEW_WORDS: u32 = 21;
@@ -49,6 +49,9 @@ pub const TAKE_COMMIT: u32 = TAKING + COMMIT;
 pub const TAKE_SHIFT: u32 = TAKING + SHIFT;
 
 pub const TAKE_CONFIRM: u32 = TAKING + CONFIRM;
+
+// The edition of the shipped calls.
+pub const SHIPPED: u32 = 1;
 
 // The limits of the settings, and of the step count.
 pub const WIDEST: u32 = 16;

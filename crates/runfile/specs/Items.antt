@@ -2,6 +2,7 @@
 use Prim.Native.Nat.{ℕ, _/_, _%_, _^_}
 use lib.Dec.{eqb}
 use Rattle.laws.specs.Choice.{cond}
+use Rattle.rules.specs.Make.{shipped}
 use Rattle.runfile.specs.declared.item.Opening.{Opening}
 use Rattle.runfile.specs.declared.item.Place.{Place}
 use Rattle.runfile.specs.declared.item.Place.the-variants.{First, Second, Later, Past}
@@ -102,6 +103,7 @@ secondOf o word =
       rows = bits 0 workersBit word;
       workers = bits workersBit secondSpareBit word;
       stride = o .stride;
+      edition = shipped;
     }))
     Bad
 

@@ -3,6 +3,7 @@ use crate::word::Read;
 use rules::Settings;
 use rules::numbers::BAD_WORD;
 use rules::numbers::FILE_CUT;
+use rules::numbers::SHIPPED;
 ghost use mathlib.Core.Path.{_≡_};
 ghost use Rattle.runfile.specs.Items.{firstOf, secondOf, laterOf, itemOf};
 ghost use Rattle.runfile.specs.File.{faultOf};
@@ -111,6 +112,7 @@ fn second(opening: Opening, word: u32) -> Item
         rows: word % WORKERS_BIT,
         workers: word % SECOND_SPARE_BIT / WORKERS_BIT,
         stride: opening.stride,
+        edition: SHIPPED,
     })
 }
 

@@ -10,7 +10,7 @@ use lib.Dec.{ltb, eqb}
 use borrow.Author.Tests.{eqb-true}
 use Rattle.laws.specs.Choice.{cond, allBelow, both-true, all, all-holds, Holds as Passed}
 use Rattle.rules.specs.Answers.{numberOf, out, refuse}
-use Rattle.rules.specs.Layout.{needed}
+use Rattle.rules.specs.Layout.{workerWords, needed}
 use Rattle.rules.specs.Limits.{settingsFit}
 use Rattle.rules.specs.Worker.{slotAt, putSlot, queuePhase, stackPhase, phaseOf, encode, encodePhase}
 use Rattle.rules.specs.Fit.{headFit, subFit, subsFit, phaseFit, wordFit, workersFit, bodyChecked, checkedOf}
@@ -25,12 +25,13 @@ use Rattle.rules.specs.Shift.{shiftBy, queueShift, stackShift}
 use Rattle.rules.specs.Confirm.{confirmedOf, confirmRule}
 use Rattle.rules.specs.Held.{itemsAbove, heldSub, heldBelow, countItems, passedOf, distanceOf}
 use Rattle.rules.specs.Segments.{segmentsFrom, segmentsAbove, upFrom}
-use Rattle.rules.specs.Apply.{putItem, putSub, putLanded, putShifted, putWorker, takenOf, applyBy, applyOf}
+use Rattle.rules.specs.Apply.{putItem, putSub, putLanded, putShifted, countLost, putWorker, takenOf, applyBy, applyOf}
 use Rattle.rules.specs.Step.{ruleBy, ruleOf, slotStep, fitStep, checkedStep, stepOf}
 use Rattle.rules.specs.Sequential.{mostPassed, leastFull}
 use Rattle.rules.specs.Newer.{k14Bound, frameworkBound, thesisBound, exactBound}
 use Rattle.rules.specs.Statement.{All}
 use Rattle.stretch.specs.Stretch.{countedSteps}
+use Rattle.rules.specs.Consequences.{wordsAfter}
 use Rattle.rules.specs.Run.{callOf, run}
 use Rattle.rules.specs.declared.Settings.{Settings}
 use Rattle.rules.specs.declared.Answer.the-variants.{Moving}
@@ -43,7 +44,8 @@ use Rattle.runs.specs.Extremes.{extremes}
 use Rattle.runs.specs.Spacers.{spacers}
 use Rattle.runs.specs.Solos.{solos}
 use Rattle.runs.specs.Stretches.{Stretch, Unanswered, stretches}
-use Rattle.runs.specs.Tests.{every, sameList, lineTests, sameLine, holds, gives, reaches, unanswered}
+use Rattle.runs.specs.Cards.{Cards, Says, carded, editionZero, EditionsByHand}
+use Rattle.runs.specs.Tests.{every, sameList, lineTests, sameLine, holds, gives, reaches, says, unanswered}
 
 pub make-number : (ws : List ℕ) (g : Settings) → numberOf (makeOf ws g .answer) ≡ makeNumber g (length ws)
 unfolding makeOf makeNumber cond
@@ -94,6 +96,9 @@ figures-give g n = all-from-tests (λ f. eqb (f g) n ∷ []) (λ f t. eqb-true (
 row-reaches : (x : Reach) → Passed (reaches x) → Reaches x
 row-reaches x t = record { holds = row-holds (x .row) (all-holds (holds (x .row)) (t .0)); reached = figures-give _ _ (x .figures) (t .1 .0) }
 
+cards-say : (x : Cards) → Passed (says x) → Says x
+cards-say x t = record { holds = row-holds (x .row) (all-holds (holds (x .row)) (t .0)); cards = list-right eqb eqb-true _ _ (t .1 .0) }
+
 stretch-unanswered : (s : Stretch) → Passed (unanswered s) → Unanswered s
 stretch-unanswered s t =
     record {
@@ -103,11 +108,11 @@ stretch-unanswered s t =
     }
 
 -- ---- the tables
-tables-pass : (every holds table ≡ true) × (every holds strides ≡ true) × (every reaches extremes ≡ true) × (every reaches spacers ≡ true) × (every reaches solos ≡ true) × (every unanswered stretches ≡ true)
-unfolding table strides extremes spacers solos stretches mostPassed leastFull frameworkBound exactBound thesisBound k14Bound countedSteps eventsOf runOf linesOf makeNumber settingsFit run callOf cond allBelow slotAt putSlot queuePhase stackPhase phaseOf encode encodePhase headFit subFit subsFit phaseFit wordFit workersFit bodyChecked checkedOf zeroed indexed madeWords makeOf slotBegin fitBegin checkedBegin beginOf viewOf nextOf hopOf windowRule missOf queuePutRead queueTakeRead stackRead checkRule commitBy queueCommit stackCommit shiftBy queueShift stackShift confirmedOf confirmRule itemsAbove heldSub heldBelow countItems passedOf distanceOf putItem putSub putLanded putShifted putWorker takenOf applyBy applyOf ruleBy ruleOf slotStep fitStep checkedStep stepOf
-tables-pass = (refl, refl, refl, refl, refl, refl)
+tables-pass : (every holds table ≡ true) × (every holds strides ≡ true) × (every reaches extremes ≡ true) × (every reaches spacers ≡ true) × (every reaches solos ≡ true) × (every unanswered stretches ≡ true) × (every says carded ≡ true) × (every holds editionZero ≡ true)
+unfolding table strides extremes spacers solos stretches carded editionZero wordsAfter mostPassed leastFull frameworkBound exactBound thesisBound k14Bound countedSteps eventsOf runOf linesOf makeNumber settingsFit workerWords run callOf cond allBelow slotAt putSlot queuePhase stackPhase phaseOf encode encodePhase headFit subFit subsFit phaseFit wordFit workersFit bodyChecked checkedOf zeroed indexed madeWords makeOf slotBegin fitBegin checkedBegin beginOf viewOf nextOf hopOf windowRule missOf queuePutRead queueTakeRead stackRead checkRule commitBy queueCommit stackCommit shiftBy queueShift stackShift confirmedOf confirmRule itemsAbove heldSub heldBelow countItems passedOf distanceOf putItem putSub putLanded putShifted countLost putWorker takenOf applyBy applyOf ruleBy ruleOf slotStep fitStep checkedStep stepOf
+tables-pass = (refl, refl, refl, refl, refl, refl, refl, refl)
 
-pub runs-hold : AllHold table × AllHold strides × All Reaches extremes × All Reaches spacers × All Reaches solos × All Unanswered stretches
+pub runs-hold : AllHold table × AllHold strides × All Reaches extremes × All Reaches spacers × All Reaches solos × All Unanswered stretches × All Says carded × AllHold editionZero
 runs-hold = (
   all-from-tests holds row-holds table (tables-pass .0),
   all-from-tests holds row-holds strides (tables-pass .1),
@@ -115,6 +120,8 @@ runs-hold = (
   all-from-tests reaches row-reaches spacers (tables-pass .3),
   all-from-tests reaches row-reaches solos (tables-pass .4),
   all-from-tests unanswered stretch-unanswered stretches (tables-pass .5),
+  all-from-tests says cards-say carded (tables-pass .6),
+  all-from-tests holds row-holds editionZero (tables-pass .7),
 )
 
 -- ---- a sub's segments
@@ -132,3 +139,8 @@ segments-by-hand = (
   (refl, refl),
   (refl, refl),
 )
+
+-- ---- editions
+pub editions-by-hand : EditionsByHand
+unfolding makeOf madeWords zeroed indexed workerWords settingsFit checkedOf headFit bodyChecked subsFit subFit workersFit wordFit phaseFit allBelow cond
+editions-by-hand = (refl, refl, refl, refl, refl, refl, refl, refl, refl, refl, refl)

@@ -8,4 +8,5 @@ pub mod Extremes
 pub mod Spacers
 pub mod Solos
 pub mod Stretches
+pub mod Cards
 pub mod Tests

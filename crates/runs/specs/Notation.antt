@@ -2,23 +2,31 @@
 use Prim.Native.Nat.{ℕ}
 use mathlib.Core.List.{List, [], _∷_}
 use lib.ListN.{replicate}
+use Rattle.rules.specs.Layout.{needed}
+use Rattle.rules.specs.Make.{shipped}
 use Rattle.rules.specs.Run.{Call, beginPut, beginTake, step}
 use Rattle.rules.specs.declared.Settings.{Settings}
 use Rattle.runs.specs.Rows.{Line, Row}
 
--- with stride 0, as paper 01 has them
+-- with stride 0, as paper 01 has them; of the shipped edition
 abbrev pub queue : ℕ → ℕ → ℕ → ℕ → Settings
-queue width depth rows workers = record { kind = 0; width = width; depth = depth; shift = depth; rows = rows; workers = workers; stride = 0 }
+queue width depth rows workers = record { kind = 0; width = width; depth = depth; shift = depth; rows = rows; workers = workers; stride = 0; edition = shipped }
 
 abbrev pub stack : ℕ → ℕ → ℕ → ℕ → ℕ → Settings
-stack width depth shift rows workers = record { kind = 1; width = width; depth = depth; shift = shift; rows = rows; workers = workers; stride = 0 }
+stack width depth shift rows workers = record { kind = 1; width = width; depth = depth; shift = shift; rows = rows; workers = workers; stride = 0; edition = shipped }
+
+-- of another edition
+abbrev pub ofEdition : ℕ → Settings → Settings
+ofEdition e g =
+    record { kind = g .kind; width = g .width; depth = g .depth; shift = g .shift; rows = g .rows; workers = g .workers; stride = g .stride; edition = e }
 
 -- ---- rows
 abbrev pub makes : Settings → ℕ → ℕ → Row
 makes g lent number = record { settings = g; lent = lent; made = number; counted = 0; calls = []; lines = [] }
 
-abbrev pub runs : Settings → ℕ → List Call → List Line → Row
-runs g lent calls lines = record { settings = g; lent = lent; made = 0; counted = 0; calls = calls; lines = lines }
+-- just the needed words are lent
+abbrev pub runs : Settings → List Call → List Line → Row
+runs g calls lines = record { settings = g; lent = needed g; made = 0; counted = 0; calls = calls; lines = lines }
 
 -- ---- calls: a worker's steps, and an operation begun with its first steps
 abbrev pub steps : ℕ → ℕ → List Call

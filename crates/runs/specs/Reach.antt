@@ -44,8 +44,8 @@ passedBefore g ws a = cond (eqb (numberOf a) 2) (passedOf ws g (record { 0 = sta
 -- those that the last of some calls passes over
 abbrev passedLast : Settings → List ℕ → List Call → ℕ
 passedLast g ws [] = 0
-passedLast g ws (c ∷ []) = passedBefore g ws (callOf ws c .answer)
-passedLast g ws (c ∷ d ∷ cs) = passedLast g (callOf ws c .words) (d ∷ cs)
+passedLast g ws (c ∷ []) = passedBefore g ws (callOf (g .edition) ws c .answer)
+passedLast g ws (c ∷ d ∷ cs) = passedLast g (callOf (g .edition) ws c .words) (d ∷ cs)
 
 -- those of its run's last call; what that reports is in its line
 abbrev pub passing : List (Settings → ℕ) → Row → Reach

@@ -62,7 +62,7 @@ abbrev pub startOf : Row → List ℕ
 startOf r = set ((makeOf (replicate (r .lent) 0) (r .settings)) .words) stepsAt (r .counted)
 
 unfoldable pub eventsOf : Row → List Event
-eventsOf r = run (startOf r) (r .calls)
+eventsOf r = run (r .settings .edition) (startOf r) (r .calls)
 
 unfoldable pub runOf : Row → List Line
 runOf r = linesOf (λ i. 0) (eventsOf r)

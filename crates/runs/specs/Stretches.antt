@@ -42,18 +42,18 @@ unfoldable pub stretches : List Stretch
 stretches =
     -- stretch-one-worker: a take reads each sub twice; 2w + 3 = 7 steps
     quiet 26 8 exactStretch
-    (runs (queue 2 1 2 1) 32 (put 0 1 3 ++ put 0 2 4 ++ put 0 3 7 ++ take 0 3 ++ take 0 4 ++ take 0 8)
+    (runs (queue 2 1 2 1) (put 0 1 3 ++ put 0 2 4 ++ put 0 3 7 ++ take 0 3 ++ take 0 4 ++ take 0 8)
     (landed 0 3 1 0 1 1 ∷ landed 0 4 2 1 1 2 ∷ landed 0 7 3 1 2 3 ∷ taken 0 3 2 1 1 2 1 ∷ taken 0 4 1 0 1 1 0 ∷ taken 0 8 3 1 2 3 0 ∷ [])) ∷
     -- stretch-window: worker 1's take has seen a window that moved since; (n - 1) (4w + 3) + w + 4 = 12 steps, 5 of worker 0 and 7 of worker 1
     quiet 24 13 exactStretch
-    (runs (queue 1 1 2 2) 34
+    (runs (queue 1 1 2 2)
     (take 1 1 ++ put 0 1 3 ++ take 0 3 ++ put 0 2 6 ++ take 0 6 ++ put 0 3 5 ++ steps 1 7 ++ steps 1 1 ++ steps 0 1)
     (landed 0 3 1 0 1 1 ∷ taken 0 3 1 0 1 1 0 ∷ landed 0 6 2 0 2 2 ∷ taken 0 6 2 0 2 2 0 ∷ plain 1 9 3 ∷ landed 0 6 3 0 3 3 ∷ [])) ∷
     -- stretch-sub: it has read a sub that changed since; (n - 1) (5w + 1) + w + 4 = 17 steps, 6 of worker 0 and 11 of worker 1
     quiet 20 18 exactStretch
-    (runs (queue 2 1 2 2) 40
+    (runs (queue 2 1 2 2)
     (put 0 1 3 ++ take 0 3 ++ put 0 2 3 ++ take 1 2 ++ steps 0 1 ++ take 0 3 ++ put 0 3 6 ++ steps 1 11 ++ steps 1 1 ++ steps 0 1)
     (landed 0 3 1 0 1 1 ∷ taken 0 3 1 0 1 1 0 ∷ landed 0 4 2 1 1 2 ∷ taken 0 3 2 1 1 2 0 ∷ plain 1 14 3 ∷ landed 0 7 3 1 2 3 ∷ [])) ∷
     -- stack-endless: five rounds are 30 steps, six more than K7's 6n (w + 1)
     quiet 5 32 (more 6 k7Stretch)
-    (runs (stack 1 1 1 2 2) 34 (put 0 1 4 ++ put 0 2 0 ++ take 1 0 ++ round ++ round ++ round ++ round ++ round) (landed 0 4 1 0 1 1 ∷ [])) ∷ []
+    (runs (stack 1 1 1 2 2) (put 0 1 4 ++ put 0 2 0 ++ take 1 0 ++ round ++ round ++ round ++ round ++ round) (landed 0 4 1 0 1 1 ∷ [])) ∷ []

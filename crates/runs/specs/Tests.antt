@@ -9,6 +9,7 @@ use Rattle.rules.specs.declared.Settings.{Settings}
 use Rattle.stretch.specs.Stretch.{countedSteps}
 use Rattle.runs.specs.Rows.{Line, Row, makeNumber, runOf}
 use Rattle.runs.specs.Reach.{Reach}
+use Rattle.runs.specs.Cards.{Cards, cardsOf}
 use Rattle.runs.specs.Stretches.{Stretch, eventsIn, numbersIn}
 
 -- every row passes its tests
@@ -37,6 +38,9 @@ gives g n = every (λ (f : Settings → ℕ). eqb (f g) n ∷ [])
 
 abbrev pub reaches : Reach → List Bool
 reaches x = all (holds (x .row)) ∷ gives (x .row .settings) (x .shown (x .row)) (x .figures) ∷ []
+
+abbrev pub says : Cards → List Bool
+says x = all (holds (x .row)) ∷ sameList eqb (cardsOf (x .row)) (x .says) ∷ []
 
 abbrev pub unanswered : Stretch → List Bool
 unanswered s =

@@ -1,5 +1,6 @@
 // What an effect writes and answers.
 use held::distance;
+use image::count_lost;
 use image::item_of;
 use image::put_landed;
 use image::put_shifted;
@@ -45,6 +46,11 @@ pub fn apply(words: &mut [u32], g: Settings, at: usize, j: u32, e: Effect) -> An
     match outcome {
         Outcome::Refused(n) => Answer::Refused(n),
         Outcome::Moving => {
+            put_worker(words, at, e);
+            Answer::Moving
+        }
+        Outcome::Lost => {
+            count_lost(words, g, at);
             put_worker(words, at, e);
             Answer::Moving
         }

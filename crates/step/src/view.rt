@@ -11,11 +11,11 @@ ghost use mathlib.Core.Path.{_≡_};
 ghost use Prim.Native.Nat.{_+_, _≤_};
 ghost use lib.ListN.{length, getD};
 ghost use Rattle.rules.specs.Effects.{viewOf};
-ghost use Rattle.rules.specs.Layout.{headWords, workerWords, subWords, subAt, indexAt};
+ghost use Rattle.rules.specs.Layout.{headWords, slotWords, subWords, subAt, indexAt};
 
 // What the worker whose words start at `at` reads.
 pub fn view(words: &[u32], g: Settings, at: usize) -> View
-    requires { ⌜ (headWords ≤ at) × (at + workerWords ≤ length (now words)) ⌝ }
+    requires { ⌜ (headWords ≤ at) × (at + slotWords ≤ length (now words)) ⌝ }
     requires { ⌜ subAt (getD (now words) (indexAt at) 0) + subWords ≤ length (now words) ⌝ }
     ensures { λ r. ⌜ r ≡ viewOf (now (words .entry)) g at ⌝ }
 {

@@ -6,20 +6,22 @@ use fitness::refusal;
 use image::idle_at;
 use image::index_of;
 use image::out_of_steps;
-use image::settings;
+use image::shipped_settings;
 use image::worker_at;
 use phases::rule::rule;
 use rules::Answer;
 use rules::Settings;
 use rules::numbers::NO_SUCH_WORKER;
+use rules::numbers::SHIPPED;
 use rules::numbers::STEPS_SPENT;
 use rules::numbers::WORKER_IDLE;
 ghost use mathlib.Core.Path.{_≡_};
 ghost use Prim.Native.Nat.{_<_};
 ghost use lib.ListN.{getD};
 ghost use Rattle.rules.specs.Answers.{out, returned, returnedOf};
-ghost use Rattle.rules.specs.Fit.{FitPool};
+ghost use Rattle.rules.specs.Fit.{Fit, FitPool, checkedOf};
 ghost use Rattle.rules.specs.Layout.{Lent, indexAt, settingsOf};
+ghost use Rattle.rules.specs.Make.{shipped};
 ghost use Rattle.rules.specs.Step.{slotStep, fitStep, stepOf};
 
 // A step of the worker whose words start at `at`.
@@ -55,22 +57,22 @@ fn fit_step(words: &mut [u32], g: Settings, i: u32) -> Answer
 // A step of worker `i` of a fit pool: its answer's number, with the five fields written. C's step and the dispatcher share it, and all of a step is behind
 // it. It returns a number, in a register; an answer, and settings handed to it, would go through memory at every step.
 pub fn fit_answer(words: &mut [u32], i: u32, five: &mut [u32; 5]) -> u32
-    requires { ⌜ FitPool (settingsOf (now words)) (now words) ⌝ }
+    requires { ⌜ checkedOf shipped (now words) ≡ Fit (settingsOf (now words)) ⌝ }
     ensures { λ r. ⌜ returned r (now (words .exit)) (now (five .exit)) ≡ returnedOf (fitStep (now (words .entry)) (settingsOf (now (words .entry))) i) ⌝ }
 {
-    let g = settings(words);
+    let g = shipped_settings(words);
     let a = fit_step(words, g, i);
     answered(a, five)
 }
 
 // One step of a worker.
 pub fn step(words: &mut [u32], worker: u32) -> Answer
-    ensures { λ r. ⌜ out r (now (words .exit)) ≡ stepOf (now (words .entry)) worker ⌝ }
+    ensures { λ r. ⌜ out r (now (words .exit)) ≡ stepOf shipped (now (words .entry)) worker ⌝ }
 {
-    let n = refusal(words);
+    let n = refusal(words, SHIPPED);
     if n != 0 {
         return Answer::Refused(n);
     }
-    let g = settings(words);
+    let g = shipped_settings(words);
     fit_step(words, g, worker)
 }

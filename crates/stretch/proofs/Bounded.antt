@@ -55,7 +55,7 @@ module _ (g : Settings) (good : Good g) (kind : g .kind ≡ 0) (limits : setting
   one-more s debt c e es u v rest (pays x) = bounded-more _ (sumN (x .after) (g .workers)) e es (rw (u, v) (x .paid)) (rest (x .after) (x .owed))
 
   pub bounded-by-debts : {ws : List ℕ} {s : State} → Related g limits (queueKind g good kind) ws s → (debt : ℕ → ℕ) → Debts g (2 * g .width) s debt → (ds : List Call)
-      → Bounded (sumN debt (g .workers)) (run ws ds)
+      → Bounded (sumN debt (g .workers)) (run (g .edition) ws ds)
   unfolding run
   bounded-by-debts r debt owed [] = bounded-none _
   bounded-by-debts {ws} {s} r debt owed (c ∷ ds) =

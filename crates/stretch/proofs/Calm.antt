@@ -129,7 +129,7 @@ module _ (g : Settings) (good : Good g) (kind : g .kind ≡ 0) where
   -- ---- the words
   module _ (limits : settingsFit g ≡ true) where
     pub calm-stretch : {ws : List ℕ} {s : State} → Related g limits (queueKind g good kind) ws s → Calm g s → (b c : ℕ → ℕ) (n : ℕ) → Enough g s b c n
-        → (ds : List Call) → Bounded n (run ws ds)
+        → (ds : List Call) → Bounded n (run (g .edition) ws ds)
     unfolding run
     calm-stretch r calm b c n x [] = bounded-none n
     calm-stretch {ws} {s} r calm b c n x (call ∷ ds) =

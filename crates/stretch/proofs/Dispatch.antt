@@ -37,22 +37,22 @@ use Rattle.stretch.proofs.Theorem.{finishes-within, exact-k7}
 use Rattle.rules.proofs.dispatch.Turns.{HasTurn, has-turn, busy-found, turns-on, turns-end, turn-stays, fit-turns}
 
 -- ---- steps none of which is final
-pub record Unfinished (ws : List ℕ) (m : ℕ) : Type 0 where
+pub record Unfinished (ed : ℕ) (ws : List ℕ) (m : ℕ) : Type 0 where
   pub calls : List Call
-  pub counted : countedSteps (run ws calls) ≡ m
-  pub none : (p : ℕ) → ¬ (Final (at (run ws calls) p .answer))
+  pub counted : countedSteps (run ed ws calls) ≡ m
+  pub none : (p : ℕ) → ¬ (Final (at (run ed ws calls) p .answer))
 
-no-steps : (ws : List ℕ) → Unfinished ws 0
+no-steps : (ed : ℕ) (ws : List ℕ) → Unfinished ed ws 0
 unfolding run countedSteps
-no-steps ws = record { calls = []; counted = refl; none = λ p f. omega (arith, f .high) }
+no-steps ed ws = record { calls = []; counted = refl; none = λ p f. omega (arith, f .high) }
 
 -- a 0 before them
-zero-more : (ws : List ℕ) (j m : ℕ) → numberOf (stepOf ws j .answer) ≡ 0 → Unfinished (stepOf ws j .words) m → Unfinished ws (suc m)
+zero-more : (ed : ℕ) (ws : List ℕ) (j m : ℕ) → numberOf (stepOf ed ws j .answer) ≡ 0 → Unfinished ed (stepOf ed ws j .words) m → Unfinished ed ws (suc m)
 unfolding run countedSteps callOf cond
-zero-more ws j m moving rest =
+zero-more ed ws j m moving rest =
     record { calls = step j ∷ rest .calls; counted = rw (moving, rest .counted) (omega arith); none = none }
   where
-    none : (p : ℕ) → ¬ (Final (at (run ws (step j ∷ rest .calls)) p .answer))
+    none : (p : ℕ) → ¬ (Final (at (run ed ws (step j ∷ rest .calls)) p .answer))
     none zero f = omega (arith, f .low)
     none (suc p) f = rest .none p f
 
@@ -60,22 +60,22 @@ module _ (g : Settings) (good : Good g) (kind : g .kind ≡ 0) (limits : setting
   abbrev Rel : List ℕ → State → Type 0
   Rel ws s = Related g limits (queueKind g good kind) ws s
 
-  fit : {ws : List ℕ} {s : State} → Rel ws s → checkedOf ws ≡ Fit g
+  fit : {ws : List ℕ} {s : State} → Rel ws s → checkedOf (g .edition) ws ≡ Fit g
   fit {ws} {s} r =
       let counts = queueKind g good kind .counts s (r .list) (r .whole .inv) in
       checked-fit g limits (good .bounds .kind1) ws s (r .says) (r .whole .common) (counts .sub)
 
   -- the turns come to a final answer, or there are m steps without one
   abbrev Comes : List ℕ → ℕ → ℕ → ℕ → Type 0
-  Comes ws i k m = FinishesIn g (turnsOf ws g i k) ⊎ Unfinished ws m
+  Comes ws i k m = FinishesIn g (turnsOf ws g i k) ⊎ Unfinished (g .edition) ws m
 
   -- ---- one turn, from how the next ones go on
   module _ {ws : List ℕ} {s : State} (r : Rel ws s) (i j k m : ℕ) (turn : turnFrom ws g i ≡ Worker j) (busy : HasTurn ws g j) (time : s .steps < stepLimit)
-      (rest : nextIn g s (step j) .state .steps ≡ suc (s .steps) → Busy g (stepOf ws j .words) → Comes (stepOf ws j .words) (workerAfter g j) k m) where
+      (rest : nextIn g s (step j) .state .steps ≡ suc (s .steps) → Busy g (stepOf (g .edition) ws j .words) → Comes (stepOf (g .edition) ws j .words) (workerAfter g j) k m) where
     abbrev x : Next-related g limits (queueKind g good kind) ws s (r .list) (step j)
     x = next-related g limits (queueKind g good kind) r (step j)
 
-    answer : stepOf ws j .answer ≡ nextIn g s (step j) .answer
+    answer : stepOf (g .edition) ws j .answer ≡ nextIn g s (step j) .answer
     unfolding callOf
     answer = x .answer
 
@@ -83,15 +83,15 @@ module _ (g : Settings) (good : Good g) (kind : g .kind ≡ 0) (limits : setting
     number z = busy .busy (number-same g ws s (r .says) j (busy .among) ∙ z)
 
     -- a final answer
-    ends : Final (stepOf ws j .answer) → FinishesIn g (turnsOf ws g i (suc k))
+    ends : Final (stepOf (g .edition) ws j .answer) → FinishesIn g (turnsOf ws g i (suc k))
     unfolding endedBy cond
     ends f =
-        let come = turns-end ws g i j (suc k) (omega arith) turn (stepOf ws j) refl (λ z. omega (arith, f .low)) in
+        let come = turns-end ws g i j (suc k) (omega arith) turn (stepOf (g .edition) ws j) refl (λ z. omega (arith, f .low)) in
         record {
           worker = j;
           among = busy .among;
-          answer = stepOf ws j .answer;
-          result = ap (λ (o : DispatchOut). o .result) come ∙ rw (le-leb (numberOf (stepOf ws j .answer)) 4 (f .high)) refl;
+          answer = stepOf (g .edition) ws j .answer;
+          result = ap (λ (o : DispatchOut). o .result) come ∙ rw (le-leb (numberOf (stepOf (g .edition) ws j .answer)) 4 (f .high)) refl;
           final = f;
         }
 
@@ -100,23 +100,23 @@ module _ (g : Settings) (good : Good g) (kind : g .kind ≡ 0) (limits : setting
     by (finishes f) = inl (ends (rw answer f))
     by (goes y) = on (rest (y .steps) (j, busy .among, turn-stays ws g (fit r) j moving .busy))
       where
-        moving : numberOf (stepOf ws j .answer) ≡ 0
+        moving : numberOf (stepOf (g .edition) ws j .answer) ≡ 0
         moving = rw answer (y .answer)
 
-        on : Comes (stepOf ws j .words) (workerAfter g j) k m → Comes ws i (suc k) (suc m)
+        on : Comes (stepOf (g .edition) ws j .words) (workerAfter g j) k m → Comes ws i (suc k) (suc m)
         on (inl f) =
             let less : suc k - 1 ≡ k = omega arith in
-            let come : turnsOf ws g i (suc k) ≡ turnsOf (stepOf ws j .words) g (workerAfter g j) k =
-            rw less at (turns-on ws g i j (suc k) (omega arith) turn (stepOf ws j) refl moving) in
+            let come : turnsOf ws g i (suc k) ≡ turnsOf (stepOf (g .edition) ws j .words) g (workerAfter g j) k =
+            rw less at (turns-on ws g i j (suc k) (omega arith) turn (stepOf (g .edition) ws j) refl moving) in
             inl (rw come f)
-        on (inr u) = inr (zero-more ws j m moving u)
+        on (inr u) = inr (zero-more (g .edition) ws j m moving u)
 
     one-turn : Comes ws i (suc k) (suc m)
     one-turn = by (busy-step g good kind s (r .list) (r .whole .common) (queue-inv g good kind s (r .list) (r .whole .inv)) j (busy .among) number time)
 
   turns-come : (m k : ℕ) → m ≤ k → {ws : List ℕ} {s : State} → Rel ws s → (i : ℕ) → i < g .workers → Busy g ws → s .steps + m ≤ stepLimit → Comes ws i k m
   unfolding callOf
-  turns-come zero k l {ws} r i li busy time = inr (no-steps ws)
+  turns-come zero k l {ws} r i li busy time = inr (no-steps (g .edition) ws)
   turns-come (suc m) zero l r i li busy time = absurd (omega arith)
   turns-come (suc m) (suc k) l {ws} {s} r i li busy time =
       let f = busy-found ws g i (busy .0) li (busy .1) (busy .2) in
@@ -126,10 +126,10 @@ module _ (g : Settings) (good : Good g) (kind : g .kind ≡ 0) (limits : setting
   -- ---- from any words that a new queue comes to
   module _ {ws : List ℕ} (r : Reached g good kind limits ws) (i steps : ℕ) (li : i < g .workers) where
     -- a stretch that is too long
-    too-long : Unfinished ws (suc (exactStretch g)) → ⊥
+    too-long : Unfinished (g .edition) ws (suc (exactStretch g)) → ⊥
     too-long u = let f = finishes-within g good kind limits r (u .calls) (omega (arith, u .counted)) in u .none (f .position) (f .final)
 
-    reached-finishes : Busy g ws → exactStretch g < steps → getD ws stepsAt 0 + exactStretch g < stepLimit → FinishesIn g (dispatchOf ws i steps)
+    reached-finishes : Busy g ws → exactStretch g < steps → getD ws stepsAt 0 + exactStretch g < stepLimit → FinishesIn g (dispatchOf (g .edition) ws i steps)
     reached-finishes busy many time =
         rw (fit-turns ws g (fit (r .related)) i steps li) (by (turns-come (suc (exactStretch g)) steps many (r .related) i li busy (omega (arith, r .related .says .steps))))
       where

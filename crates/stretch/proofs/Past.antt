@@ -96,7 +96,7 @@ module _ (g : Settings) (good : Good g) (kind : g .kind ≡ 0) where
     pub past : Past g state
 
   module _ (limits : settingsFit g ≡ true) where
-    pub reached-after : {ws : List ℕ} → Reached limits ws → (cs : List Call) → Reached limits (wordsAfter ws cs)
+    pub reached-after : {ws : List ℕ} → Reached limits ws → (cs : List Call) → Reached limits (wordsAfter (g .edition) ws cs)
     unfolding wordsAfter
     reached-after r [] = r
     reached-after r (c ∷ cs) =
@@ -107,5 +107,5 @@ module _ (g : Settings) (good : Good g) (kind : g .kind ≡ 0) where
           past = past-next (r .state) (k .list) (k .whole .common) (queue-inv g good kind (r .state) (k .list) (k .whole .inv)) (r .past) c;
         }) cs
 
-    pub reached : (ws : List ℕ) → Accepted ws g → (cs : List Call) → Reached limits (wordsAfter (makeOf ws g .words) cs)
+    pub reached : (ws : List ℕ) → Accepted ws g → (cs : List Call) → Reached limits (wordsAfter (g .edition) (makeOf ws g .words) cs)
     reached ws a cs = reached-after (record { state = madeIn g; related = made-related g limits (queueKind g good kind) ws a; past = past-made }) cs

@@ -56,7 +56,7 @@ module _ (g : Settings) (good : Good g) (kind : g .kind ≡ 0) where
 
   -- from any words that a new queue comes to
   pub finishes-within : (limits : settingsFit g ≡ true) {ws : List ℕ} → Reached g good kind limits ws → (ds : List Call)
-      → exactStretch g < countedSteps (run ws ds) → Finishes (run ws ds)
+      → exactStretch g < countedSteps (run (g .edition) ws ds) → Finishes (run (g .edition) ws ds)
   finishes-within limits r ds many = finishes-beyond g good kind limits r ds (exactStretch g) with-a-put with-none many
 
 -- ---- the theorem
@@ -64,7 +64,7 @@ pub stretch-exact : StretchExact
 stretch-exact ws g cs made kind p m many =
     let a = accepted ws g made in
     let h = good g (a .limits) in
-    let is = run-stretch (makeOf ws g .words) cs p m in
+    let is = run-stretch (g .edition) (makeOf ws g .words) cs p m in
     rw is (finishes-within g h kind (a .limits) (reached g h kind (a .limits) ws a (take p cs)) (take m (drop p cs)) (rw is at many))
 
 -- K7's figure is not below it

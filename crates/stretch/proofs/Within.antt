@@ -72,7 +72,7 @@ module _ (g : Settings) (good : Good g) (kind : g .kind ≡ 0) where
   -- ---- a bound that is enough where a put is under way or begins, and where none does
   module _ (limits : settingsFit g ≡ true) {ws : List ℕ} (r : Reached g good kind limits ws) (ds : List Call)
       (most : ℕ) (with-a-put : (g .workers - 1) * owedWorst g + (g .width + 4) ≤ most) (with-none : (g .workers - 1) * owedCalm g + (2 * g .width + 3) ≤ most)
-      (many : most < countedSteps (run ws ds)) where
+      (many : most < countedSteps (run (g .edition) ws ds)) where
     abbrev s : State
     s = r .state
 
@@ -91,7 +91,7 @@ module _ (g : Settings) (good : Good g) (kind : g .kind ≡ 0) where
     owed : Debts g (2 * g .width) s debt
     owed = all-owe g good (2 * g .width) (twice g good kind) s (r .related .list) inv lead
 
-    finish : (n : ℕ) → n ≤ most → Bounded n (run ws ds) → Finishes (run ws ds)
+    finish : (n : ℕ) → n ≤ most → Bounded n (run (g .edition) ws ds) → Finishes (run (g .edition) ws ds)
     finish n l (inl f) = f
     finish n l (inr k) = absurd (omega arith)
 
@@ -102,7 +102,7 @@ module _ (g : Settings) (good : Good g) (kind : g .kind ≡ 0) where
         (λ e. rw e (put-owes g good (2 * g .width) (twice g good kind) s (r .related .list) inv (x .who) (x .putting)))
         (λ n. owed i l)
 
-    with-put : PutOpen g s → Finishes (run ws ds)
+    with-put : PutOpen g s → Finishes (run (g .edition) ws ds)
     with-put x = elim (ℕ-discrete (x .who) (lead .who)) [
       | yes e ↦
           let few : lead .debt ≤ g .width + 4 = lead .put-small (rw e at (x .putting)) in
@@ -115,7 +115,7 @@ module _ (g : Settings) (good : Good g) (kind : g .kind ≡ 0) where
     ]
 
     -- ---- none is
-    without-put : NoneBelow g s (g .workers) → Finishes (run ws ds)
+    without-put : NoneBelow g s (g .workers) → Finishes (run (g .edition) ws ds)
     without-put none = by (r .past .second)
       where
         no-put : PutOpen g s → ⊥
@@ -125,7 +125,7 @@ module _ (g : Settings) (good : Good g) (kind : g .kind ≡ 0) where
         stock (inl y) = y
         stock (inr x) = absurd (no-put x)
 
-        by : Lead g (g .width + 1) s ⊎ PutOpen g s → Finishes (run ws ds)
+        by : Lead g (g .width + 1) s ⊎ PutOpen g s → Finishes (run (g .edition) ws ds)
         by (inr x) = absurd (no-put x)
         by (inl second) =
             let calm-sum : sumN (leadDebts g (g .width + 1) second) (g .workers) ≤ (g .workers - 1) * owedCalm g + second .debt =
@@ -148,9 +148,9 @@ module _ (g : Settings) (good : Good g) (kind : g .kind ≡ 0) where
               ];
             }) ds)
 
-    pub finishes-beyond : Finishes (run ws ds)
+    pub finishes-beyond : Finishes (run (g .edition) ws ds)
     finishes-beyond = by (find-put g s (g .workers) (omega arith))
       where
-        by : PutOpen g s ⊎ NoneBelow g s (g .workers) → Finishes (run ws ds)
+        by : PutOpen g s ⊎ NoneBelow g s (g .workers) → Finishes (run (g .edition) ws ds)
         by (inl x) = with-put x
         by (inr none) = without-put none

@@ -53,7 +53,7 @@ pub record Finishes (es : List Event) : Type 0 where
 -- ---- the claim: every stretch of the run of any list of calls on a new queue
 abbrev pub StretchWithin : (Settings → ℕ) → Type 0
 StretchWithin most = OfEveryRun (λ g ws cs.
-    g .kind ≡ 0 → (p m : ℕ) → most g < countedSteps (stretch p m (run ws cs)) → Finishes (stretch p m (run ws cs)))
+    g .kind ≡ 0 → (p m : ℕ) → most g < countedSteps (stretch p m (run (g .edition) ws cs)) → Finishes (stretch p m (run (g .edition) ws cs)))
 
 abbrev pub K7 : Type 0
 K7 = StretchWithin k7Stretch
@@ -72,9 +72,9 @@ pub record FinishesIn (g : Settings) (o : DispatchOut) : Type 0 where
 
 abbrev pub DispatchWithin : (Settings → ℕ) → Type 0
 DispatchWithin most = OfEveryRun (λ g ws cs.
-    g .kind ≡ 0 → (i steps : ℕ) → i < g .workers → Busy g (wordsAfter ws cs)
-    → most g < steps → getD (wordsAfter ws cs) stepsAt 0 + most g < stepLimit
-    → FinishesIn g (dispatchOf (wordsAfter ws cs) i steps))
+    g .kind ≡ 0 → (i steps : ℕ) → i < g .workers → Busy g (wordsAfter (g .edition) ws cs)
+    → most g < steps → getD (wordsAfter (g .edition) ws cs) stepsAt 0 + most g < stepLimit
+    → FinishesIn g (dispatchOf (g .edition) (wordsAfter (g .edition) ws cs) i steps))
 
 abbrev pub DispatchFinishes : Type 0
 DispatchFinishes = DispatchWithin exactStretch

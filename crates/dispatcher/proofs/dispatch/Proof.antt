@@ -5,10 +5,11 @@ use native.Mathlib.Omega.{arith}
 use borrow.Author.Needs.{needs}
 use Rattle.rules.specs.Fit.{Checked}
 use Rattle.rules.specs.Dispatch.{dispatched, checkedDispatch, fitDispatch, dispatchOf}
-use Rattle.rules.proofs.Fitness.{fit-pool, refusal-none, refusal-some}
+use Rattle.rules.proofs.Fitness.{fit-pool, fit-head, refusal-none, refusal-some, fit-own}
 use Rattle.rules.specs.declared.Settings.{Settings}
 use Rattle.rules.specs.Layout.{settingsOf}
 use Rattle.rules.specs.declared.Dispatched.the-variants.{Refused}
+use Rattle.rules.specs.Make.{shipped}
 use Rattle.dispatcher.proofs.dispatch.Statement.{statement}
 use Rattle.dispatcher.proofs.dispatch.Tie as tie
 
@@ -24,17 +25,19 @@ returns c =
     let a = c .before .before .before .before .args in
     let e = c .before .refusal .ensures in
     ap (λ (m : ℕ). dispatched (Refused m) (a .words .now)) e
-    ∙ ap (λ (k : Checked). checkedDispatch (a .words .now) k (a .worker) (a .steps)) (sym (refusal-some (a .words .now) (λ z. c .if1 .taken (e ∙ z))))
+    ∙ ap (λ (k : Checked). checkedDispatch (a .words .now) k (a .worker) (a .steps)) (sym (refusal-some shipped (a .words .now) (λ z. c .if1 .taken (e ∙ z))))
 
-settings-requires : tie.Need-settings-requires
-settings-requires c κs =
+shipped-settings-requires : tie.Need-shipped-settings-requires
+shipped-settings-requires c κs =
     let ws = c .before .before .before .before .before .args .words .now in
-    omega (arith, fit-pool ws (settingsOf ws) (refusal-none ws (sym (c .before .before .refusal .ensures) ∙ c .before .if1 .left)) .enough)
+    let fit = refusal-none shipped ws (sym (c .before .before .refusal .ensures) ∙ c .before .if1 .left) in
+    (omega (arith, fit-pool shipped ws (settingsOf ws) fit .enough), fit-head shipped ws (settingsOf ws) fit .1)
 
 fit-dispatch-requires : tie.Need-fit-dispatch-requires
 fit-dispatch-requires c κs =
     let ws = c .before .before .before .before .before .before .before .args .words .now in
-    rw (c .before .settings .ensures) (refusal-none ws (sym (c .before .before .before .before .refusal .ensures) ∙ c .before .before .before .if1 .left))
+    let fit = refusal-none shipped ws (sym (c .before .before .before .before .refusal .ensures) ∙ c .before .before .before .if1 .left) in
+    rw (c .before .shipped-settings .ensures) (fit-own shipped ws (settingsOf ws) fit, fit-head shipped ws (settingsOf ws) fit .1)
 
 same-length-2 : tie.Need-same-length-2
 same-length-2 c = search needs
@@ -44,8 +47,8 @@ unfolding dispatchOf checkedDispatch
 returns-2 c =
     let a = c .before .before .before .before .before .before .before .before .before .before .args in
     c .before .before .fit-dispatch .ensures
-    ∙ ap (λ (g : Settings). fitDispatch (a .words .now) g (a .worker) (a .steps)) (c .before .before .before .before .settings .ensures)
-    ∙ ap (λ (k : Checked). checkedDispatch (a .words .now) k (a .worker) (a .steps)) (sym (refusal-none (a .words .now) (sym (c .before .before .before .before .before .before .before .refusal .ensures) ∙ c .before .before .before .before .before .before .if1 .left)))
+    ∙ ap (λ (g : Settings). fitDispatch (a .words .now) g (a .worker) (a .steps)) (c .before .before .before .before .shipped-settings .ensures)
+    ∙ ap (λ (k : Checked). checkedDispatch (a .words .now) k (a .worker) (a .steps)) (sym (refusal-none shipped (a .words .now) (sym (c .before .before .before .before .before .before .before .refusal .ensures) ∙ c .before .before .before .before .before .before .if1 .left)))
 
 pub dispatch-spec : {M : Type 1} → statement M
 dispatch-spec =
@@ -54,7 +57,7 @@ dispatch-spec =
     refusal-requires
     same-length
     returns
-    settings-requires
+    shipped-settings-requires
     fit-dispatch-requires
     same-length-2
     returns-2)

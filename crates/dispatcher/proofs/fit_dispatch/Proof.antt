@@ -12,7 +12,7 @@ unfolding fitDispatch cond
 returns c = simp (le-leb _ _ (c .if1 .taken))
 
 turns-requires : tie.Need-turns-requires
-turns-requires c κs = (c .before .before .before .before .pre, c .before .if1 .left)
+turns-requires c κs = let pre = c .before .before .before .before .pre in (pre .0, (pre .1, c .before .if1 .left))
 
 same-length : tie.Need-same-length
 same-length c = search needs

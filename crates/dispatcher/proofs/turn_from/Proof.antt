@@ -9,6 +9,7 @@ use borrow.Author.Tests.{eqb-true, eqb-false}
 use Rattle.rules.specs.Layout.{workerAt}
 use Rattle.rules.specs.Begin.{idleAt}
 use Rattle.rules.specs.Dispatch.{busyFrom}
+use Rattle.rules.proofs.Workers.{worker-lent}
 use Rattle.rules.proofs.dispatch.Turns.{busy-here, busy-next, busy-none}
 use Rattle.dispatcher.proofs.turn_from.Statement.{statement}
 use Rattle.dispatcher.proofs.turn_from.Tie as tie
@@ -26,7 +27,9 @@ worker-at-requires : tie.Need-worker-at-requires Inv-loop μ-loop
 worker-at-requires c κs = search needs
 
 idle-at-requires : tie.Need-idle-at-requires Inv-loop μ-loop
-idle-at-requires c κs = search needs
+idle-at-requires c κs =
+    let s = c .before .before .before .before in
+    search (needs, worker-lent (s .args .g) (s .args .words .now) (c .before .before .loop .i) (c .before .before .loop .inv .0) (s .pre .0 .enough))
 
 add-i : tie.Need-add-i Inv-loop μ-loop
 add-i c = search needs

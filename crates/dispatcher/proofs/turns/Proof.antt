@@ -1,7 +1,7 @@
 -- `dispatcher::turns` meets its contract: the pool stays fit from turn to turn, and the turns still to come, from where they are, are the whole
 -- of them.
-use Prim.Native.Nat.{_<_}
-use mathlib.Core.Path.{_≡_, refl, sym, ap, _∙_}
+use Prim.Native.Nat.{ℕ, _<_}
+use mathlib.Core.Path.{_≡_, refl, sym, ap, subst, _∙_}
 use native.Mathlib.Nat.{mod-lt}
 use native.Mathlib.Omega.{arith}
 use borrow.Author.Needs.{needs}
@@ -16,16 +16,16 @@ use Rattle.dispatcher.proofs.turns.Tie as tie
 
 abbrev Inv-loop : tie.InvT-loop
 Inv-loop words₀ g first steps i₀ left₀ five₀ words i left five =
-    (length words ≡ length words₀) × (i < g .workers) × (checkedOf words ≡ Fit g) × (turnsOf words g i left ≡ turnsOf words₀ g first steps)
+    (length words ≡ length words₀) × (i < g .workers) × (checkedOf (g .edition) words ≡ Fit g) × (turnsOf words g i left ≡ turnsOf words₀ g first steps)
 
 abbrev μ-loop : tie.MeasureT-loop
 μ-loop words₀ g first steps i₀ left₀ five₀ words i left five = left
 
 loop-holds : tie.Need-loop-holds Inv-loop μ-loop
-loop-holds c = (refl, c .before .pre .1, c .before .pre .0, refl)
+loop-holds c = (refl, c .before .pre .1 .1, c .before .pre .0, refl)
 
 turn-from-requires : tie.Need-turn-from-requires Inv-loop μ-loop
-turn-from-requires c κs = let l = c .before .before .loop in (fit-pool _ _ (l .inv .2), l .inv .1)
+turn-from-requires c κs = let l = c .before .before .loop in (fit-pool _ _ _ (l .inv .2), l .inv .1)
 
 enum-known-t : tie.Need-enum-known-t Inv-loop μ-loop
 enum-known-t c = search needs
@@ -45,8 +45,8 @@ returns c =
 fit-answer-requires : tie.Need-fit-answer-requires Inv-loop μ-loop
 fit-answer-requires c κs =
     let l = c .before .before .before .before .before .before .before .before .loop in
-    let pool = fit-pool (l .words) (c .before .before .before .before .before .before .before .before .before .before .args .g) (l .inv .2) in
-    rw (pool .settings) pool
+    let s = c .before .before .before .before .before .before .before .before .before .before in
+    rw (fit-pool _ (l .words) (s .args .g) (l .inv .2) .settings) (subst (λ (e : ℕ). checkedOf e (l .words) ≡ Fit (s .args .g)) (s .pre .1 .0) (l .inv .2))
 
 ended-requires : tie.Need-ended-requires Inv-loop μ-loop
 ended-requires c κs = search needs
@@ -70,7 +70,7 @@ add-i c =
     let l = c .before .before .before .before .before .before .before .before .before .before .before .before .loop in
     let g = c .before .before .before .before .before .before .before .before .before .before .before .before .before .before .args .g in
     let turn = sym (c .before .before .before .before .before .before .before .before .before .turn-from .ensures) ∙ c .before .before .before .before .before .before .before .t .given .1 in
-    omega (arith, has-turn (l .words) g (l .i) _ (l .inv .1) turn .among, fit-pool (l .words) g (l .inv .2) .bounds .workers32)
+    omega (arith, has-turn (l .words) g (l .i) _ (l .inv .1) turn .among, fit-pool _ (l .words) g (l .inv .2) .bounds .workers32)
 
 rem-i : tie.Need-rem-i Inv-loop μ-loop
 rem-i c = search needs
@@ -96,7 +96,7 @@ loop-again c =
     )
 
 turn-from-requires-2 : tie.Need-turn-from-requires-2 Inv-loop μ-loop
-turn-from-requires-2 c κs = let l = c .before .before .loop in (fit-pool _ _ (l .inv .2), l .inv .1)
+turn-from-requires-2 c κs = let l = c .before .before .loop in (fit-pool _ _ _ (l .inv .2), l .inv .1)
 
 enum-told-2 : tie.Need-enum-told-2 Inv-loop μ-loop
 enum-told-2 c = search needs

@@ -5,12 +5,13 @@ use mathlib.Core.Path.{_≡_, ap}
 use native.Mathlib.Omega.{arith}
 use borrow.Author.Needs.{needs}
 use lib.ListN.{length}
+use Rattle.rules.specs.Layout.{workerWords}
 use Rattle.lister.proofs.main.Statement.{statement}
 use Rattle.lister.proofs.main.Tie as tie
 
 abbrev Inv-loop : tie.InvT-loop
 Inv-loop words₀ src₀ out₀ run₀ reads₀ words src out run reads =
-    (length words ≡ 8492) × (length src ≡ 65536) × (length out ≡ 65536) × (run .carried < 4) × (run .stretch .used ≤ 65536)
+    (length words ≡ 8524) × (length src ≡ 65536) × (length out ≡ 65536) × (run .carried < 4) × (run .stretch .used ≤ 65536)
 
 abbrev μ-loop : tie.MeasureT-loop
 μ-loop words₀ src₀ out₀ run₀ reads₀ words src out run reads = reads
@@ -28,6 +29,7 @@ begin-requires : tie.Need-begin-requires Inv-loop μ-loop
 begin-requires c κs = search needs
 
 loop-holds : tie.Need-loop-holds Inv-loop μ-loop
+unfolding workerWords
 loop-holds c =
     (ap length (c .before .before .before .lent-words .ensures), search needs, search needs, search needs, rw (c .begin .ensures) (omega arith))
 

@@ -17,6 +17,7 @@ use Rattle.rules.specs.Fit.{Checked, Unfit, Fit, checkedOf}
 use Rattle.rules.specs.Step.{stepOf}
 use Rattle.rules.specs.Dispatch.{DispatchOut, dispatched, workerAfter, turnFrom, endedBy, turnsOf, fitDispatch, checkedDispatch, dispatchOf}
 use Rattle.rules.specs.DispatchSteps.{DispatchGoesOn}
+use Rattle.rules.proofs.Fitness.{fit-head, fit-own}
 use Rattle.rules.proofs.Types.{Settings, Answer}
 use Rattle.rules.specs.declared.Turn.{Turn}
 use Rattle.rules.specs.declared.Turn.the-variants.{NoneBusy as Nobody, Worker}
@@ -38,13 +39,13 @@ ended-other j a =
 module _ (g : Settings) where
   -- so far: the words are fit, the worker is one of the pool's, and from there it goes on
   record On (ws : List ℕ) (i k : ℕ) (vs : List ℕ) (next : ℕ) : Type 0 where
-    fit : checkedOf vs ≡ Fit g
+    fit : checkedOf (g .edition) vs ≡ Fit g
     among : next < g .workers
     more : (b : ℕ) → turnsOf ws g i (k + b) ≡ turnsOf vs g next b
 
   -- one turn more before it
-  on-more : (ws : List ℕ) (i j k : ℕ) → turnFrom ws g i ≡ Worker j → numberOf (stepOf ws j .answer) ≡ 0 → (vs : List ℕ) (next : ℕ)
-      → On (stepOf ws j .words) (workerAfter g j) k vs next → On ws i (suc k) vs next
+  on-more : (ws : List ℕ) (i j k : ℕ) → turnFrom ws g i ≡ Worker j → numberOf (stepOf (g .edition) ws j .answer) ≡ 0 → (vs : List ℕ) (next : ℕ)
+      → On (stepOf (g .edition) ws j .words) (workerAfter g j) k vs next → On ws i (suc k) vs next
   on-more ws i j k turn z vs next x =
       record {
         fit = x .fit;
@@ -52,10 +53,10 @@ module _ (g : Settings) where
         more = λ b.
             let first : suc k + b ≡ suc (k + b) = omega arith in
             let less : suc (k + b) - 1 ≡ k + b = omega arith in
-            rw first ((rw less at (turns-on ws g i j (suc (k + b)) (omega arith) turn (stepOf ws j) refl z)) ∙ x .more b);
+            rw first ((rw less at (turns-on ws g i j (suc (k + b)) (omega arith) turn (stepOf (g .edition) ws j) refl z)) ∙ x .more b);
       }
 
-  turns-go-on : (k : ℕ) (ws : List ℕ) (i next : ℕ) → checkedOf ws ≡ Fit g → i < g .workers → turnsOf ws g i k .result ≡ RanOut next
+  turns-go-on : (k : ℕ) (ws : List ℕ) (i next : ℕ) → checkedOf (g .edition) ws ≡ Fit g → i < g .workers → turnsOf ws g i k .result ≡ RanOut next
       → On ws i k (turnsOf ws g i k .words) next
   turns-go-on zero ws i next fit l e = by (turnFrom ws g i) refl
     where
@@ -70,35 +71,36 @@ module _ (g : Settings) where
           let same : i ≡ next = cc in
           rw out (subst (On ws i 0 ws) same (record { fit = fit; among = l; more = λ b. rw (zero-add b) refl }))
   turns-go-on (suc k) ws i next fit l e =
-      by (turnFrom ws g i) refl (λ j z. turns-go-on k (stepOf ws j .words) (workerAfter g j) next (turn-stays ws g fit j z .fit) (mod-lt _ (omega arith)))
+      by (turnFrom ws g i) refl (λ j z. turns-go-on k (stepOf (g .edition) ws j .words) (workerAfter g j) next (turn-stays ws g fit j z .fit) (mod-lt _ (omega arith)))
     where
       Rest : Type 0
       Rest =
-          (j : ℕ) → numberOf (stepOf ws j .answer) ≡ 0 → turnsOf (stepOf ws j .words) g (workerAfter g j) k .result ≡ RanOut next
-          → On (stepOf ws j .words) (workerAfter g j) k (turnsOf (stepOf ws j .words) g (workerAfter g j) k .words) next
+          (j : ℕ) → numberOf (stepOf (g .edition) ws j .answer) ≡ 0 → turnsOf (stepOf (g .edition) ws j .words) g (workerAfter g j) k .result ≡ RanOut next
+          → On (stepOf (g .edition) ws j .words) (workerAfter g j) k (turnsOf (stepOf (g .edition) ws j .words) g (workerAfter g j) k .words) next
 
       by : (t : Turn) → turnFrom ws g i ≡ t → Rest → On ws i (suc k) (turnsOf ws g i (suc k) .words) next
       by Nobody u rest =
           let none = ap (λ (o : DispatchOut). o .result) (turns-none ws g i (suc k) u) in
           let z : _≡_ {A = ℕ} 0 1 = cc in
           absurd (omega arith)
-      by (Worker j) u rest = elim (ℕ-discrete (numberOf (stepOf ws j .answer)) 0) [
+      by (Worker j) u rest = elim (ℕ-discrete (numberOf (stepOf (g .edition) ws j .answer)) 0) [
         | yes z ↦
             let less : suc k - 1 ≡ k = omega arith in
-            let come : turnsOf ws g i (suc k) ≡ turnsOf (stepOf ws j .words) g (workerAfter g j) k =
-            rw less at (turns-on ws g i j (suc k) (omega arith) u (stepOf ws j) refl z) in
+            let come : turnsOf ws g i (suc k) ≡ turnsOf (stepOf (g .edition) ws j .words) g (workerAfter g j) k =
+            rw less at (turns-on ws g i j (suc k) (omega arith) u (stepOf (g .edition) ws j) refl z) in
             rw come (on-more ws i j k u z _ next (rest j z (rw come at e)))
         | no n ↦
-            let come = ap (λ (o : DispatchOut). o .result) (turns-end ws g i j (suc k) (omega arith) u (stepOf ws j) refl n) in
-            absurd (ended-other j (stepOf ws j .answer) next (sym come ∙ e))
+            let come = ap (λ (o : DispatchOut). o .result) (turns-end ws g i j (suc k) (omega arith) u (stepOf (g .edition) ws j) refl n) in
+            absurd (ended-other j (stepOf (g .edition) ws j .answer) next (sym come ∙ e))
       ]
 
 -- ---- the call
 -- a fit pool and a worker of its, or refused at once
-module _ (ws : List ℕ) (i steps next : ℕ) (e : dispatchOf ws i steps .result ≡ RanOut next) where
+module _ (ed : ℕ) (ws : List ℕ) (i steps next : ℕ) (e : dispatchOf ed ws i steps .result ≡ RanOut next) where
   pub record Begins : Type 0 where
     pub settings : Settings
-    pub fit : checkedOf ws ≡ Fit settings
+    pub fit : checkedOf (settings .edition) ws ≡ Fit settings
+    pub edition : settings .edition ≡ ed
     pub among : i < settings .workers
 
   not-refused : (n : ℕ) → Refused n ≢ RanOut next
@@ -106,19 +108,20 @@ module _ (ws : List ℕ) (i steps next : ℕ) (e : dispatchOf ws i steps .result
 
   begins : Begins
   unfolding dispatchOf checkedDispatch fitDispatch cond
-  begins = by (checkedOf ws) refl e
+  begins = by (checkedOf ed ws) refl e
     where
-      by : (c : Checked) → checkedOf ws ≡ c → checkedDispatch ws c i steps .result ≡ RanOut next → Begins
+      by : (c : Checked) → checkedOf ed ws ≡ c → checkedDispatch ws c i steps .result ≡ RanOut next → Begins
       by (Unfit n) fit u = absurd (not-refused n u)
       by (Fit g) fit u = elim (decLt i (g .workers)) [
-        | yes l ↦ record { settings = g; fit = fit; among = l }
+        | yes l ↦ record { settings = g; fit = fit-own ed ws g fit; edition = fit-head ed ws g fit .1; among = l }
         | no l ↦ absurd (not-refused noSuchWorker ((ap (λ (b : Bool). cond b (dispatched (Refused noSuchWorker) ws) (turnsOf ws g i steps) .result) (sym (le-leb (g .workers) i (omega arith)))) ∙ u))
       ]
 
 pub dispatch-goes-on : DispatchGoesOn
-dispatch-goes-on ws i steps more next e =
-    let b = begins ws i steps next e in
+dispatch-goes-on ed ws i steps more next e =
+    let b = begins ed ws i steps next e in
     let g : Settings = b .settings in
+    let e′ : dispatchOf (g .edition) ws i steps .result ≡ RanOut next = rw (b .edition) e in
     let here = fit-turns ws g (b .fit) i in
-    let on = turns-go-on g steps ws i next (b .fit) (b .among) (sym (ap (λ (o : DispatchOut). o .result) (here steps (b .among))) ∙ e) in
-    rw (here (steps + more) (b .among), here steps (b .among)) (on .more more ∙ sym (fit-turns (turnsOf ws g i steps .words) g (on .fit) next more (on .among)))
+    let on = turns-go-on g steps ws i next (b .fit) (b .among) (sym (ap (λ (o : DispatchOut). o .result) (here steps (b .among))) ∙ e′) in
+    rw (sym (b .edition), here (steps + more) (b .among), here steps (b .among)) (on .more more ∙ sym (fit-turns (turnsOf ws g i steps .words) g (on .fit) next more (on .among)))

@@ -51,10 +51,10 @@ ended-same j a k n = elim (decLe (numberOf a) 4) [
 ]
 
 -- ---- one turn: worker j's step, with its answer's number n and five fields, and the words vs that it leaves
-module _ (ws : List ℕ) (g : Settings) (fit : checkedOf ws ≡ Fit g) (i j k : ℕ) (some : 0 < k) (turn : turnFrom ws g i ≡ Worker j)
+module _ (ws : List ℕ) (g : Settings) (fit : checkedOf (g .edition) ws ≡ Fit g) (i j k : ℕ) (some : 0 < k) (turn : turnFrom ws g i ≡ Worker j)
     {n : ℕ} {vs five : List ℕ} (step : returned n vs five ≡ returnedOf (fitStep ws (settingsOf ws) j)) where
   is : returned n vs five ≡ returnedOf (fitStep ws g j)
-  is = step ∙ ap (λ (h : Settings). returnedOf (fitStep ws h j)) (fit-pool ws g fit .settings)
+  is = step ∙ ap (λ (h : Settings). returnedOf (fitStep ws h j)) (fit-pool (g .edition) ws g fit .settings)
 
   number-is : n ≡ numberOf (fitStep ws g j .answer)
   number-is = ap (λ (r : Returned). r .number) is
@@ -62,7 +62,7 @@ module _ (ws : List ℕ) (g : Settings) (fit : checkedOf ws ≡ Fit g) (i j k : 
   words-is : vs ≡ fitStep ws g j .words
   words-is = ap (λ (r : Returned). r .words) is
 
-  pub stays-fit : n ≡ 0 → checkedOf vs ≡ Fit g
+  pub stays-fit : n ≡ 0 → checkedOf (g .edition) vs ≡ Fit g
   stays-fit z = rw words-is (step-stays ws g fit j (sym number-is ∙ z) .fit)
 
   pub turns-left : n ≡ 0 → turnsOf vs g (workerAfter g j) (k - 1) ≡ turnsOf ws g i k

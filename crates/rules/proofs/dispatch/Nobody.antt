@@ -38,7 +38,7 @@ module _ (g : Settings) where
       by (Worker j) e = let x = has-turn ws g i j l e in absurd (none (j, x .among, x .busy))
 
   -- some worker is busy at every turn
-  turns-some : (k : ℕ) (ws : List ℕ) (i : ℕ) → checkedOf ws ≡ Fit g → i < g .workers → Busy g ws → turnsOf ws g i k .result ≢ NoneBusy
+  turns-some : (k : ℕ) (ws : List ℕ) (i : ℕ) → checkedOf (g .edition) ws ≡ Fit g → i < g .workers → Busy g ws → turnsOf ws g i k .result ≢ NoneBusy
   turns-some zero ws i fit l busy e =
       let f = busy-found ws g i (busy .0) l (busy .1) (busy .2) in
       let out = ap (λ (o : DispatchOut). o .result) (turns-out ws g i (f .0) 0 refl (f .1)) in
@@ -48,16 +48,16 @@ module _ (g : Settings) where
       let f = busy-found ws g i (busy .0) l (busy .1) (busy .2) in
       let j : ℕ = f .0 in
       let less : suc k - 1 ≡ k = omega arith in
-      elim (ℕ-discrete (numberOf (stepOf ws j .answer)) 0) [
+      elim (ℕ-discrete (numberOf (stepOf (g .edition) ws j .answer)) 0) [
         | yes z ↦
-            let on : turnsOf ws g i (suc k) ≡ turnsOf (stepOf ws j .words) g (workerAfter g j) k =
-            rw less at (turns-on ws g i j (suc k) (omega arith) (f .1) (stepOf ws j) refl z) in
+            let on : turnsOf ws g i (suc k) ≡ turnsOf (stepOf (g .edition) ws j .words) g (workerAfter g j) k =
+            rw less at (turns-on ws g i j (suc k) (omega arith) (f .1) (stepOf (g .edition) ws j) refl z) in
             let stays = turn-stays ws g fit j z in
-            turns-some k (stepOf ws j .words) (workerAfter g j) (stays .fit) (mod-lt _ (omega arith))
+            turns-some k (stepOf (g .edition) ws j .words) (workerAfter g j) (stays .fit) (mod-lt _ (omega arith))
             (j, has-turn ws g i j l (f .1) .among, stays .busy) (rw on at e)
         | no n ↦
-            let end = ap (λ (o : DispatchOut). o .result) (turns-end ws g i j (suc k) (omega arith) (f .1) (stepOf ws j) refl n) in
-            ended-some j (stepOf ws j .answer) (sym end ∙ e)
+            let end = ap (λ (o : DispatchOut). o .result) (turns-end ws g i j (suc k) (omega arith) (f .1) (stepOf (g .edition) ws j) refl n) in
+            ended-some j (stepOf (g .edition) ws j .answer) (sym end ∙ e)
       ]
 
 pub dispatch-nobody : DispatchNobody

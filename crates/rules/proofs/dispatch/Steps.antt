@@ -1,6 +1,6 @@
 -- A dispatcher makes steps and nothing else: its turns are the calls that it makes, and a step that is refused leaves the words as they were. So a
 -- list of calls with dispatches among them comes to the words of a list of calls.
-use mathlib.Core.Path.{_≡_, refl, sym, ap, _∙_}
+use mathlib.Core.Path.{_≡_, refl, sym, ap, _∙_, subst}
 use mathlib.Core.Logic.{_≢_}
 use mathlib.Core.List.{List, [], _∷_, _++_}
 use Prim.Native.Nat.{ℕ, zero, suc, _≤_, _<_}
@@ -19,8 +19,9 @@ use Rattle.rules.specs.Run.{Call, step, callOf}
 use Rattle.rules.specs.Consequences.{wordsAfter}
 use Rattle.rules.specs.Dispatch.{DispatchOut, dispatched, workerAfter, turnFrom, endedBy, afterStep, turnsOf, fitDispatch, checkedDispatch, dispatchOf, ifBusy}
 use Rattle.rules.specs.DispatchSteps.{Made, nobody, ran-out, refused, finished, moved, DispatchBySteps, call, dispatch, wordsAsked, end, called, dispatched-to, AskedByCalls}
+use Rattle.rules.proofs.Fitness.{fit-head}
 use Rattle.rules.proofs.Types.{Settings, Effect, Outcome}
-use Rattle.rules.specs.declared.Outcome.the-variants.{Refused as Stopped, Moving, Shifted, Landed, Removed, Empty, Full}
+use Rattle.rules.specs.declared.Outcome.the-variants.{Refused as Stopped, Moving, Lost, Shifted, Landed, Removed, Empty, Full}
 use Rattle.rules.specs.declared.Turn.{Turn}
 use Rattle.rules.specs.declared.Turn.the-variants.{NoneBusy as Nobody, Worker}
 use Rattle.rules.specs.declared.Dispatched.{Dispatched}
@@ -35,6 +36,7 @@ module _ (ws : List ℕ) where
   unfolding applyBy takenOf
   applied-kept g at j e (Stopped n) l = refl
   applied-kept g at j e Moving l = absurd (omega arith)
+  applied-kept g at j e Lost l = absurd (omega arith)
   applied-kept g at j e Shifted l = absurd (omega arith)
   applied-kept g at j e (Landed value row stamp) l = absurd (omega arith)
   applied-kept g at j e (Removed row) l = absurd (omega arith)
@@ -48,66 +50,68 @@ module _ (ws : List ℕ) where
       (λ a. cases Kept (eqb (getD ws (workerAt g i) 0) 0) _ _ (λ b l. refl)
       (λ b. cases Kept (outOfSteps ws) _ _ (λ c l. refl) (λ c. applied-kept g _ _ _ _)))
 
-  pub refused-kept : (i : ℕ) → Kept (stepOf ws i)
+  pub refused-kept : (ed i : ℕ) → Kept (stepOf ed ws i)
   unfolding stepOf checkedStep
-  refused-kept i = by (checkedOf ws)
+  refused-kept ed i = by (checkedOf ed ws)
     where
       by : (c : Checked) → Kept (checkedStep ws c i)
       by (Unfit n) l = refl
       by (Fit g) l = fit-kept g i l
 
 -- ---- turns
-pub record Makes (ws : List ℕ) (most : ℕ) (o : DispatchOut) : Type 0 where
+pub record Makes (ed : ℕ) (ws : List ℕ) (most : ℕ) (o : DispatchOut) : Type 0 where
   pub calls : List Call
-  pub made : Made ws calls o
+  pub made : Made ed ws calls o
   pub few : length calls ≤ most
 
-none-made : {ws : List ℕ} {most : ℕ} {o : DispatchOut} → Made ws [] o → Makes ws most o
+none-made : {ed : ℕ} {ws : List ℕ} {most : ℕ} {o : DispatchOut} → Made ed ws [] o → Makes ed ws most o
 none-made m = record { calls = []; made = m; few = omega arith }
 
 -- one step, from what the turns after it make
-step-made : (ws : List ℕ) (j k : ℕ) (rest : DispatchOut) → Makes (stepOf ws j .words) k rest → Makes ws (suc k) (afterStep j (stepOf ws j) rest)
+step-made : (ed : ℕ) (ws : List ℕ) (j k : ℕ) (rest : DispatchOut) → Makes ed (stepOf ed ws j .words) k rest → Makes ed ws (suc k) (afterStep j (stepOf ed ws j) rest)
 unfolding afterStep endedBy
-step-made ws j k rest x =
-    cases (Makes ws (suc k)) (eqb number 0) _ _
+step-made ed ws j k rest x =
+    cases (Makes ed ws (suc k)) (eqb number 0) _ _
     (λ z. record { calls = step j ∷ x .calls; made = moved (eqb-true _ _ z) (x .made); few = omega (arith, x .few) })
     (λ z.
     let some : number ≢ 0 = eqb-false _ _ z in
-    cases (λ (r : Dispatched). Makes ws (suc k) (dispatched r (stepOf ws j .words))) (leb number 4) (Finished j (stepOf ws j .answer)) (Refused number)
+    cases (λ (r : Dispatched). Makes ed ws (suc k) (dispatched r (stepOf ed ws j .words))) (leb number 4) (Finished j (stepOf ed ws j .answer)) (Refused number)
     (λ l. record {
       calls = step j ∷ [];
       made = finished (record { low = omega arith; high = leb-true _ _ l });
       few = omega arith;
     })
-    (λ l. rw (refused-kept ws j (leb-false _ _ l)) (none-made refused)))
+    (λ l. rw (refused-kept ws ed j (leb-false _ _ l)) (none-made refused)))
   where
     number : ℕ
-    number = numberOf (stepOf ws j .answer)
+    number = numberOf (stepOf ed ws j .answer)
 
-turns-made : (g : Settings) (ws : List ℕ) (i k : ℕ) → Makes ws k (turnsOf ws g i k)
+turns-made : (g : Settings) (ws : List ℕ) (i k : ℕ) → Makes (g .edition) ws k (turnsOf ws g i k)
 unfolding turnsOf
 turns-made g ws i zero = by (turnFrom ws g i)
   where
-    by : (t : Turn) → Makes ws 0 (ifBusy ws t (λ j. dispatched (RanOut i) ws))
+    by : (t : Turn) → Makes (g .edition) ws 0 (ifBusy ws t (λ j. dispatched (RanOut i) ws))
     by Nobody = none-made nobody
     by (Worker j) = none-made ran-out
-turns-made g ws i (suc k) = by (turnFrom ws g i) (λ j. turns-made g (stepOf ws j .words) (workerAfter g j) k)
+turns-made g ws i (suc k) = by (turnFrom ws g i) (λ j. turns-made g (stepOf (g .edition) ws j .words) (workerAfter g j) k)
   where
-    by : (t : Turn) → ((j : ℕ) → Makes (stepOf ws j .words) k (turnsOf (stepOf ws j .words) g (workerAfter g j) k))
-        → Makes ws (suc k) (ifBusy ws t (λ j. afterStep j (stepOf ws j) (turnsOf (stepOf ws j .words) g (workerAfter g j) k)))
+    by : (t : Turn) → ((j : ℕ) → Makes (g .edition) (stepOf (g .edition) ws j .words) k (turnsOf (stepOf (g .edition) ws j .words) g (workerAfter g j) k))
+        → Makes (g .edition) ws (suc k) (ifBusy ws t (λ j. afterStep j (stepOf (g .edition) ws j) (turnsOf (stepOf (g .edition) ws j .words) g (workerAfter g j) k)))
     by Nobody rest = none-made nobody
-    by (Worker j) rest = step-made ws j k _ (rest j)
+    by (Worker j) rest = step-made (g .edition) ws j k _ (rest j)
 
-dispatch-made : (ws : List ℕ) (i steps : ℕ) → Makes ws steps (dispatchOf ws i steps)
+dispatch-made : (ed : ℕ) (ws : List ℕ) (i steps : ℕ) → Makes ed ws steps (dispatchOf ed ws i steps)
 unfolding dispatchOf checkedDispatch fitDispatch
-dispatch-made ws i steps = by (checkedOf ws)
+dispatch-made ed ws i steps = by (checkedOf ed ws) refl
   where
-    by : (c : Checked) → Makes ws steps (checkedDispatch ws c i steps)
-    by (Unfit n) = none-made refused
-    by (Fit g) = cases (Makes ws steps) (leb (g .workers) i) _ _ (λ e. none-made refused) (λ e. turns-made g ws i steps)
+    by : (c : Checked) → checkedOf ed ws ≡ c → Makes ed ws steps (checkedDispatch ws c i steps)
+    by (Unfit n) fit = none-made refused
+    by (Fit g) fit =
+        let turns = subst (λ (x : ℕ). Makes x ws steps (turnsOf ws g i steps)) (fit-head ed ws g fit .1) (turns-made g ws i steps) in
+        cases (Makes ed ws steps) (leb (g .workers) i) _ _ (λ e. none-made refused) (λ e. turns)
 
 -- the words are those after the calls
-made-words : {ws : List ℕ} {cs : List Call} {o : DispatchOut} → Made ws cs o → o .words ≡ wordsAfter ws cs
+made-words : {ed : ℕ} {ws : List ℕ} {cs : List Call} {o : DispatchOut} → Made ed ws cs o → o .words ≡ wordsAfter ed ws cs
 unfolding wordsAfter callOf
 made-words nobody = refl
 made-words ran-out = refl
@@ -116,25 +120,25 @@ made-words (finished f) = refl
 made-words (moved z m) = made-words m
 
 pub dispatch-by-steps : DispatchBySteps
-dispatch-by-steps ws i steps =
-    let x = dispatch-made ws i steps in
+dispatch-by-steps ed ws i steps =
+    let x = dispatch-made ed ws i steps in
     record { calls = x .calls; made = x .made; few = x .few; words = made-words (x .made) }
 
 -- ---- lists with dispatches among the calls
-after-both : (ws : List ℕ) (cs ds : List Call) → wordsAfter ws (cs ++ ds) ≡ wordsAfter (wordsAfter ws cs) ds
+after-both : (ed : ℕ) (ws : List ℕ) (cs ds : List Call) → wordsAfter ed ws (cs ++ ds) ≡ wordsAfter ed (wordsAfter ed ws cs) ds
 unfolding wordsAfter
-after-both ws [] ds = refl
-after-both ws (c ∷ cs) ds = after-both (callOf ws c .words) cs ds
+after-both ed ws [] ds = refl
+after-both ed ws (c ∷ cs) ds = after-both ed (callOf ed ws c .words) cs ds
 
 pub asked-by-calls : AskedByCalls
 unfolding wordsAsked wordsAfter
-asked-by-calls ws [] = record { calls = []; spliced = end; words = refl }
-asked-by-calls ws (call c ∷ asks) = let x = asked-by-calls (callOf ws c .words) asks in record { calls = c ∷ x .calls; spliced = called (x .spliced); words = x .words }
-asked-by-calls ws (dispatch i steps ∷ asks) =
-    let d = dispatch-by-steps ws i steps in
-    let x = asked-by-calls (dispatchOf ws i steps .words) asks in
+asked-by-calls ed ws [] = record { calls = []; spliced = end; words = refl }
+asked-by-calls ed ws (call c ∷ asks) = let x = asked-by-calls ed (callOf ed ws c .words) asks in record { calls = c ∷ x .calls; spliced = called (x .spliced); words = x .words }
+asked-by-calls ed ws (dispatch i steps ∷ asks) =
+    let d = dispatch-by-steps ed ws i steps in
+    let x = asked-by-calls ed (dispatchOf ed ws i steps .words) asks in
     record {
       calls = d .calls ++ x .calls;
       spliced = dispatched-to (d .made) (x .spliced);
-      words = x .words ∙ ap (λ (vs : List ℕ). wordsAfter vs (x .calls)) (d .words) ∙ sym (after-both ws (d .calls) (x .calls));
+      words = x .words ∙ ap (λ (vs : List ℕ). wordsAfter ed vs (x .calls)) (d .words) ∙ sym (after-both ed ws (d .calls) (x .calls));
     }

@@ -122,7 +122,7 @@ module _ (ws : List ℕ) (g : Settings) where
   turns-out i j (suc k) z e = absurd (omega arith)
 
   -- a step that answers 0: the turns go on from the words that it leaves
-  pub turns-on : (i j k : ℕ) → 0 < k → turnFrom ws g i ≡ Worker j → (o : Out) → stepOf ws j ≡ o → numberOf (o .answer) ≡ 0
+  pub turns-on : (i j k : ℕ) → 0 < k → turnFrom ws g i ≡ Worker j → (o : Out) → stepOf (g .edition) ws j ≡ o → numberOf (o .answer) ≡ 0
       → turnsOf ws g i k ≡ turnsOf (o .words) g (workerAfter g j) (k - 1)
   unfolding turnsOf afterStep cond
   turns-on i j zero l e o step z = absurd (omega arith)
@@ -131,20 +131,20 @@ module _ (ws : List ℕ) (g : Settings) where
       rw (less, e, step, eq-eqb (numberOf (o .answer)) 0 z) refl
 
   -- any other ends them, and names its worker
-  pub turns-end : (i j k : ℕ) → 0 < k → turnFrom ws g i ≡ Worker j → (o : Out) → stepOf ws j ≡ o → numberOf (o .answer) ≢ 0
+  pub turns-end : (i j k : ℕ) → 0 < k → turnFrom ws g i ≡ Worker j → (o : Out) → stepOf (g .edition) ws j ≡ o → numberOf (o .answer) ≢ 0
       → turnsOf ws g i k ≡ dispatched (endedBy j (o .answer)) (o .words)
   unfolding turnsOf afterStep cond
   turns-end i j zero l e o step n = absurd (omega arith)
   turns-end i j (suc k) l e o step n = rw (e, step, ne-eqb (numberOf (o .answer)) 0 n) refl
 
   -- on a fit pool
-  pub fit-step : checkedOf ws ≡ Fit g → (j : ℕ) → stepOf ws j ≡ fitStep ws g j
+  pub fit-step : checkedOf (g .edition) ws ≡ Fit g → (j : ℕ) → stepOf (g .edition) ws j ≡ fitStep ws g j
   unfolding stepOf checkedStep
   fit-step e j = rw e refl
 
-  pub turn-stays : checkedOf ws ≡ Fit g → (j : ℕ) → numberOf (stepOf ws j .answer) ≡ 0 → Stays g (stepOf ws j .words) j
+  pub turn-stays : checkedOf (g .edition) ws ≡ Fit g → (j : ℕ) → numberOf (stepOf (g .edition) ws j .answer) ≡ 0 → Stays g (stepOf (g .edition) ws j .words) j
   turn-stays e j = rw (fit-step e j) (step-stays ws g e j)
 
-  pub fit-turns : checkedOf ws ≡ Fit g → (i steps : ℕ) → i < g .workers → dispatchOf ws i steps ≡ turnsOf ws g i steps
+  pub fit-turns : checkedOf (g .edition) ws ≡ Fit g → (i steps : ℕ) → i < g .workers → dispatchOf (g .edition) ws i steps ≡ turnsOf ws g i steps
   unfolding dispatchOf checkedDispatch fitDispatch cond
   fit-turns e i steps l = rw (e, lt-leb (g .workers) i l) refl

@@ -16,7 +16,7 @@ use Rattle.rules.specs.declared.Settings.{Settings}
 use Rattle.rules.specs.declared.Turn.{Turn}
 use Rattle.rules.specs.declared.Turn.the-variants.{NoneBusy as Nobody, Worker}
 use Rattle.rules.specs.declared.Dispatched.the-variants.{RanOut}
-use Rattle.rules.proofs.Fitness.{fit-pool}
+use Rattle.rules.proofs.Fitness.{fit-pool, fit-own}
 use Rattle.rules.proofs.Untouched.{unchanged, step-keeps}
 use Rattle.rules.proofs.dispatch.Turns.{turn-stays}
 
@@ -27,37 +27,37 @@ module _ (g : Settings) where
   abbrev Kept : List ℕ → DispatchOut → Type 0
   Kept ws o = Beyond (needed g) ws (o .words)
 
-  module _ (ws : List ℕ) (fit : checkedOf ws ≡ Fit g) where
-    one-step : (j : ℕ) → Beyond (needed g) ws (stepOf ws j .words)
-    one-step j = subst (λ (h : Settings). Beyond (needed h) ws (stepOf ws j .words)) (fit-pool ws g fit .settings) (step-keeps ws j)
+  module _ (ws : List ℕ) (fit : checkedOf (g .edition) ws ≡ Fit g) where
+    one-step : (j : ℕ) → Beyond (needed g) ws (stepOf (g .edition) ws j .words)
+    one-step j = subst (λ (h : Settings). Beyond (needed h) ws (stepOf (g .edition) ws j .words)) (fit-pool (g .edition) ws g fit .settings) (step-keeps (g .edition) ws j)
 
-    step-kept : (j : ℕ) (rest : DispatchOut) → (checkedOf (stepOf ws j .words) ≡ Fit g → Kept (stepOf ws j .words) rest) → Kept ws (afterStep j (stepOf ws j) rest)
+    step-kept : (j : ℕ) (rest : DispatchOut) → (checkedOf (g .edition) (stepOf (g .edition) ws j .words) ≡ Fit g → Kept (stepOf (g .edition) ws j .words) rest) → Kept ws (afterStep j (stepOf (g .edition) ws j) rest)
     unfolding afterStep
     step-kept j rest on =
-        cases (Kept ws) (eqb (numberOf (stepOf ws j .answer)) 0) _ _
+        cases (Kept ws) (eqb (numberOf (stepOf (g .edition) ws j .answer)) 0) _ _
         (λ z. both-keep (one-step j) (on (turn-stays ws g fit j (eqb-true _ _ z) .fit)))
         (λ z. one-step j)
 
-  turns-kept : (ws : List ℕ) → checkedOf ws ≡ Fit g → (i k : ℕ) → Kept ws (turnsOf ws g i k)
+  turns-kept : (ws : List ℕ) → checkedOf (g .edition) ws ≡ Fit g → (i k : ℕ) → Kept ws (turnsOf ws g i k)
   unfolding turnsOf
   turns-kept ws fit i zero = by (turnFrom ws g i)
     where
       by : (t : Turn) → Kept ws (ifBusy ws t (λ j. dispatched (RanOut i) ws))
       by Nobody = unchanged _ ws
       by (Worker j) = unchanged _ ws
-  turns-kept ws fit i (suc k) = by (turnFrom ws g i) (λ j f. turns-kept (stepOf ws j .words) f (workerAfter g j) k)
+  turns-kept ws fit i (suc k) = by (turnFrom ws g i) (λ j f. turns-kept (stepOf (g .edition) ws j .words) f (workerAfter g j) k)
     where
-      by : (t : Turn) → ((j : ℕ) → checkedOf (stepOf ws j .words) ≡ Fit g → Kept (stepOf ws j .words) (turnsOf (stepOf ws j .words) g (workerAfter g j) k))
-          → Kept ws (ifBusy ws t (λ j. afterStep j (stepOf ws j) (turnsOf (stepOf ws j .words) g (workerAfter g j) k)))
+      by : (t : Turn) → ((j : ℕ) → checkedOf (g .edition) (stepOf (g .edition) ws j .words) ≡ Fit g → Kept (stepOf (g .edition) ws j .words) (turnsOf (stepOf (g .edition) ws j .words) g (workerAfter g j) k))
+          → Kept ws (ifBusy ws t (λ j. afterStep j (stepOf (g .edition) ws j) (turnsOf (stepOf (g .edition) ws j .words) g (workerAfter g j) k)))
       by Nobody rest = unchanged _ ws
       by (Worker j) rest = step-kept ws fit j _ (rest j)
 
 pub dispatch-keeps : DispatchKeeps
 unfolding dispatchOf checkedDispatch fitDispatch
-dispatch-keeps ws i steps = by (checkedOf ws) refl
+dispatch-keeps ed ws i steps = by (checkedOf ed ws) refl
   where
-    by : (c : Checked) → checkedOf ws ≡ c → Beyond (needed (settingsOf ws)) ws (checkedDispatch ws c i steps .words)
+    by : (c : Checked) → checkedOf ed ws ≡ c → Beyond (needed (settingsOf ws)) ws (checkedDispatch ws c i steps .words)
     by (Unfit n) e = unchanged _ ws
     by (Fit g) e =
-        subst (λ (h : Settings). Beyond (needed h) ws (fitDispatch ws g i steps .words)) (sym (fit-pool ws g e .settings))
-        (cases (Kept g ws) (leb (g .workers) i) _ _ (λ l. unchanged _ ws) (λ l. turns-kept g ws e i steps))
+        subst (λ (h : Settings). Beyond (needed h) ws (fitDispatch ws g i steps .words)) (sym (fit-pool ed ws g e .settings))
+        (cases (Kept g ws) (leb (g .workers) i) _ _ (λ l. unchanged _ ws) (λ l. turns-kept g ws (fit-own ed ws g e) i steps))

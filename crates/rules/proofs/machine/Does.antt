@@ -29,7 +29,7 @@ use Rattle.rules.specs.Step.{ruleBy, ruleOf}
 use Rattle.rules.specs.Run.{Call, beginPut, beginTake, step}
 use Rattle.rules.proofs.Types.{Settings, Side, Putting, Taking, Phase, Idle, Window, QueuePutRead, QueueTakeRead, StackRead, Check, QueueCommit, StackCommit, QueueShift, StackShift, Confirm, Version, Row, Slot, View, Effect, Outcome}
 use Rattle.rules.proofs.Cells.{queue-below, stack-below}
-use Rattle.rules.specs.declared.Outcome.the-variants.{Refused, Moving, Shifted, Landed, Removed, Empty, Full}
+use Rattle.rules.specs.declared.Outcome.the-variants.{Refused, Moving, Lost, Shifted, Landed, Removed, Empty, Full}
 use Rattle.rules.proofs.counts.Sums.{upd, upd-all}
 use Rattle.rules.proofs.counts.Wraps.{add32-suc, sub32-is, next-lt, hop-lt}
 use Rattle.rules.proofs.order.Law.{Next}
@@ -82,6 +82,7 @@ pub record Counted (g : Settings) (v : View) : Type 0 where
 abbrev pub SharedAfter : Settings → View → Effect → Outcome → Type 0
 SharedAfter g v e (Refused n) = (n ≡ notFit) ⊎ (n ≡ workerIdle)
 SharedAfter g v e Moving = SameItems v e × SameWindow v e
+SharedAfter g v e Lost = SameItems v e × SameWindow v e
 SharedAfter g v e Shifted = SameItems v e
 SharedAfter g v e (Landed value row stamp) = Counted g v → Lands g v e row
 SharedAfter g v e (Removed row) = Counted g v → Removes g v e row
@@ -92,6 +93,7 @@ SharedAfter g v e Full = SameItems v e × SameWindow v e
 abbrev pub BusyAfter : Slot → Outcome → Type 0
 BusyAfter x (Refused n) = Unit {0}
 BusyAfter x Moving = x .number ≢ 0
+BusyAfter x Lost = x .number ≢ 0
 BusyAfter x Shifted = x .number ≢ 0
 BusyAfter x (Landed value row stamp) = Unit {0}
 BusyAfter x (Removed row) = Unit {0}
@@ -169,7 +171,7 @@ module _ (g : Settings) (b : Bounds g) (v : View) (at : v .worker .index < g .wi
   unfolding commitBy
   commit-by side matches able done l w d =
       cases D matches _ _ (λ e. cases D able _ _ (λ e. record { slot = l; shared = d e; busy = w }) (λ e. record { slot = fits; shared = inl refl; busy = tt }))
-      (λ e. again _ (hop-lt g (v .worker .index) (b .width1)) side _ (fits .scan))
+      (λ e. let x = again _ (hop-lt g (v .worker .index) (b .width1)) side (v .kept) (fits .scan) in record { slot = x .slot; shared = still _ _; busy = x .busy })
 
   queue-does : g .kind ≡ 0 → (side : Side) (seen : ℕ) → D (queueCommit g v side seen)
   unfolding queueCommit
@@ -278,6 +280,7 @@ module _ (g : Settings) (b : Bounds g) (s : State) (common : Common g s) where
   unfolding applyInBy
   common-apply i few e l (Refused n) = common
   common-apply i few e l Moving = record { slots = slots-upd i (e .slot) l; steps-few = few }
+  common-apply i few e l Lost = record { slots = slots-upd i (e .slot) l; steps-few = few }
   common-apply i few e l Shifted = record { slots = slots-upd i (e .slot) l; steps-few = few }
   common-apply i few e l (Landed value row stamp) = record { slots = slots-upd i (e .slot) l; steps-few = few }
   common-apply i few e l (Removed row) = record { slots = slots-upd i (e .slot) l; steps-few = few }

@@ -12,17 +12,19 @@ use Rattle.rules.specs.Limits.{stepLimit}
 use Rattle.rules.specs.Held.{Item, rowsBelow, reported}
 use Rattle.rules.specs.Make.{newMark}
 use Rattle.rules.specs.Worker.{fresh, idlePhase, phaseOf, decode, encode}
-use Rattle.rules.specs.Effects.{movedOf, finishedOf}
+use Rattle.rules.specs.Effects.{hopOf, movedOf, restartOf, finishedOf}
+use Rattle.rules.specs.Commit.{lostOf}
 use Rattle.rules.specs.Shift.{shiftedOf}
 use Rattle.rules.specs.Step.{ruleOf}
 use Rattle.rules.specs.Run.{Call, beginPut, beginTake, step}
 use Rattle.rules.proofs.Types.{Settings, Side, Putting, Taking, Phase, Idle, Window, Slot, View, Effect, Outcome, Answer}
-use Rattle.rules.specs.declared.Outcome.the-variants.{Refused as Stays, Moving as Moves, Shifted, Landed, Removed, Empty as NoItem, Full as NoRoom}
+use Rattle.rules.specs.declared.Outcome.the-variants.{Refused as Stays, Moving as Moves, Lost, Shifted, Landed, Removed, Empty as NoItem, Full as NoRoom}
 use Rattle.rules.specs.declared.Answer.the-variants.{Moving, Put, Taken, Empty, Full, Refused}
 use Rattle.rules.proofs.counts.Sums.{upd, upd-other, upd-self, sumN, upTo}
 use Rattle.rules.proofs.order.Law.{Next}
 
--- the words of a pool, the settings apart; `item` by sub and row
+-- the words of a pool, the settings apart; `item` by sub and row. Failed commits are not among them: no rule reads them, and what the words say of
+-- them is shown of the words (Collisions)
 pub record State : Type 0 where
   pub steps : ℕ
   pub puts : ℕ
@@ -102,6 +104,7 @@ takenIn g s j row =
 unfoldable pub applyInBy : Settings → State → ℕ → Effect → Outcome → Next State
 applyInBy g s i e (Stays n) = next (Refused n) s
 applyInBy g s i e Moves = next Moving (afterIn s i e)
+applyInBy g s i e Lost = next Moving (afterIn s i e)
 applyInBy g s i e Shifted = next Moving (afterIn s i e)
 applyInBy g s i e (Landed value row stamp) =
     next (Put value (subIn s i) row stamp) (afterIn (withItem s (subIn s i) (row .0) (record { value = value; stamp = stamp .0 })) i e)
@@ -189,6 +192,11 @@ module _ (g : Settings) (s : State) (i : ℕ) where
   unfolding applyIn applyInBy
   apply-moved index p kept = ap (next Moving) (after-turned s i (s .top) (s .mark) _)
 
+  -- a commit that failed is a restart: that it is counted is not seen here
+  pub lost-restarts : (side : Side) → applyIn g s i (lostOf g (viewIn g s i) side) ≡ applyIn g s i (restartOf (viewIn g s i) (hopOf g (subIn s i)) side)
+  unfolding applyIn applyInBy
+  lost-restarts side = refl
+
   pub apply-shifted : (side : Side) (top mark : ℕ)
       → applyIn g s i (shiftedOf (viewIn g s i) side top mark)
       ≡ next Moving (turnedIn s i top mark (encode (record { value = s .slot i .value; index = subIn s i; phase = Window side }) (s .slot i)))
@@ -210,6 +218,7 @@ module _ (g : Settings) (s : State) (i : ℕ) where
   unfolding applyInBy
   apply-other-by e j n (Stays m) = refl
   apply-other-by e j n Moves = upd-other (s .slot) i (e .slot) j n
+  apply-other-by e j n Lost = upd-other (s .slot) i (e .slot) j n
   apply-other-by e j n Shifted = upd-other (s .slot) i (e .slot) j n
   apply-other-by e j n (Landed value row stamp) = upd-other (s .slot) i (e .slot) j n
   apply-other-by e j n (Removed row) = upd-other (s .slot) i (e .slot) j n

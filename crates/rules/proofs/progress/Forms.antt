@@ -92,26 +92,26 @@ module _ (i n : ℕ) (es : List Event) (length-is : length es ≡ n) (own : (p :
           absurd (omega (arith, last .low, quiet (n - 1) here))
 
 -- the run of worker i's steps alone
-module _ (i : ℕ) where
-  pub steps-length : (ws : List ℕ) (n : ℕ) → length (run ws (replicate n (step i))) ≡ n
+module _ (ed i : ℕ) where
+  pub steps-length : (ws : List ℕ) (n : ℕ) → length (run ed ws (replicate n (step i))) ≡ n
   unfolding run
   steps-length ws zero = refl
-  steps-length ws (suc n) = ap suc (steps-length (callOf ws (step i) .words) n)
+  steps-length ws (suc n) = ap suc (steps-length (callOf ed ws (step i) .words) n)
 
-  pub steps-own : (ws : List ℕ) (n p : ℕ) → p < n → at (run ws (replicate n (step i))) p .call ≡ step i
+  pub steps-own : (ws : List ℕ) (n p : ℕ) → p < n → at (run ed ws (replicate n (step i))) p .call ≡ step i
   unfolding run
   steps-own ws zero p l = absurd (omega arith)
   steps-own ws (suc n) zero l = refl
-  steps-own ws (suc n) (suc p) l = steps-own (callOf ws (step i) .words) n p (omega arith)
+  steps-own ws (suc n) (suc p) l = steps-own (callOf ed ws (step i) .words) n p (omega arith)
 
-  pub steps-before : (ws : List ℕ) (n p : ℕ) → p < n → stepsBefore i (run ws (replicate n (step i))) p ≡ p
+  pub steps-before : (ws : List ℕ) (n p : ℕ) → p < n → stepsBefore i (run ed ws (replicate n (step i))) p ≡ p
   unfolding run stepsBefore
   steps-before ws zero p l = absurd (omega arith)
   steps-before ws (suc n) zero l = refl
-  steps-before ws (suc n) (suc p) l = omega (arith, own-call i (step i) refl, steps-before (callOf ws (step i) .words) n p (omega arith))
+  steps-before ws (suc n) (suc p) l = omega (arith, own-call i (step i) refl, steps-before (callOf ed ws (step i) .words) n p (omega arith))
 
-  pub steps-solo : (ws : List ℕ) (n : ℕ) → Solo i (run ws (replicate n (step i)))
+  pub steps-solo : (ws : List ℕ) (n : ℕ) → Solo i (run ed ws (replicate n (step i)))
   unfolding run
   steps-solo ws zero j p x = absurd (omega (arith, x .accepted))
   steps-solo ws (suc n) j zero x = let u = x .called in cc
-  steps-solo ws (suc n) j (suc p) x = steps-solo (callOf ws (step i) .words) n j p (record { called = x .called; accepted = x .accepted })
+  steps-solo ws (suc n) j (suc p) x = steps-solo (callOf ed ws (step i) .words) n j p (record { called = x .called; accepted = x .accepted })

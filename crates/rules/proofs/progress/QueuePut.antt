@@ -11,7 +11,7 @@ use Rattle.rules.specs.Worker.{zeroSlot}
 use Rattle.rules.specs.Effects.{movedOf, nextOf, hopOf}
 use Rattle.rules.specs.Window.{windowRule}
 use Rattle.rules.specs.Read.{queuePutRead}
-use Rattle.rules.specs.Commit.{queueCommit, commitBy, landedOf, rowAbove}
+use Rattle.rules.specs.Commit.{queueCommit, commitBy, landedOf, rowAbove, lostOf}
 use Rattle.rules.specs.Shift.{queueShift, shiftBy, shiftedOf}
 use Rattle.rules.specs.Sequential.{Contents}
 use Rattle.rules.proofs.Types.{Settings, Putting, Phase, Window, QueuePutRead, QueueCommit, QueueShift, Effect}
@@ -19,7 +19,7 @@ use Rattle.rules.proofs.counts.Sums.{upd, upd-same}
 use Rattle.rules.proofs.counts.Wraps.{add32-is, add32-suc, sub32-is}
 use Rattle.rules.proofs.order.Law.{Next}
 use Rattle.rules.proofs.order.Gives.{final-put}
-use Rattle.rules.proofs.machine.Machine.{State, subIn, viewIn, phaseIn, applyIn, applyInBy, apply-shifted}
+use Rattle.rules.proofs.machine.Machine.{State, subIn, viewIn, phaseIn, applyIn, applyInBy, apply-shifted, lost-restarts}
 use Rattle.rules.proofs.machine.Phases.{worker, queue-phase}
 use Rattle.rules.proofs.machine.Good.{Good}
 use Rattle.rules.proofs.machine.Turns.{Common}
@@ -116,9 +116,9 @@ module _ (g : Settings) (good : Good g) (kind : g .kind ≡ 0) (L : ℕ) (s : St
     unfolding applyIn applyInBy
     lands = ends (final-put _ _ _ _) (rests g kind L s i n (s .slot) j) (filled (j, index, fills))
 
-    lost : put j ≢ seen → PutCommit g (s .top) put n j seen → Steps (movedOf (viewIn g s i) (hopOf g j) (Window Putting) (s .slot i))
+    lost : put j ≢ seen → PutCommit g (s .top) put n j seen → Steps (lostOf g (viewIn g s i) Putting)
     lost other (PutCommit.live e) = absurd (other e)
-    lost other (PutCommit.stale m) = queue-on g kind L s i n (hopOf g j) (Window Putting) tt _ (omega arith) (PutWindow.any (omega arith))
+    lost other (PutCommit.stale m) = rw (lost-restarts g s i Putting) (queue-on g kind L s i n (hopOf g j) (Window Putting) tt _ (omega arith) (PutWindow.any (omega arith)))
 
     pub put-commit : PutCommit g (s .top) put n j seen → Steps (queueCommit g (viewIn g s i) Putting seen)
     unfolding queueCommit commitBy

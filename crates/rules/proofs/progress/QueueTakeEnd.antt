@@ -9,7 +9,7 @@ use borrow.Author.Tests.{ltb-true, ltb-false, eqb-true, eqb-false}
 use Rattle.laws.specs.Choice.{cases}
 use Rattle.laws.specs.Wrap.{add32, sub32}
 use Rattle.rules.specs.Effects.{movedOf, nextOf, hopOf}
-use Rattle.rules.specs.Commit.{queueCommit, commitBy, removedOf, rowAbove}
+use Rattle.rules.specs.Commit.{queueCommit, commitBy, removedOf, rowAbove, lostOf}
 use Rattle.rules.specs.Shift.{queueShift, shiftBy, shiftedOf}
 use Rattle.rules.specs.Confirm.{confirmRule}
 use Rattle.rules.specs.Sequential.{Contents}
@@ -18,7 +18,7 @@ use Rattle.rules.proofs.counts.Sums.{upd-self, sumN}
 use Rattle.rules.proofs.counts.Wraps.{add32-is}
 use Rattle.rules.proofs.order.Law.{Next}
 use Rattle.rules.proofs.order.Gives.{final-taken}
-use Rattle.rules.proofs.machine.Machine.{State, subIn, viewIn, phaseIn, applyIn, applyInBy, apply-shifted}
+use Rattle.rules.proofs.machine.Machine.{State, subIn, viewIn, phaseIn, applyIn, applyInBy, apply-shifted, lost-restarts}
 use Rattle.rules.proofs.machine.Phases.{worker, queue-phase}
 use Rattle.rules.proofs.machine.Good.{Good}
 use Rattle.rules.proofs.machine.Turns.{Common}
@@ -54,9 +54,9 @@ module _ (g : Settings) (good : Good g) (kind : g .kind ≡ 0) (L : ℕ) (s : St
     unfolding applyIn applyInBy
     removes = ends (final-taken _ _ _ _ _) (rests g kind L s i n (s .slot) j) (took (rw now refl) refl refl (upd-self put j))
 
-    lost : taken j ≢ seen → TakeCommit g L (s .mark) put taken n j seen → Steps (movedOf (viewIn g s i) (hopOf g j) (Window Taking) (s .slot i))
+    lost : taken j ≢ seen → TakeCommit g L (s .mark) put taken n j seen → Steps (lostOf g (viewIn g s i) Taking)
     lost other (TakeCommit.live e) = absurd (other e)
-    lost other (TakeCommit.stale m) = queue-on g kind L s i n (hopOf g j) (Window Taking) tt _ (omega arith) (TakeWindow.any (omega arith))
+    lost other (TakeCommit.stale m) = rw (lost-restarts g s i Taking) (queue-on g kind L s i n (hopOf g j) (Window Taking) tt _ (omega arith) (TakeWindow.any (omega arith)))
 
     pub take-commit : TakeCommit g L (s .mark) put taken n j seen → Steps (queueCommit g (viewIn g s i) Taking seen)
     unfolding queueCommit commitBy

@@ -106,7 +106,7 @@ module _ (g : Settings) (k : Kind g) {most : Side → ℕ} (law : SoloLaw g k mo
     one-more s i n c e es u v time rest (ends w f) = let answer : Final (e .answer) = rw v f in final (u ∙ w) answer
 
     solo-ends : {ws : List ℕ} {s : State} → Rel ws s → (i n : ℕ) → i < g .workers → s .steps + n < stepLimit → LeftIn s n i
-        → (ds : List Call) → Solo i (run ws ds) → Ending i n (run ws ds)
+        → (ds : List Call) → Solo i (run (g .edition) ws ds) → Ending i n (run (g .edition) ws ds)
     unfolding run
     solo-ends r i n l time left [] solo = no-more
     solo-ends {ws} {s} r i n l time left (c ∷ ds) solo =
@@ -124,17 +124,17 @@ module _ (g : Settings) (k : Kind g) {most : Side → ℕ} (law : SoloLaw g k mo
         (law .apart s i (fresh v (subIn s i) (Window side)) (most side) (subIn s i) (Window side) (law .begins s q inv (subIn s i) side))
 
     pub begun-ends : {ws : List ℕ} {s : State} → Rel ws s → (i : ℕ) (side : Side) (v : ℕ) (c : Call)
-        → nextIn g s c ≡ beginIn g s i side v → numberOf (callOf ws c .answer) ≡ 0
-        → getD ws stepsAt 0 + suc (most side) ≤ stepLimit → (ds : List Call) → Solo i (run (callOf ws c .words) ds)
-        → Ending i (most side) (run (callOf ws c .words) ds)
+        → nextIn g s c ≡ beginIn g s i side v → numberOf (callOf (g .edition) ws c .answer) ≡ 0
+        → getD ws stepsAt 0 + suc (most side) ≤ stepLimit → (ds : List Call) → Solo i (run (g .edition) (callOf (g .edition) ws c .words) ds)
+        → Ending i (most side) (run (g .edition) (callOf (g .edition) ws c .words) ds)
     begun-ends {ws} {s} r i side v c is accepted enough ds solo = by (begin-called g s i side v)
       where
-        by : Called s (Begins g s i) (next Moving (begun s i side v)) (beginIn g s i side v) → Ending i (most side) (run (callOf ws c .words) ds)
+        by : Called s (Begins g s i) (next Moving (begun s i side v)) (beginIn g s i side v) → Ending i (most side) (run (g .edition) (callOf (g .edition) ws c .words) ds)
         by (refuses m l unable e) =
             let a : numberOf (nextIn g s c .answer) ≡ 0 = rw (next-related g limits k r c .answer) at accepted in
             let b : numberOf (nextIn g s c .answer) ≡ m = ap (λ (o : Next State). numberOf (o .answer)) (is ∙ e) in
             absurd (omega arith)
         by (does able e) =
             let t : nextIn g s c .state ≡ begun s i side v = ap (λ (o : Next State). o .state) (is ∙ e) in
-            let r′ : Related g limits k (callOf ws c .words) (begun s i side v) = rw t at (next-related g limits k r c .related) in
+            let r′ : Related g limits k (callOf (g .edition) ws c .words) (begun s i side v) = rw t at (next-related g limits k r c .related) in
             solo-ends r′ i (most side) (able .worker) (omega (arith, r .says .steps)) (begun-left s (r .list) (r .whole .inv) i side v) ds solo

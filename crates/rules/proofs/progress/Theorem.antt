@@ -32,23 +32,23 @@ sideOf (putting v) = Putting
 sideOf taking = Taking
 
 -- what is claimed of one run
-abbrev EndsSolo : ℕ → List ℕ → ℕ → Operation → List Call → Type 0
-EndsSolo n ws i o ds = Begun ws i o n → Solo i (afterBegin ws i o ds) → EndsWithin i n (afterBegin ws i o ds)
+abbrev EndsSolo : ℕ → ℕ → List ℕ → ℕ → Operation → List Call → Type 0
+EndsSolo ed n ws i o ds = Begun ed ws i o n → Solo i (afterBegin ed ws i o ds) → EndsWithin i n (afterBegin ed ws i o ds)
 
-later : (n m : ℕ) → n ≤ m → (ws : List ℕ) (i : ℕ) (o : Operation) (ds : List Call) → EndsSolo n ws i o ds → EndsSolo m ws i o ds
-later n m l ws i o ds ends b solo = ends-later l (ends (record { accepted = b .accepted; enough = omega (arith, b .enough) }) solo)
+later : (ed n m : ℕ) → n ≤ m → (ws : List ℕ) (i : ℕ) (o : Operation) (ds : List Call) → EndsSolo ed n ws i o ds → EndsSolo ed m ws i o ds
+later ed n m l ws i o ds ends b solo = ends-later l (ends (record { accepted = b .accepted; enough = omega (arith, b .enough) }) solo)
 
 module _ (g : Settings) (limits : settingsFit g ≡ true) (k : Kind g) {most : Side → ℕ} (law : SoloLaw g k most) where
   -- a figure that is not below what a begin leaves, and its final step
-  ends-solo : {ws : List ℕ} {s : State} → Related g limits k ws s → (i : ℕ) (o : Operation) (ds : List Call) (n : ℕ) → suc (most (sideOf o)) ≤ n → EndsSolo n ws i o ds
+  ends-solo : {ws : List ℕ} {s : State} → Related g limits k ws s → (i : ℕ) (o : Operation) (ds : List Call) (n : ℕ) → suc (most (sideOf o)) ≤ n → EndsSolo (g .edition) n ws i o ds
   unfolding nextIn
   ends-solo {ws} r i (putting v) ds n l =
-      later (suc (most Putting)) n l ws i (putting v) ds (λ b solo. by-position (begun-ends g k law limits r i Putting v (beginPut i v) refl (b .accepted) (b .enough) ds solo))
+      later (g .edition) (suc (most Putting)) n l ws i (putting v) ds (λ b solo. by-position (begun-ends g k law limits r i Putting v (beginPut i v) refl (b .accepted) (b .enough) ds solo))
   ends-solo {ws} r i taking ds n l =
-      later (suc (most Taking)) n l ws i taking ds (λ b solo. by-position (begun-ends g k law limits r i Taking 0 (beginTake i) refl (b .accepted) (b .enough) ds solo))
+      later (g .edition) (suc (most Taking)) n l ws i taking ds (λ b solo. by-position (begun-ends g k law limits r i Taking 0 (beginTake i) refl (b .accepted) (b .enough) ds solo))
 
   made-solo : (ws : List ℕ) → Accepted ws g → (cs : List Call) (i : ℕ) (o : Operation) (ds : List Call) (n : ℕ) → suc (most (sideOf o)) ≤ n
-      → EndsSolo n (wordsAfter (makeOf ws g .words) cs) i o ds
+      → EndsSolo (g .edition) n (wordsAfter (g .edition) (makeOf ws g .words) cs) i o ds
   made-solo ws a cs = ends-solo (related-after g limits k (made-related g limits k ws a) cs .related)
 
 -- the figures are one more than what a begin leaves
@@ -63,7 +63,7 @@ pub solo-exact : SoloExact
 solo-exact ws g cs made i o ds =
     let a = accepted ws g made in
     let h = good g (a .limits) in
-    cases (λ (n : ℕ). EndsSolo n (wordsAfter (makeOf ws g .words) cs) i o ds) (eqb (g .kind) 0) (queueSteps g o) (stackSteps g)
+    cases (λ (n : ℕ). EndsSolo (g .edition) n (wordsAfter (g .edition) (makeOf ws g .words) cs) i o ds) (eqb (g .kind) 0) (queueSteps g o) (stackSteps g)
     (λ e. made-solo g (a .limits) (queueKind g h (eqb-true _ _ e)) (queueSolo g h (eqb-true _ _ e)) ws a cs i o ds (queueSteps g o) (queue-figure g o))
     (λ e.
     let one : g .kind ≡ 1 = omega (arith, h .bounds .kind1, eqb-false (g .kind) 0 e) in
@@ -78,15 +78,15 @@ exact-k3 g o = cases (λ n. n ≤ 3 * g .width + 8) (eqb (g .kind) 0) (queueStep
     queue taking = omega arith
 
 pub k3 : K3
-k3 ws g cs made i o ds = later (soloSteps g o) (k3Steps g o) (exact-k3 g o) (wordsAfter (makeOf ws g .words) cs) i o ds (solo-exact ws g cs made i o ds)
+k3 ws g cs made i o ds = later (g .edition) (soloSteps g o) (k3Steps g o) (exact-k3 g o) (wordsAfter (g .edition) (makeOf ws g .words) cs) i o ds (solo-exact ws g cs made i o ds)
 
 -- ---- plain
 plain-within : (most : Settings → Operation → ℕ) → ((g : Settings) (o : Operation) → 1 ≤ most g o) → SoloWithin most → PlainWithin most
 plain-within most some within ws g cs made i o b =
     let n : ℕ = most g o in
-    let begun : List ℕ = callOf (wordsAfter (makeOf ws g .words) cs) (begin i o) .words in
-    plain i n (run begun (replicate n (step i))) (steps-length i begun n) (steps-own i begun n) (steps-before i begun n)
-    (within ws g cs made i o (replicate n (step i)) b (steps-solo i begun n)) (some g o)
+    let begun : List ℕ = callOf (g .edition) (wordsAfter (g .edition) (makeOf ws g .words) cs) (begin i o) .words in
+    plain i n (run (g .edition) begun (replicate n (step i))) (steps-length (g .edition) i begun n) (steps-own (g .edition) i begun n) (steps-before (g .edition) i begun n)
+    (within ws g cs made i o (replicate n (step i)) b (steps-solo (g .edition) i begun n)) (some g o)
 
 pub plain-k3 : PlainK3
 plain-k3 = plain-within k3Steps (λ g o. omega arith) k3

@@ -22,7 +22,7 @@ use Rattle.rules.specs.Sequential.{putting, Contents}
 use Rattle.rules.proofs.Types.{Settings, Putting, Idle, Window, QueueCommit, Effect}
 use Rattle.rules.specs.declared.Answer.the-variants.{Put}
 use Rattle.rules.proofs.counts.Sums.{upd, upd-self, sum-bump}
-use Rattle.rules.proofs.machine.Machine.{State, next, subIn, viewIn, phaseIn, applyIn, applyInBy}
+use Rattle.rules.proofs.machine.Machine.{State, next, subIn, viewIn, phaseIn, applyIn, applyInBy, lost-restarts}
 use Rattle.rules.proofs.counts.Wraps.{add32-suc, sub32-is, multiple-lt}
 use Rattle.rules.proofs.counts.Held.{Holds, holds-put}
 use Rattle.rules.proofs.counts.Stamps.{Added, added, Row, row-cases, stamped-put}
@@ -178,4 +178,4 @@ module _ (g : Settings) (good : Good g) (kind : g .kind ≡ 0) (s : State) (q : 
       (cases Steps (ltb (s .first j - s .second j) (g .rows)) _ _
       (λ b. put-lands (eqb-true _ _ a))
       (λ b. absurd (omega (arith, put-room (eqb-true _ _ a), ltb-false (s .first j - s .second j) (g .rows) b)))))
-      (λ a. walk g kind s q inv i (QueueCommit Putting seen) now (hopOf g j) (Window Putting) tt _ tt (putting (s .slot i .value)) refl refl)
+      (λ a. rw (lost-restarts g s i Putting) (walk g kind s q inv i (QueueCommit Putting seen) now (hopOf g j) (Window Putting) tt _ tt (putting (s .slot i .value)) refl refl))

@@ -20,7 +20,7 @@ use Rattle.rules.specs.Commit.{queueCommit, commitBy, removedOf, rowAbov
 use Rattle.rules.specs.Sequential.{taking, Contents}
 use Rattle.rules.proofs.Types.{Settings, Taking, Idle, Window, QueueCommit, Effect}
 use Rattle.rules.proofs.counts.Sums.{upd, upd-same, upd-other, upd-self}
-use Rattle.rules.proofs.machine.Machine.{State, next, subIn, viewIn, phaseIn, takenIn, distanceIn, applyIn, applyInBy}
+use Rattle.rules.proofs.machine.Machine.{State, next, subIn, viewIn, phaseIn, takenIn, distanceIn, applyIn, applyInBy, lost-restarts}
 use Rattle.rules.proofs.counts.Wraps.{add32-suc}
 use Rattle.rules.proofs.counts.Held.{holds-low}
 use Rattle.rules.proofs.counts.Find.{RowFound, find-row}
@@ -150,4 +150,4 @@ module _ (g : Settings) (good : Good g) (kind : g .kind ≡ 0) (s : State) (q : 
       (λ a. cases Steps (ltb (s .second j) (s .first j)) _ _
       (λ b. take-lands (eqb-true _ _ a))
       (λ b. absurd (omega (arith, take-row (eqb-true _ _ a), ltb-false (s .second j) (s .first j) b))))
-      (λ a. walk g kind s q inv i (QueueCommit Taking seen) now (hopOf g j) (Window Taking) tt _ tt taking refl refl)
+      (λ a. rw (lost-restarts g s i Taking) (walk g kind s q inv i (QueueCommit Taking seen) now (hopOf g j) (Window Taking) tt _ tt taking refl refl))

@@ -11,7 +11,7 @@ use Rattle.rules.specs.Commit.{stackCommit, removedOf}
 use Rattle.rules.specs.Sequential.{Contents, passedBy}
 use Rattle.rules.proofs.Types.{Settings, Taking, StackCommit, Version}
 use Rattle.rules.proofs.counts.Sums.{upd, upd-same, upd-other, upd-all}
-use Rattle.rules.proofs.machine.Machine.{State, next, subIn, viewIn, phaseIn, takenIn, distanceIn, applyIn, applyInBy}
+use Rattle.rules.proofs.machine.Machine.{State, next, subIn, viewIn, phaseIn, takenIn, distanceIn, applyIn, applyInBy, lost-restarts}
 use Rattle.rules.proofs.counts.Wraps.{add32-suc, sub32-is}
 use Rattle.rules.proofs.counts.Held.{holds-top}
 use Rattle.rules.proofs.counts.Find.{RowFound, find-row}
@@ -104,4 +104,4 @@ module _ {g : Settings} {s : State} {q : Contents} {i : ℕ} (a : Stepping g s q
 pub take-commit : {g : Settings} {s : State} {q : Contents} {i : ℕ} (a : Stepping g s q i) (seen : Version) → phaseIn g s i ≡ StackCommit Taking seen
     → On a (stackCommit g (viewIn g s i) Taking seen)
 take-commit {g} {s} {i = i} a seen e =
-    commit-cases (a .inv) i (On a) Taking seen e (take-lands a seen e) (λ other. restart a e Taking refl (hopOf g (subIn s i)))
+    commit-cases (a .inv) i (On a) Taking seen e (take-lands a seen e) (λ other. rw (lost-restarts g s i Taking) (restart a e Taking refl (hopOf g (subIn s i))))

@@ -8,7 +8,6 @@ use lib.Dec.{eqb}
 use Rattle.laws.specs.Choice.{cases}
 use Rattle.rules.specs.Limits.{stepLimit}
 use Rattle.rules.specs.Answers.{numberOf, notFit}
-use Rattle.rules.specs.Effects.{restartOf, hopOf}
 use Rattle.rules.specs.Window.{windowRule}
 use Rattle.rules.specs.Read.{stackRead, missOf}
 use Rattle.rules.specs.Check.{checkRule}
@@ -17,6 +16,7 @@ use Rattle.rules.specs.Confirm.{confirmRule, confirmedOf}
 use Rattle.rules.specs.Step.{ruleOf, ruleBy}
 use Rattle.rules.specs.Sequential.{Contents}
 use Rattle.rules.specs.Consequences.{NoWrap}
+use Rattle.rules.specs.Commit.{lostOf}
 use Rattle.rules.proofs.Types.{Settings, Side, Putting, Taking, Phase, Idle, Window, QueuePutRead, QueueTakeRead, StackRead, Check, QueueCommit, StackCommit, QueueShift, StackShift, Confirm, Version, Effect}
 use Rattle.rules.proofs.machine.Machine.{State, subIn, viewIn, phaseIn, applyIn, applyInBy}
 use Rattle.rules.proofs.machine.Good.{Good}
@@ -36,7 +36,7 @@ module _ {g : Settings} {s : State} {q : Contents} (good : Good g) (kind : g .ki
     able-lands Putting = omega arith
     able-lands Taking = omega arith
 
-    able-lost : (side : Side) → F (restartOf (viewIn g s i) (hopOf g (subIn s i)) side)
+    able-lost : (side : Side) → F (lostOf g (viewIn g s i) side)
     unfolding applyIn applyInBy
     able-lost side = omega arith
 

@@ -1,4 +1,4 @@
--- A store at a place of the settings, or at word 11, may be made before a call on a fit pool or after it; and the settings may have another
+-- A store at a place of the settings may be made before a call on a fit pool or after it; and the settings may have another
 -- stride, if it hops alike: a lost commit alone asks for it. So a call keeps each such word: to store what is there changes nothing before
 -- the call, hence nothing after it.
 use Prim.Native.Nat.{ℕ, _≤_}
@@ -20,16 +20,16 @@ use Rattle.rules.specs.Read.{missOf, queuePutRead, queueTakeRead, stackR
 use Rattle.rules.specs.Commit.{commitBy, queueCommit, stackCommit}
 use Rattle.rules.specs.Shift.{queueShift, stackShift}
 use Rattle.rules.specs.Confirm.{confirmedOf, confirmRule}
-use Rattle.rules.specs.Apply.{putItem, putLanded, applyBy, applyOf}
+use Rattle.rules.specs.Apply.{countLost, putItem, putLanded, applyBy, applyOf}
 use Rattle.rules.specs.Step.{ruleBy, ruleOf, slotStep, fitStep, checkedStep, stepOf}
 use Rattle.rules.specs.Run.{Call, beginPut, beginTake, step, callOf}
 use Rattle.rules.specs.Stride.{withStride}
-use Rattle.rules.specs.declared.Outcome.the-variants.{Refused, Moving, Shifted, Landed, Removed, Empty, Full}
+use Rattle.rules.specs.declared.Outcome.the-variants.{Refused, Moving, Lost, Shifted, Landed, Removed, Empty, Full}
 use Rattle.rules.proofs.Types.{Settings, Side, Putting, Taking, Phase, Idle, Window, QueuePutRead, QueueTakeRead, StackRead, Check, QueueCommit, StackCommit, QueueShift, StackShift, Confirm, View, Effect, Outcome}
 use Rattle.rules.proofs.Fitness.{fit-pool}
 use Rattle.rules.proofs.Untouched.{begin-keeps, step-keeps}
 use Rattle.rules.proofs.words.Writes.{Still}
-use Rattle.rules.proofs.stride.Stores.{slot-commutes, worker-commutes, shifted-commutes, sub-commutes, landed-commutes, off, high, taken-same, view-same}
+use Rattle.rules.proofs.stride.Stores.{lost-commutes, slot-commutes, worker-commutes, shifted-commutes, sub-commutes, landed-commutes, off, high, taken-same, view-same}
 
 -- an answer, and its words with a store after it
 abbrev pub thenSet : ℕ → ℕ → Out → Out
@@ -47,11 +47,11 @@ checkedCall ws k (beginPut i v) = checkedBegin ws k i Putting v
 checkedCall ws k (beginTake i) = checkedBegin ws k i Taking 0
 checkedCall ws k (step i) = checkedStep ws k i
 
-pub call-is : (ws : List ℕ) (c : Call) → callOf ws c ≡ checkedCall ws (checkedOf ws) c
+pub call-is : (ed : ℕ) (ws : List ℕ) (c : Call) → callOf ed ws c ≡ checkedCall ws (checkedOf ed ws) c
 unfolding callOf beginOf stepOf
-call-is ws (beginPut i v) = refl
-call-is ws (beginTake i) = refl
-call-is ws (step i) = refl
+call-is ed ws (beginPut i v) = refl
+call-is ed ws (beginTake i) = refl
+call-is ed ws (step i) = refl
 
 pub unfit-call : (ws : List ℕ) (n : ℕ) (c : Call) → checkedCall ws (Unfit n) c ≡ refuse n ws
 unfolding checkedBegin checkedStep
@@ -91,9 +91,10 @@ module _ (p : ℕ) (still : Still p) (x : ℕ) (g : Settings) (y : ℕ) (hops : 
   rule-same v (Confirm side scan sum) = refl
 
   apply-commutes : (at j : ℕ) (e : Effect) (o : Outcome) → headWords ≤ at → applyBy vs h at j e o ≡ thenSet p x (applyBy ws g at j e o)
-  unfolding applyBy putLanded putItem
+  unfolding applyBy countLost putLanded putItem
   apply-commutes at j e (Refused n) l = refl
   apply-commutes at j e Moving l = rw (worker-commutes p still x at e l ws) refl
+  apply-commutes at j e Lost l = rw (lost-commutes p still x g at l ws, worker-commutes p still x at e l _) refl
   apply-commutes at j e Shifted l = rw (shifted-commutes p still x e ws, worker-commutes p still x at e l _) refl
   apply-commutes at j e (Landed value row stamp) l = rw (landed-commutes p still x g j value row stamp e ws, worker-commutes p still x at e l _) refl
   apply-commutes at j e (Removed row) l = rw (taken-same p still x g y ws j row, sub-commutes p still x j e ws, worker-commutes p still x at e l _) refl
@@ -132,21 +133,21 @@ module _ (p : ℕ) (still : Still p) (x : ℕ) (g : Settings) (y : ℕ) (hops : 
   call-commutes (step i) = step-commutes i
 
 -- ---- on any words
-same-length : (ws : List ℕ) (c : Call) → length (callOf ws c .words) ≡ length ws
+same-length : (ed : ℕ) (ws : List ℕ) (c : Call) → length (callOf ed ws c .words) ≡ length ws
 unfolding callOf
-same-length ws (beginPut i v) = begin-keeps ws i Putting v .length-same
-same-length ws (beginTake i) = begin-keeps ws i Taking 0 .length-same
-same-length ws (step i) = step-keeps ws i .length-same
+same-length ed ws (beginPut i v) = begin-keeps ed ws i Putting v .length-same
+same-length ed ws (beginTake i) = begin-keeps ed ws i Taking 0 .length-same
+same-length ed ws (step i) = step-keeps ed ws i .length-same
 
--- a call keeps the settings and word 11
-pub kept : (p : ℕ) → Still p → (ws : List ℕ) (c : Call) → getD (callOf ws c .words) p 0 ≡ getD ws p 0
-kept p still ws c = rw (call-is ws c) (go (checkedOf ws) refl (rw (call-is ws c) at (same-length ws c)))
+-- a call keeps the settings
+pub kept : (ed p : ℕ) → Still p → (ws : List ℕ) (c : Call) → getD (callOf ed ws c .words) p 0 ≡ getD ws p 0
+kept ed p still ws c = rw (call-is ed ws c) (go (checkedOf ed ws) refl (rw (call-is ed ws c) at (same-length ed ws c)))
   where
-    go : (k : Checked) → checkedOf ws ≡ k → length (checkedCall ws (checkedOf ws) c .words) ≡ length ws → getD (checkedCall ws k c .words) p 0 ≡ getD ws p 0
+    go : (k : Checked) → checkedOf ed ws ≡ k → length (checkedCall ws (checkedOf ed ws) c .words) ≡ length ws → getD (checkedCall ws k c .words) p 0 ≡ getD ws p 0
     go (Unfit n) e l = rw (unfit-call ws n c) refl
     go (Fit g) e l =
         let o = checkedCall ws (Fit g) c in
         let same : o ≡ thenSet p (getD ws p 0) o = rw (set-getD ws p 0) at (call-commutes p still (getD ws p 0) g (g .stride) (λ k. refl) ws c) in
         let long : length (o .words) ≡ length ws = rw e at l in
         ap (λ (z : Out). getD (z .words) p 0) same
-        ∙ getD-set-same (o .words) p (getD ws p 0) 0 (omega (arith, still .below, fit-pool ws g e .enough))
+        ∙ getD-set-same (o .words) p (getD ws p 0) 0 (omega (arith, still .below, fit-pool ed ws g e .enough))

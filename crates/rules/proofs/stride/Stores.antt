@@ -1,4 +1,4 @@
--- No step and no begin stores at a place of the settings or at word 11, and once the settings are known none reads there. So a store there
+-- No step and no begin stores at a place of the settings, and once the settings are known none reads there. So a store there
 -- commutes with what they store, and what they read is the same, whatever stride the settings have.
 use Prim.Native.Nat.{ℕ, zero, suc, _+_, _%_, _≤_}
 use mathlib.Core.Path.{_≡_, refl, sym}
@@ -7,14 +7,16 @@ use mathlib.Core.List.{List, [], _∷_}
 use native.Mathlib.Omega.{arith}
 use lib.ListN.{getD, set, length-set}
 use lib.Seq.{getD-set-other, set-comm, sets}
+use lib.Dec.{ltb}
 use Rattle.laws.specs.Choice.{cond-under, allBelow}
-use Rattle.rules.specs.Layout.{headWords, stepsAt, putsAt, topAt, markAt, workerWords, firstOf, secondOf, firstAt, secondAt, workerAt, indexAt, cellAt, stampAt}
+use Rattle.laws.specs.Wrap.{add32}
+use Rattle.rules.specs.Layout.{headWords, stepsAt, putsAt, topAt, markAt, workerWords, firstOf, secondOf, firstAt, secondAt, workerAt, indexAt, cellAt, stampAt, lostWord, lostAt}
 use Rattle.rules.specs.Worker.{slotAt, wordsOf, putSlot}
 use Rattle.rules.specs.Fit.{Checked, Unfit, Fit, subFit, subsFit, wordFit, workersFit, bodyChecked}
 use Rattle.rules.specs.Make.{indexed}
 use Rattle.rules.specs.Effects.{viewOf}
 use Rattle.rules.specs.Held.{itemAt, itemsAbove, heldSub, heldBelow, countItems, reported, distanceOf}
-use Rattle.rules.specs.Apply.{putItem, putSub, putLanded, putShifted, putWorker, takenOf}
+use Rattle.rules.specs.Apply.{putItem, putSub, putLanded, putShifted, putWorker, takenOf, countLost}
 use Rattle.rules.specs.Stride.{withStride}
 use Rattle.rules.specs.declared.Answer.the-variants.{Taken}
 use Rattle.rules.proofs.Types.{Settings, Slot, Row, Stamp, Effect}
@@ -52,6 +54,16 @@ module _ (p : ℕ) (still : Still p) (x : ℕ) where
   unfolding putWorker
   worker-commutes at e l ws =
       rw (getD-set-other ws p stepsAt x 0 (λ u. still .steps (sym u)), one-commutes stepsAt _ (still .steps) ws) (slot-commutes at (e .slot) l _)
+
+  pub lost-commutes : (g : Settings) (at : ℕ) → headWords ≤ at → Commutes (λ ws. countLost ws g at)
+  unfolding countLost
+  lost-commutes g at l ws =
+      rw (
+        getD-set-other ws p (lostAt at) x 0 (λ u. beyond (lostAt at) (omega arith) (sym u)),
+        one-commutes (lostAt at) (add32 (getD ws (lostAt at) 0) 1) (beyond (lostAt at) (omega arith)) ws,
+        cond-under (λ (vs : List ℕ). set vs p x) (ltb lostWord (workerWords (g .edition))) _ _,
+      )
+      refl
 
   pub shifted-commutes : (e : Effect) → Commutes (λ ws. putShifted ws e)
   unfolding putShifted
@@ -132,7 +144,7 @@ module _ (p : ℕ) (still : Still p) (x : ℕ) where
 
     workers-same : workersFit vs h ≡ workersFit ws g
     unfolding workersFit wordFit
-    workers-same = λ u. allBelow (g .workers) (λ i. allBelow workerWords (λ k. wordFit g k (high (workerAt g i + k) (omega arith) u)))
+    workers-same = λ u. allBelow (g .workers) (λ i. allBelow (workerWords (g .edition)) (λ k. wordFit g k (high (workerAt g i + k) (omega arith) u)))
 
     pub body-same : bodyChecked vs h ≡ strided y (bodyChecked ws g)
     unfolding bodyChecked

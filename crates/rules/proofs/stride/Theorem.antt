@@ -8,11 +8,11 @@ use mathlib.Core.List.{List, [], _∷_}
 use native.Mathlib.Decide.{decLe}
 use native.Mathlib.Omega.{arith}
 use lib.ListN.{getD, set, take, length, length-set}
-use lib.Seq.{getD-set-same, getD-set-other, set-set, sets}
+use lib.Seq.{getD-set-same, getD-set-other, set-comm, set-set, sets}
 use borrow.Author.Tests.{lt-ltb, le-ltb}
 use Rattle.laws.specs.Choice.{cond, cond-under}
 use Rattle.rules.specs.Answers.{out, numberOf}
-use Rattle.rules.specs.Layout.{headWords, kindAt, widthAt, depthAt, shiftAt, rowsAt, workerCountAt, strideAt, zeroAt, needed, settingsOf}
+use Rattle.rules.specs.Layout.{headWords, kindAt, widthAt, depthAt, shiftAt, rowsAt, workerCountAt, strideAt, editionAt, needed, settingsOf}
 use Rattle.rules.specs.Limits.{settingsFit}
 use Rattle.rules.specs.Fit.{Checked, Unfit, Fit, headFit, checkedOf}
 use Rattle.rules.specs.Make.{zeroed, newHead, indexed, madeWords, makeOf}
@@ -58,53 +58,53 @@ settings-set ws x l =
       rows = low rowsAt (omega arith) u;
       workers = low workerCountAt (omega arith) u;
       stride = getD-set-same ws strideAt x 0 l u;
+      edition = getD-set-other ws strideAt editionAt x 0 (λ v. omega arith) u;
     }
 
 -- ---- a call, and a run
-module _ (ws : List ℕ) (z : getD ws strideAt 0 ≡ 0) (n : getD ws widthAt 0 ≢ 1) where
+module _ (ed : ℕ) (ws : List ℕ) (z : getD ws strideAt 0 ≡ 0) (n : getD ws widthAt 0 ≢ 1) where
   abbrev one : List ℕ
   one = set ws strideAt 1
 
-  head-alike : strideAt < length ws → headFit one ≡ headFit ws
+  head-alike : headFit ed (withStride (settingsOf ws) 1) ≡ headFit ed (settingsOf ws)
   unfolding headFit
-  head-alike l =
-      rw (settings-set ws 1 l, limits-alike (settingsOf ws) z n, getD-set-other ws strideAt zeroAt 1 0 (λ u. omega arith)) refl
+  head-alike = rw (limits-alike (settingsOf ws) z n) refl
 
-  checked-alike : checkedOf one ≡ strided 1 (checkedOf ws)
+  checked-alike : checkedOf ed one ≡ strided 1 (checkedOf ed ws)
   unfolding checkedOf cond
   checked-alike = elim (decLe headWords (length ws)) [
     | yes l ↦
         rw (
           length-set ws strideAt 1,
           le-ltb (length ws) headWords l,
-          head-alike (omega arith),
           settings-set ws 1 (omega arith),
+          head-alike,
           body-same strideAt stride-still 1 (settingsOf ws) 1 ws,
-          cond-under (strided 1) (headFit ws) _ _,
+          cond-under (strided 1) (headFit ed (settingsOf ws)) _ _,
         )
         refl
     | no l ↦ rw (length-set ws strideAt 1, lt-ltb (length ws) headWords (omega arith)) refl
   ]
 
-  call-alike : (c : Call) → callOf one c ≡ thenSet strideAt 1 (callOf ws c)
-  call-alike c = rw (call-is ws c, call-is one c, checked-alike) (go (checkedOf ws) refl)
+  call-alike : (c : Call) → callOf ed one c ≡ thenSet strideAt 1 (callOf ed ws c)
+  call-alike c = rw (call-is ed ws c, call-is ed one c, checked-alike) (go (checkedOf ed ws) refl)
     where
-      go : (k : Checked) → checkedOf ws ≡ k → checkedCall one (strided 1 k) c ≡ thenSet strideAt 1 (checkedCall ws k c)
+      go : (k : Checked) → checkedOf ed ws ≡ k → checkedCall one (strided 1 k) c ≡ thenSet strideAt 1 (checkedCall ws k c)
       go (Unfit n) e = rw (unfit-call ws n c, unfit-call one n c) refl
       go (Fit g) e =
-          let zero-stride : g .stride ≡ 0 = ap (λ (h : Settings). h .stride) (sym (fit-pool ws g e .settings)) ∙ z in
+          let zero-stride : g .stride ≡ 0 = ap (λ (h : Settings). h .stride) (sym (fit-pool ed ws g e .settings)) ∙ z in
           call-commutes strideAt stride-still 1 g 1 (hops-alike g zero-stride) ws c
 
-record Alike (ws : List ℕ) (cs : List Call) : Type 0 where
-  answers : run (set ws strideAt 1) cs ≡ run ws cs
-  words : wordsAfter (set ws strideAt 1) cs ≡ set (wordsAfter ws cs) strideAt 1
+record Alike (ed : ℕ) (ws : List ℕ) (cs : List Call) : Type 0 where
+  answers : run ed (set ws strideAt 1) cs ≡ run ed ws cs
+  words : wordsAfter ed (set ws strideAt 1) cs ≡ set (wordsAfter ed ws cs) strideAt 1
 
-runs-alike : (ws : List ℕ) → getD ws strideAt 0 ≡ 0 → getD ws widthAt 0 ≢ 1 → (cs : List Call) → Alike ws cs
+runs-alike : (ed : ℕ) (ws : List ℕ) → getD ws strideAt 0 ≡ 0 → getD ws widthAt 0 ≢ 1 → (cs : List Call) → Alike ed ws cs
 unfolding run wordsAfter
-runs-alike ws z n [] = record { answers = refl; words = refl }
-runs-alike ws z n (c ∷ cs) =
-    let rest = runs-alike (callOf ws c .words) (kept strideAt stride-still ws c ∙ z) (λ u. n (sym (kept widthAt width-still ws c) ∙ u)) cs in
-    record { answers = rw (call-alike ws z n c, rest .answers) refl; words = rw (call-alike ws z n c, rest .words) refl }
+runs-alike ed ws z n [] = record { answers = refl; words = refl }
+runs-alike ed ws z n (c ∷ cs) =
+    let rest = runs-alike ed (callOf ed ws c .words) (kept ed strideAt stride-still ws c ∙ z) (λ u. n (sym (kept ed widthAt width-still ws c) ∙ u)) cs in
+    record { answers = rw (call-alike ed ws z n c, rest .answers) refl; words = rw (call-alike ed ws z n c, rest .words) refl }
 
 -- ---- on any words
 zero-set : (ws : List ℕ) (m : ℕ) → getD (set ws m 0) m 0 ≡ 0
@@ -113,9 +113,9 @@ zero-set (w ∷ ws) zero = refl
 zero-set (w ∷ ws) (suc m) = zero-set ws m
 
 pub stride-one-on-words : StrideOneOnWords
-stride-one-on-words ws cs n =
+stride-one-on-words ed ws cs n =
     let width : getD (set ws strideAt 0) widthAt 0 ≡ getD ws widthAt 0 = getD-set-other ws strideAt widthAt 0 0 (λ u. omega arith) in
-    let r = runs-alike (set ws strideAt 0) (zero-set ws strideAt) (λ u. n (sym width ∙ u)) cs in
+    let r = runs-alike ed (set ws strideAt 0) (zero-set ws strideAt) (λ u. n (sym width ∙ u)) cs in
     record { answers = rw (set-set ws strideAt 0 1) at (r .answers); words = rw (set-set ws strideAt 0 1) at (r .words) }
 
 -- ---- on a new pool
@@ -123,25 +123,28 @@ made-is : (ws : List ℕ) (g : Settings) → settingsFit g ≡ true → needed g
 unfolding makeOf cond
 made-is ws g limits enough = rw (limits, le-ltb (length ws) (needed g) enough) refl
 
--- the stride is the last word of the head that make stores
+-- the stride is a word of the head that make stores
 made-set : (ws : List ℕ) (g : Settings) (x : ℕ) → madeWords ws (withStride g x) ≡ set (madeWords ws (withStride g 0)) strideAt x
 unfolding madeWords
 made-set ws g x =
     let head : List ℕ = sets (zeroed ws (needed g)) 0 (take strideAt (newHead g)) in
-    ap (λ (vs : List ℕ). indexed vs (withStride g x) (g .workers)) (sym (set-set head strideAt 0 x))
-    ∙ indexed-commutes strideAt stride-still x (withStride g 0) x (g .workers) (set head strideAt 0)
+    let again : set (set head strideAt x) editionAt (g .edition) ≡ set (set (set head strideAt 0) editionAt (g .edition)) strideAt x =
+    ap (λ (vs : List ℕ). set vs editionAt (g .edition)) (sym (set-set head strideAt 0 x))
+    ∙ set-comm (set head strideAt 0) strideAt editionAt x (g .edition) (λ u. omega arith) in
+    ap (λ (vs : List ℕ). indexed vs (withStride g x) (g .workers)) again
+    ∙ indexed-commutes strideAt stride-still x (withStride g 0) x (g .workers) (set (set head strideAt 0) editionAt (g .edition))
 
-stride-after : (ws : List ℕ) (cs : List Call) → getD (wordsAfter ws cs) strideAt 0 ≡ getD ws strideAt 0
+stride-after : (ed : ℕ) (ws : List ℕ) (cs : List Call) → getD (wordsAfter ed ws cs) strideAt 0 ≡ getD ws strideAt 0
 unfolding wordsAfter
-stride-after ws [] = refl
-stride-after ws (c ∷ cs) = stride-after (callOf ws c .words) cs ∙ kept strideAt stride-still ws c
+stride-after ed ws [] = refl
+stride-after ed ws (c ∷ cs) = stride-after ed (callOf ed ws c .words) cs ∙ kept ed strideAt stride-still ws c
 
 by-stride : (ws : List ℕ) (g : Settings) (cs : List Call) (x : ℕ) → x ≤ 1 → numberOf (makeOf ws (withStride g x) .answer) ≡ 0 → AsStrideZero ws (withStride g x) cs
 by-stride ws g cs zero l made =
     let a = accepted ws (withStride g 0) made in
     let says = made-says ws (withStride g 0) (a .enough) in
     let z : getD (makeOf ws (withStride g 0) .words) strideAt 0 ≡ 0 = rw (a .words) (ap (λ (h : Settings). h .stride) (says .settings)) in
-    record { made = refl; answers = refl; words = sym (set-kept _ strideAt 0 (stride-after _ cs ∙ z)) }
+    record { made = refl; answers = refl; words = sym (set-kept _ strideAt 0 (stride-after (g .edition) _ cs ∙ z)) }
 by-stride ws g cs (suc zero) l made =
     let a = accepted ws (withStride g 1) made in
     let wide = settings-bounds (withStride g 1) (a .limits) .stride-width in
@@ -149,7 +152,7 @@ by-stride ws g cs (suc zero) l made =
     let made0 = made-is ws (withStride g 0) limits (a .enough) in
     let says = made-says ws (withStride g 0) (a .enough) in
     let width = ap (λ (h : Settings). h .width) (says .settings) in
-    let r = runs-alike (madeWords ws (withStride g 0)) (ap (λ (h : Settings). h .stride) (says .settings)) (λ u. omega arith) cs in
+    let r = runs-alike (g .edition) (madeWords ws (withStride g 0)) (ap (λ (h : Settings). h .stride) (says .settings)) (λ u. omega arith) cs in
     record {
       made = rw (made-is ws (withStride g 1) (a .limits) (a .enough), made0) refl;
       answers = rw (a .words, made-set ws g 1, made0) (r .answers);

@@ -1,25 +1,26 @@
 -- The words after a step that stores all that a step may store say the machine's state after it. An outcome that stores less
 -- leaves the same words (Writes, Follows).
 use mathlib.Core.Path.{_≡_, sym, ap, _∙_}
-use mathlib.Core.Logic.{_≢_, _⊎_, inl, inr}
+use mathlib.Core.Logic.{_≢_, inl, inr}
 use mathlib.Core.List.{List}
 use Prim.Native.Nat.{ℕ, _+_, _≤_, _<_}
 use native.Mathlib.Nat.{le-trans}
-use native.Mathlib.Decide.{ℕ-discrete, decLe}
+use native.Mathlib.Decide.{ℕ-discrete}
 use native.Mathlib.Omega.{arith}
 use lib.ListN.{length, getD}
 use Rattle.laws.specs.Wrap.{add32}
 use Rattle.rules.specs.Limits.{stepLimit}
-use Rattle.rules.specs.Layout.{subAt, workerAt, cellsAt, firstOf, secondOf, zeroAt, secondAt, workerWords}
+use Rattle.rules.specs.Layout.{subAt, workerAt, cellsAt, firstOf, secondOf, secondAt, slotWords}
 use Rattle.rules.specs.Worker.{slotAt}
 use Rattle.rules.specs.Held.{itemAt, rowsBelow}
 use Rattle.rules.proofs.Types.{Settings, Effect}
+use Rattle.rules.proofs.Workers.{slot-within, worker-within, slots-apart}
 use Rattle.rules.proofs.counts.Sums.{upd, upd-same, upd-other}
 use Rattle.rules.proofs.counts.Wraps.{add32-suc}
 use Rattle.rules.proofs.machine.Machine.{State, subIn, viewIn, belowIn, afterIn}
 use Rattle.rules.proofs.machine.Does.{Keeps}
 use Rattle.rules.proofs.words.Says.{Says}
-use Rattle.rules.proofs.words.Writes.{allSet, still-high, HeadKept, settings-kept, slot-kept, item-kept, all-length, all-off, all-steps, all-puts, all-top, all-mark, all-first, all-second, all-slot}
+use Rattle.rules.proofs.words.Writes.{allSet, HeadKept, settings-kept, slot-kept, item-kept, all-length, all-off, all-steps, all-puts, all-top, all-mark, all-first, all-second, all-slot}
 
 -- the cells of the held rows have their items
 abbrev pub CellsSay : Settings → List ℕ → State → Type 0
@@ -38,8 +39,8 @@ module _ (g : Settings) (ws : List ℕ) (s : State) (says : Says g ws s) (i : �
   above : secondAt j < at
   above = omega arith
 
-  long : at + workerWords ≤ length ws
-  long = omega (arith, says .long)
+  long : at + slotWords ≤ length ws
+  long = omega (arith, says .long, worker-within g i li, slot-within (g .edition))
 
   head : HeadKept ws vs
   head m s = let l = s .below in all-off ws at j e m (s .steps) (s .puts) (s .top) (s .mark) (λ u. omega arith) (λ u. omega arith) (inl (omega arith))
@@ -53,22 +54,17 @@ module _ (g : Settings) (ws : List ℕ) (s : State) (says : Says g ws s) (i : �
   other-slot : (m : ℕ) → m ≢ i → slotAt vs (workerAt g m) ≡ slotAt ws (workerAt g m)
   other-slot m n =
       slot-kept ws vs (workerAt g m) (λ k l. all-off ws at j e (workerAt g m + k)
-      (λ u. omega arith) (λ u. omega arith) (λ u. omega arith) (λ u. omega arith) (λ u. omega arith) (λ u. omega arith) (side k l (decLe m i)))
-    where
-      side : (k : ℕ) → k < workerWords → Dec (m ≤ i) → (workerAt g m + k < at) ⊎ (at + workerWords ≤ workerAt g m + k)
-      side k l (yes a) = inl (omega arith)
-      side k l (no a) = inr (omega arith)
+      (λ u. omega arith) (λ u. omega arith) (λ u. omega arith) (λ u. omega arith) (λ u. omega arith) (λ u. omega arith) (slots-apart g i m k l n))
 
   cells-off : (m : ℕ) → cellsAt g ≤ m → getD vs m 0 ≡ getD ws m 0
   cells-off m l =
-      all-off ws at j e m (λ u. omega arith) (λ u. omega arith) (λ u. omega arith) (λ u. omega arith) (λ u. omega arith) (λ u. omega arith) (inr (omega arith))
+      all-off ws at j e m (λ u. omega arith) (λ u. omega arith) (λ u. omega arith) (λ u. omega arith) (λ u. omega arith) (λ u. omega arith) (inr (omega (arith, worker-within g i li, slot-within (g .edition))))
 
   pub after-says : s .steps < stepLimit → CellsSay g ws (afterIn s i e) → Says g vs (afterIn s i e)
   after-says few cells =
       record {
         long = rw (all-length ws at j e) (says .long);
         settings = settings-kept ws vs head ∙ says .settings;
-        eleventh = head zeroAt (still-high _ (omega arith) (omega arith)) ∙ says .eleventh;
         steps = all-steps ws at j e above long ∙ ap (λ (x : ℕ). add32 x 1) (says .steps) ∙ add32-suc (s .steps) (omega arith);
         puts = all-puts ws at j e above long;
         top = all-top ws at j e above long;

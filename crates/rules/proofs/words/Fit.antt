@@ -8,7 +8,7 @@ use lib.ListN.{length, getD}
 use lib.Dec.{eqb}
 use borrow.Author.Tests.{le-ltb, le-leb, lt-ltb, eq-eqb, eqb-true, eqb-false}
 use Rattle.laws.specs.Choice.{cond, cases, allBelow}
-use Rattle.rules.specs.Layout.{headWords, zeroAt, workerWords, workerAt, needed}
+use Rattle.rules.specs.Layout.{headWords, workerWords, workerAt, needed}
 use Rattle.rules.specs.Limits.{settingsFit}
 use Rattle.rules.specs.Worker.{slotAt}
 use Rattle.rules.specs.Fit.{Fit, headFit, subFit, subsFit, wordFit, workersFit, bodyChecked, checkedOf, SubFits}
@@ -35,7 +35,7 @@ sub-is-fit g first second kind1 h =
     let n = eqb-false (g .kind) 0 e in
     le-leb first (g .rows) (h .stack-rows (omega arith)))
 
--- a worker's eight words
+-- a worker's words
 word-fit : (g : Settings) (ws : List ℕ) (at : ℕ) → SlotFits g (slotAt ws at) → (k : ℕ) → wordFit g k (getD ws (at + k) 0) ≡ true
 unfolding wordFit slotAt
 word-fit g ws at h k =
@@ -55,17 +55,17 @@ module _ (g : Settings) (limits : settingsFit g ≡ true) (kind1 : g .kind ≤ 1
   workers-fit : workersFit ws g ≡ true
   unfolding workersFit
   workers-fit =
-      all-below (g .workers) _ (λ i l. all-below workerWords _ (λ k m.
+      all-below (g .workers) _ (λ i l. all-below (workerWords (g .edition)) _ (λ k m.
       word-fit g ws (workerAt g i) (subst (SlotFits g) (sym (says .slot i l)) (common .slots i)) k))
 
   body-fit : bodyChecked ws g ≡ Fit g
   unfolding bodyChecked cond
   body-fit = rw (le-ltb (length ws) (needed g) (says .long), subs-fit, workers-fit) refl
 
-  head-fit : headFit ws ≡ true
+  head-fit : headFit (g .edition) g ≡ true
   unfolding headFit
-  head-fit = rw (says .settings, limits, eq-eqb (getD ws zeroAt 0) 0 (says .eleventh)) refl
+  head-fit = rw (limits, eq-eqb (g .edition) (g .edition) refl) refl
 
-  pub checked-fit : checkedOf ws ≡ Fit g
+  pub checked-fit : checkedOf (g .edition) ws ≡ Fit g
   unfolding checkedOf cond
-  checked-fit = rw (le-ltb (length ws) headWords (omega (arith, says .long)), head-fit, says .settings, body-fit) refl
+  checked-fit = rw (le-ltb (length ws) headWords (omega (arith, says .long)), says .settings, head-fit, body-fit) refl

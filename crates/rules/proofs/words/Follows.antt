@@ -1,31 +1,27 @@
 -- The words follow the machine: where they say its state, a call answers what the machine answers, and the words that it
 -- leaves say the machine's next state. Both go by the same rule of the same view, so only the view and the stores matter.
 use mathlib.Core.Path.{_≡_, refl, sym, ap, _∙_}
-use mathlib.Core.Logic.{_≢_, _⊎_, inl, inr}
 use mathlib.Core.Bool.{Bool, true, false}
 use mathlib.Core.List.{List}
-use Prim.Native.Nat.{ℕ, _+_, _≤_, _<_}
-use native.Mathlib.Decide.{ℕ-discrete, decLe}
-use native.Mathlib.Omega.{arith}
+use Prim.Native.Nat.{ℕ, _≤_, _<_}
 use lib.ListN.{getD}
 use lib.Dec.{leb, eqb}
 use borrow.Author.Tests.{leb-false}
 use Rattle.laws.specs.Choice.{cond}
 use Rattle.rules.specs.Answers.{Out, refuse, noSuchWorker, workerBusy, workerIdle, stepsSpent}
 use Rattle.rules.specs.Limits.{settingsFit, Bounds, stepLimit}
-use Rattle.rules.specs.Layout.{subAt, workerAt, stepsAt, putsAt, topAt, markAt, zeroAt, indexAt, secondAt, workerWords}
-use Rattle.rules.specs.Worker.{putSlot, fresh, idlePhase}
+use Rattle.rules.specs.Layout.{workerAt, indexAt}
+use Rattle.rules.specs.Worker.{fresh, idlePhase}
 use Rattle.rules.specs.Held.{Item, distanceOf}
 use Rattle.rules.specs.Fit.{Fit, checkedOf}
 use Rattle.rules.specs.Effects.{viewOf}
-use Rattle.rules.specs.Apply.{putItem, putLanded, takenOf, applyBy, applyOf}
+use Rattle.rules.specs.Apply.{countLost, putItem, putLanded, takenOf, applyBy, applyOf}
 use Rattle.rules.specs.Begin.{slotBegin, fitBegin, checkedBegin, beginOf}
 use Rattle.rules.specs.Step.{ruleOf, slotStep, fitStep, checkedStep, stepOf}
 use Rattle.rules.specs.Run.{Call, beginPut, beginTake, step, callOf}
-use Rattle.rules.proofs.Types.{Settings, Side, Putting, Taking, Window, Slot, Effect, Outcome}
-use Rattle.rules.specs.declared.Outcome.the-variants.{Refused, Moving, Shifted, Landed, Removed, Empty, Full}
+use Rattle.rules.proofs.Types.{Settings, Side, Putting, Taking, Window, Effect, Outcome}
+use Rattle.rules.specs.declared.Outcome.the-variants.{Refused, Moving, Lost, Shifted, Landed, Removed, Empty, Full}
 use Rattle.rules.specs.declared.Answer.the-variants.{Moving as Moves, Taken, Refused as NotDone}
-use Rattle.rules.proofs.counts.Sums.{upd-same, upd-other}
 use Rattle.rules.proofs.order.Law.{Next}
 use Rattle.rules.proofs.Fitness.{settings-bounds}
 use Rattle.rules.proofs.Cells.{held-fits}
@@ -33,10 +29,10 @@ use Rattle.rules.proofs.machine.Machine.{State, next, subIn, viewIn, be
 use Rattle.rules.proofs.machine.Turns.{Common, Counts}
 use Rattle.rules.proofs.machine.Does.{SharedAfter, rule-in, counted-in}
 use Rattle.rules.proofs.words.Says.{Says, distance-same}
-use Rattle.rules.proofs.words.Writes.{settings-kept, slot-length, slot-off, slot-on, slot-kept, item-kept, SameTop, landed-shared, removed-shared}
+use Rattle.rules.proofs.words.Writes.{SameTop, landed-shared, removed-shared}
 use Rattle.rules.proofs.words.Fit.{checked-fit}
 use Rattle.rules.proofs.words.After.{after-says}
-use Rattle.rules.proofs.words.Stores.{index-same, number-same, view-same, puts-as, top-as, stores, stores-worker, stores-shifted}
+use Rattle.rules.proofs.words.Stores.{begun-says, counted-says, index-same, number-same, view-same, puts-as, top-as, stores, stores-worker, stores-shifted}
 use Rattle.rules.proofs.words.Landed.{landed-says, landed-cells}
 
 pub record Follows (g : Settings) (o : Out) (n : Next State) : Type 0 where
@@ -78,6 +74,7 @@ module _ (g : Settings) (limits : settingsFit g ≡ true) (ws : List ℕ) (s : S
       unfolding putLanded applyBy applyInBy
       follow-apply (Refused n) h = record { answer = refl; says = says }
       follow-apply Moving h = record { answer = refl; says = stores-worker g ws s says i li lj few e h }
+      follow-apply Lost h = record { answer = refl; says = stores-worker g (countLost ws g (workerAt g i)) s (counted-says g ws s says i li) i li lj few e h }
       follow-apply Shifted h = record { answer = refl; says = stores-shifted g ws s says i li lj few e h }
       follow-apply (Landed value row stamp) lands =
           let h = lands (counted-in g bounds s common counts i) in
@@ -117,33 +114,6 @@ module _ (g : Settings) (limits : settingsFit g ≡ true) (ws : List ℕ) (s : S
         (λ a. either g (leb stepLimit (s .steps)) (λ b. refuses stepsSpent) (λ b. follow-rule (leb-false _ _ b))))
 
     -- ---- a begin
-    begun-says : (x : Slot) → Says g (putSlot ws (workerAt g i) x) (withSlot s i x)
-    begun-says x =
-        let vs = putSlot ws (workerAt g i) x in
-        let at = workerAt g i in
-        let low : (m : ℕ) → m < at → getD vs m 0 ≡ getD ws m 0 = λ m l. slot-off ws at x m (inl l) in
-        let high : (m : ℕ) → at + workerWords ≤ m → getD vs m 0 ≡ getD ws m 0 = λ m l. slot-off ws at x m (inr l) in
-        record {
-          long = rw (slot-length ws at x) (says .long);
-          settings = settings-kept ws vs (λ m s. low m (omega (arith, s .below))) ∙ says .settings;
-          eleventh = low zeroAt (omega arith) ∙ says .eleventh;
-          steps = low stepsAt (omega arith) ∙ says .steps;
-          puts = low putsAt (omega arith) ∙ says .puts;
-          top = low topAt (omega arith) ∙ says .top;
-          mark = low markAt (omega arith) ∙ says .mark;
-          first = λ k l. low (subAt k) (omega arith) ∙ says .first k l;
-          second = λ k l. low (secondAt k) (omega arith) ∙ says .second k l;
-          slot = λ m l. elim (ℕ-discrete m i) [
-            | yes y ↦ rw y (slot-on ws at x (omega (arith, says .long)) ∙ sym (upd-same (s .slot) i x))
-            | no n ↦ slot-kept ws vs (workerAt g m) (λ k a. slot-off ws at x (workerAt g m + k) (side m k a n (decLe m i))) ∙ says .slot m l ∙ sym (upd-other (s .slot) i x m n)
-          ];
-          cell = λ j r l a b. item-kept g ws vs (λ m c. high m (omega arith)) j r ∙ says .cell j r l a b;
-        }
-      where
-        side : (m k : ℕ) → k < workerWords → m ≢ i → Dec (m ≤ i) → (workerAt g m + k < workerAt g i) ⊎ (workerAt g i + workerWords ≤ workerAt g m + k)
-        side m k l n (yes a) = inl (omega arith)
-        side m k l n (no a) = inr (omega arith)
-
     follow-begin : (side : Side) (v : ℕ) → Follows g (slotBegin ws (workerAt g i) side v)
         (cond (eqb (s .slot i .number) idlePhase)
         (cond (leb stepLimit (s .steps)) (next (NotDone stepsSpent) s) (next Moves (withSlot s i (fresh v (subIn s i) (Window side)))))
@@ -152,22 +122,22 @@ module _ (g : Settings) (limits : settingsFit g ≡ true) (ws : List ℕ) (s : S
     follow-begin side v =
         rw (number-same g ws s says i li, says .steps, index-same g ws s says i li)
         (either g (eqb (s .slot i .number) idlePhase)
-        (λ a. either g (leb stepLimit (s .steps)) (λ b. refuses stepsSpent) (λ b. record { answer = refl; says = begun-says _ }))
+        (λ a. either g (leb stepLimit (s .steps)) (λ b. refuses stepsSpent) (λ b. record { answer = refl; says = begun-says g ws s says i li _ }))
         (λ a. refuses workerBusy))
 
   -- ---- a call
-  checked : checkedOf ws ≡ Fit g
+  checked : checkedOf (g .edition) ws ≡ Fit g
   checked = checked-fit g limits (bounds .kind1) ws s says common (counts .sub)
 
-  step-follows : (i : ℕ) → Follows g (stepOf ws i) (stepIn g s i)
+  step-follows : (i : ℕ) → Follows g (stepOf (g .edition) ws i) (stepIn g s i)
   unfolding stepOf checkedStep fitStep stepIn
   step-follows i = rw checked (either g (leb (g .workers) i) (λ a. refuses noSuchWorker) (λ a. follow-step i (leb-false _ _ a)))
 
-  begin-follows : (i : ℕ) (side : Side) (v : ℕ) → Follows g (beginOf ws i side v) (beginIn g s i side v)
+  begin-follows : (i : ℕ) (side : Side) (v : ℕ) → Follows g (beginOf (g .edition) ws i side v) (beginIn g s i side v)
   unfolding beginOf checkedBegin fitBegin beginIn
   begin-follows i side v = rw checked (either g (leb (g .workers) i) (λ a. refuses noSuchWorker) (λ a. follow-begin i (leb-false _ _ a) side v))
 
-  pub follows : (c : Call) → Follows g (callOf ws c) (nextIn g s c)
+  pub follows : (c : Call) → Follows g (callOf (g .edition) ws c) (nextIn g s c)
   unfolding callOf nextIn
   follows (beginPut i v) = begin-follows i Putting v
   follows (beginTake i) = begin-follows i Taking 0

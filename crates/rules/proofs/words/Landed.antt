@@ -8,7 +8,7 @@ use native.Mathlib.Omega.{arith}
 use lib.ListN.{length, getD}
 use Rattle.laws.specs.Wrap.{sub32}
 use Rattle.rules.specs.Limits.{Bounds, stepLimit}
-use Rattle.rules.specs.Layout.{subAt, workerAt, cellsAt, cellAt, stepsAt, putsAt, topAt, markAt, zeroAt, secondAt, stampAt}
+use Rattle.rules.specs.Layout.{subAt, workerAt, cellsAt, cellAt, stepsAt, putsAt, topAt, markAt, secondAt, stampAt}
 use Rattle.rules.specs.Held.{Item, itemAt, rowsBelow}
 use Rattle.rules.specs.Apply.{putItem}
 use Rattle.rules.proofs.Types.{Settings, Row, Stamp, Effect}
@@ -17,6 +17,7 @@ use Rattle.rules.proofs.counts.Sums.{upd, upd-same, upd-other}
 use Rattle.rules.proofs.counts.Stamps.{item-new, item-old}
 use Rattle.rules.proofs.machine.Machine.{State, subIn, viewIn, belowIn, afterIn, withItem}
 use Rattle.rules.proofs.machine.Does.{Lands}
+use Rattle.rules.proofs.Workers.{slot-within, worker-within}
 use Rattle.rules.proofs.words.Says.{Says}
 use Rattle.rules.proofs.words.Writes.{settings-kept, slot-kept}
 use Rattle.rules.proofs.words.Places.{place, places-apart, item-length, item-off, item-here, item-there}
@@ -70,14 +71,13 @@ module _ (g : Settings) (ws : List ℕ) (s : State) (says : Says g ws s) (bounds
       record {
         long = rw (item-length ws g j value at stamp) (says .long);
         settings = settings-kept ws vs (λ m s. before m (omega (arith, s .below))) ∙ says .settings;
-        eleventh = before zeroAt (omega arith) ∙ says .eleventh;
         steps = before stepsAt (omega arith) ∙ says .steps;
         puts = before putsAt (omega arith) ∙ says .puts;
         top = before topAt (omega arith) ∙ says .top;
         mark = before markAt (omega arith) ∙ says .mark;
         first = λ k l. before (subAt k) (omega arith) ∙ says .first k l;
         second = λ k l. before (secondAt k) (omega arith) ∙ says .second k l;
-        slot = λ m l. slot-kept ws vs (workerAt g m) (λ k a. before (workerAt g m + k) (omega arith)) ∙ says .slot m l;
+        slot = λ m l. slot-kept ws vs (workerAt g m) (λ k a. before (workerAt g m + k) (omega (arith, worker-within g m l, slot-within (g .edition)))) ∙ says .slot m l;
         cell = old-cell;
       }
 

@@ -8,7 +8,7 @@ use native.Mathlib.Nat.{add-zero, add-suc, add-sub-of-le}
 use native.Mathlib.Numerals.{add-one}
 use native.Mathlib.Omega.{arith}
 use lib.ListN.{length, getD}
-use Rattle.rules.specs.Layout.{stepsAt, putsAt, topAt, markAt, zeroAt, needed, settingsOf, firstOf, secondOf, workerAt}
+use Rattle.rules.specs.Layout.{stepsAt, putsAt, topAt, markAt, needed, settingsOf, firstOf, secondOf, workerAt}
 use Rattle.rules.specs.Worker.{slotAt}
 use Rattle.rules.specs.Held.{Item, itemAt, itemsAbove, heldSub, heldBelow, heldItems, countItems, reported, distanceOf}
 use Rattle.rules.proofs.Types.{Settings, Stamp}
@@ -20,7 +20,6 @@ use Rattle.rules.proofs.counts.Held.{count-none, count-cons}
 pub record Says (g : Settings) (ws : List ℕ) (s : State) : Type 0 where
   pub long : needed g ≤ length ws
   pub settings : settingsOf ws ≡ g
-  pub eleventh : getD ws zeroAt 0 ≡ 0
   pub steps : getD ws stepsAt 0 ≡ s .steps
   pub puts : getD ws putsAt 0 ≡ s .puts
   pub top : getD ws topAt 0 ≡ s .top

@@ -19,10 +19,10 @@ use Rattle.rules.specs.Held.{itemAt}
 use Rattle.rules.specs.Effects.{viewOf}
 use Rattle.rules.specs.Fit.{Fit, phaseFit, checkedOf, SubFits, FitPool}
 use Rattle.rules.specs.Begin.{outOfSteps}
-use Rattle.rules.specs.Apply.{takenOf, applyBy, applyOf}
+use Rattle.rules.specs.Apply.{countLost, takenOf, applyBy, applyOf}
 use Rattle.rules.specs.Step.{ruleOf, slotStep, fitStep}
 use Rattle.rules.proofs.Types.{Settings, Slot, Effect, Outcome, Answer}
-use Rattle.rules.specs.declared.Outcome.the-variants.{Refused as Stopped, Moving as Moves, Shifted, Landed, Removed, Empty as NoItem, Full as NoRoom}
+use Rattle.rules.specs.declared.Outcome.the-variants.{Refused as Stopped, Moving as Moves, Lost, Shifted, Landed, Removed, Empty as NoItem, Full as NoRoom}
 use Rattle.rules.specs.declared.Answer.the-variants.{Moving, Put, Taken, Empty, Full, Refused}
 use Rattle.rules.proofs.Fitness.{fit-pool, fit-head, fit-number}
 use Rattle.rules.proofs.counts.Sums.{upd-same, upd-all, upd-self}
@@ -32,7 +32,7 @@ use Rattle.rules.proofs.machine.Does.{SameItems, Does, SharedAfter, Bus
 use Rattle.rules.proofs.machine.Slots.{of-both}
 use Rattle.rules.proofs.words.Says.{Says}
 use Rattle.rules.proofs.words.Fit.{checked-fit}
-use Rattle.rules.proofs.words.Stores.{index-same, number-same, view-same, stores-worker, stores-shifted}
+use Rattle.rules.proofs.words.Stores.{counted-says, index-same, number-same, view-same, stores-worker, stores-shifted}
 
 -- a refusal's number is none of an answer's
 abbrev pub Numbered : Answer → Type 0
@@ -45,12 +45,12 @@ Numbered (Refused n) = 4 < n
 
 -- what a step of worker i that answers 0 leaves
 pub record Stays (g : Settings) (vs : List ℕ) (i : ℕ) : Type 0 where
-  pub fit : checkedOf vs ≡ Fit g
+  pub fit : checkedOf (g .edition) vs ≡ Fit g
   pub busy : getD vs (workerAt g i) 0 ≢ 0
 
-module _ (ws : List ℕ) (g : Settings) (fit : checkedOf ws ≡ Fit g) where
+module _ (ws : List ℕ) (g : Settings) (fit : checkedOf (g .edition) ws ≡ Fit g) where
   pool : FitPool g ws
-  pool = fit-pool ws g fit
+  pool = fit-pool (g .edition) ws g fit
 
   bounds : Bounds g
   bounds = pool .bounds
@@ -80,7 +80,6 @@ module _ (ws : List ℕ) (g : Settings) (fit : checkedOf ws ≡ Fit g) where
       record {
         long = pool .enough;
         settings = pool .settings;
-        eleventh = fit-head ws g fit .1;
         steps = refl;
         puts = refl;
         top = refl;
@@ -97,7 +96,7 @@ module _ (ws : List ℕ) (g : Settings) (fit : checkedOf ws ≡ Fit g) where
       cases (SlotFits g) (ltb i (g .workers)) _ _
       (λ e.
       let l : i < g .workers = ltb-true _ _ e in
-      record { index = pool .index i l; scan = pool .scan i l; number = fit-number ws g fit i l })
+      record { index = pool .index i l; scan = pool .scan i l; number = fit-number (g .edition) ws g fit i l })
       (λ e. record { index = bounds .width1; scan = bounds .width1; number = of-both (g .kind) true (λ k. refl) })
 
   -- ---- a step of worker i
@@ -126,7 +125,7 @@ module _ (ws : List ℕ) (g : Settings) (fit : checkedOf ws ≡ Fit g) where
     stays : (vs : List ℕ) → SameItems (viewIn g state i) e → e .slot .number ≢ 0 → Says g vs (afterIn state i e) → Stays g vs i
     stays vs same busy said =
         record {
-          fit = checked-fit g (fit-head ws g fit .0) (bounds .kind1) vs (afterIn state i e) said after-common (after-subs same);
+          fit = checked-fit g (fit-head (g .edition) ws g fit .0) (bounds .kind1) vs (afterIn state i e) said after-common (after-subs same);
           busy = λ z. busy (ap (λ (x : Slot). x .number) (sym (upd-same slots i (e .slot))) ∙ sym (number-same g vs (afterIn state i e) said i li) ∙ z);
         }
 
@@ -136,6 +135,8 @@ module _ (ws : List ℕ) (g : Settings) (fit : checkedOf ws ≡ Fit g) where
     by-outcome (Stopped n) (inl u) busy z = absurd (omega arith)
     by-outcome (Stopped n) (inr u) busy z = absurd (omega arith)
     by-outcome Moves shared busy z = stays _ (shared .0) busy (stores-worker g ws state says i li lj few e shared)
+    by-outcome Lost shared busy z =
+        stays _ (shared .0) busy (stores-worker g (countLost ws g (workerAt g i)) state (counted-says g ws state says i li) i li lj few e shared)
     by-outcome Shifted shared busy z = stays _ shared busy (stores-shifted g ws state says i li lj few e shared)
     by-outcome (Landed value row stamp) shared busy z = absurd (omega arith)
     by-outcome (Removed row) shared busy z = absurd (omega arith)
@@ -147,6 +148,7 @@ module _ (ws : List ℕ) (g : Settings) (fit : checkedOf ws ≡ Fit g) where
     numbered-by (Stopped n) (inl u) = omega arith
     numbered-by (Stopped n) (inr u) = omega arith
     numbered-by Moves shared = tt
+    numbered-by Lost shared = tt
     numbered-by Shifted shared = tt
     numbered-by (Landed value row stamp) shared = tt
     numbered-by (Removed row) shared = tt

@@ -1,20 +1,88 @@
--- What a worker reads of words that say the machine's state, and what they say after a step that adds no held row, whatever the counts. An
--- outcome stores less than all that a step may store, and leaves the same words (Writes).
+-- What a worker reads of words that say the machine's state, and what they say after a begin, with a failed commit counted, and after a step that adds no
+-- held row, whatever the counts. An outcome stores less than all that a step may store, and leaves the same words (Writes).
 use mathlib.Core.Path.{_≡_, sym, ap, _∙_}
+use mathlib.Core.Logic.{_≢_, _⊎_, inl, inr}
 use mathlib.Core.List.{List}
-use Prim.Native.Nat.{ℕ, _<_}
-use lib.ListN.{getD}
+use Prim.Native.Nat.{ℕ, _+_, _≤_, _<_}
+use native.Mathlib.Decide.{ℕ-discrete}
+use native.Mathlib.Omega.{arith}
+use lib.ListN.{length, getD, set, length-set}
+use lib.Seq.{getD-set-other}
+use lib.Dec.{ltb}
+use borrow.Author.Tests.{ltb-true}
+use Rattle.laws.specs.Choice.{cases}
 use Rattle.rules.specs.Limits.{stepLimit}
-use Rattle.rules.specs.Layout.{subAt, workerAt, indexAt, secondAt}
-use Rattle.rules.specs.Worker.{slotAt, decode}
+use Rattle.rules.specs.Layout.{stepsAt, putsAt, topAt, markAt, subAt, workersAt, workerAt, cellsAt, workerWords, slotWords, lostWord, indexAt, lostAt, secondAt}
+use Rattle.rules.specs.Worker.{slotAt, putSlot, decode}
 use Rattle.rules.specs.Effects.{viewOf}
-use Rattle.rules.specs.Apply.{putShifted, putWorker}
+use Rattle.rules.specs.Apply.{countLost, putShifted, putWorker}
 use Rattle.rules.proofs.Types.{Settings, Slot, Effect}
-use Rattle.rules.proofs.machine.Machine.{State, subIn, viewIn, afterIn}
+use Rattle.rules.proofs.Workers.{slot-within, worker-within, slots-apart, lost-apart}
+use Rattle.rules.proofs.counts.Sums.{upd, upd-same, upd-other}
+use Rattle.rules.proofs.machine.Machine.{State, withSlot, subIn, viewIn, afterIn}
 use Rattle.rules.proofs.machine.Does.{SameItems, SameWindow, Keeps, same-keeps}
 use Rattle.rules.proofs.words.Says.{Says}
-use Rattle.rules.proofs.words.Writes.{sharedSet, SamePuts, SameTop, SameSub, still-shared, shifted-shared}
+use Rattle.rules.proofs.words.Writes.{settings-kept, slot-length, slot-off, slot-on, slot-kept, item-kept, sharedSet, SamePuts, SameTop, SameSub, still-shared, shifted-shared}
 use Rattle.rules.proofs.words.After.{after-says, keeps-cells}
+
+-- ---- words that differ in the workers' alone
+abbrev withSlots : State → (ℕ → Slot) → State
+withSlots s slot =
+    record { steps = s .steps; puts = s .puts; top = s .top; mark = s .mark; first = s .first; second = s .second; item = s .item; slot = slot }
+
+-- a place outside of them
+abbrev Outside : Settings → ℕ → Type 0
+Outside g m = (m < workersAt g) ⊎ (cellsAt g ≤ m)
+
+pub says-workers : (g : Settings) (ws vs : List ℕ) (s : State) → Says g ws s → length vs ≡ length ws → ((m : ℕ) → Outside g m → getD vs m 0 ≡ getD ws m 0)
+    → (slot : ℕ → Slot) → ((m : ℕ) → m < g .workers → slotAt vs (workerAt g m) ≡ slot m) → Says g vs (withSlots s slot)
+says-workers g ws vs s says long off slot slots =
+    let low : (m : ℕ) → m < workersAt g → getD vs m 0 ≡ getD ws m 0 = λ m l. off m (inl l) in
+    record {
+      long = rw long (says .long);
+      settings = settings-kept ws vs (λ m h. low m (omega (arith, h .below))) ∙ says .settings;
+      steps = low stepsAt (omega arith) ∙ says .steps;
+      puts = low putsAt (omega arith) ∙ says .puts;
+      top = low topAt (omega arith) ∙ says .top;
+      mark = low markAt (omega arith) ∙ says .mark;
+      first = λ k l. low (subAt k) (omega arith) ∙ says .first k l;
+      second = λ k l. low (secondAt k) (omega arith) ∙ says .second k l;
+      slot = slots;
+      cell = λ j r l a b. item-kept g ws vs (λ m c. off m (inr c)) j r ∙ says .cell j r l a b;
+    }
+
+-- a worker's words stored: a begin
+pub begun-says : (g : Settings) (ws : List ℕ) (s : State) → Says g ws s → (i : ℕ) → i < g .workers → (x : Slot) → Says g (putSlot ws (workerAt g i) x) (withSlot s i x)
+begun-says g ws s says i li x =
+    let at = workerAt g i in
+    let vs = putSlot ws at x in
+    let inside : at + slotWords ≤ cellsAt g = omega (arith, worker-within g i li, slot-within (g .edition)) in
+    says-workers g ws vs s says (slot-length ws at x) (λ m o. slot-off ws at x m (beside m inside o)) (upd (s .slot) i x) (λ m l. elim (ℕ-discrete m i) [
+      | yes y ↦ rw y (slot-on ws at x (omega (arith, says .long, inside)) ∙ sym (upd-same (s .slot) i x))
+      | no n ↦ slot-kept ws vs (workerAt g m) (λ k a. slot-off ws at x (workerAt g m + k) (slots-apart g i m k a n)) ∙ says .slot m l ∙ sym (upd-other (s .slot) i x m n)
+    ])
+  where
+    beside : (m : ℕ) → workerAt g i + slotWords ≤ cellsAt g → Outside g m → (m < workerAt g i) ⊎ (workerAt g i + slotWords ≤ m)
+    beside m inside (inl l) = inl (omega arith)
+    beside m inside (inr l) = inr (omega arith)
+
+-- a failed commit counted: nothing that the words say changes
+lost-says : (g : Settings) (ws : List ℕ) (s : State) → Says g ws s → (i : ℕ) → i < g .workers → lostWord < workerWords (g .edition) → (x : ℕ)
+    → Says g (set ws (lostAt (workerAt g i)) x) s
+lost-says g ws s says i li cards x =
+    let vs = set ws (lostAt (workerAt g i)) x in
+    let off : (m : ℕ) → m ≢ lostAt (workerAt g i) → getD vs m 0 ≡ getD ws m 0 = λ m n. getD-set-other ws (lostAt (workerAt g i)) m x 0 n in
+    says-workers g ws vs s says (length-set ws _ x) (λ m o. off m (elsewhere m o)) (s .slot)
+    (λ m l. slot-kept ws vs (workerAt g m) (λ k a. off (workerAt g m + k) (lost-apart g i m k cards a)) ∙ says .slot m l)
+  where
+    elsewhere : (m : ℕ) → Outside g m → m ≢ lostAt (workerAt g i)
+    elsewhere m (inl l) u = omega arith
+    elsewhere m (inr l) u = omega (arith, worker-within g i li)
+
+pub counted-says : (g : Settings) (ws : List ℕ) (s : State) → Says g ws s → (i : ℕ) → i < g .workers → Says g (countLost ws g (workerAt g i)) s
+unfolding countLost
+counted-says g ws s says i li =
+    cases (λ (vs : List ℕ). Says g vs s) (ltb lostWord (workerWords (g .edition))) _ _ (λ e. lost-says g ws s says i li (ltb-true _ _ e) _) (λ e. says)
 
 module _ (g : Settings) (ws : List ℕ) (s : State) (says : Says g ws s) (i : ℕ) (li : i < g .workers) where
   pub index-same : getD ws (indexAt (workerAt g i)) 0 ≡ subIn s i

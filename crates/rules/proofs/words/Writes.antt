@@ -8,7 +8,7 @@ use native.Mathlib.Omega.{arith}
 use lib.ListN.{length, getD, set, length-set}
 use lib.Seq.{getD-set-same, getD-set-other, set-getD, length-sets}
 use Rattle.laws.specs.Wrap.{add32}
-use Rattle.rules.specs.Layout.{headWords, kindAt, widthAt, depthAt, shiftAt, rowsAt, workerCountAt, stepsAt, putsAt, topAt, markAt, strideAt, settingsOf, subAt, phaseWord, valueWord, indexWord, windowWord, extraWord, scanWord, seenWord, sumWord, secondAt, workerWords, cellsAt, cellAt, stampAt}
+use Rattle.rules.specs.Layout.{headWords, kindAt, widthAt, depthAt, shiftAt, rowsAt, workerCountAt, stepsAt, putsAt, topAt, markAt, strideAt, editionAt, settingsOf, subAt, phaseWord, valueWord, indexWord, windowWord, extraWord, scanWord, seenWord, sumWord, secondAt, slotWords, cellsAt, cellAt, stampAt}
 use Rattle.rules.specs.Worker.{slotAt, putSlot, wordsOf}
 use Rattle.rules.specs.Held.{itemAt}
 use Rattle.rules.specs.Apply.{putSub, putShifted, putWorker}
@@ -16,7 +16,7 @@ use Rattle.rules.proofs.Types.{Settings, Slot, Effect}
 use Rattle.rules.proofs.words.Lists.{sets-out, sets-in}
 
 -- ---- the head
--- a place that no step and no begin stores into: of a setting, or of word 11
+-- a place that no step and no begin stores into: of a setting
 pub record Still (p : ℕ) : Type 0 where
   pub below : p < headWords
   pub steps : p ≢ stepsAt
@@ -44,21 +44,22 @@ settings-kept ws vs h =
       rows = h rowsAt (still-low _ (omega arith)) u;
       workers = h workerCountAt (still-low _ (omega arith)) u;
       stride = h strideAt (still-high _ (omega arith) (omega arith)) u;
+      edition = h editionAt (still-high _ (omega arith) (omega arith)) u;
     }
 
--- ---- a worker's eight words
+-- ---- a worker's words, but for its failed commits
 pub slot-length : (ws : List ℕ) (at : ℕ) (x : Slot) → length (putSlot ws at x) ≡ length ws
 unfolding putSlot
 slot-length ws at x = length-sets ws at (wordsOf x)
 
-pub slot-off : (ws : List ℕ) (at : ℕ) (x : Slot) (m : ℕ) → (m < at) ⊎ (at + workerWords ≤ m) → getD (putSlot ws at x) m 0 ≡ getD ws m 0
+pub slot-off : (ws : List ℕ) (at : ℕ) (x : Slot) (m : ℕ) → (m < at) ⊎ (at + slotWords ≤ m) → getD (putSlot ws at x) m 0 ≡ getD ws m 0
 unfolding putSlot
 slot-off ws at x m o = sets-out (wordsOf x) ws at m o
 
-pub slot-on : (ws : List ℕ) (at : ℕ) (x : Slot) → at + workerWords ≤ length ws → slotAt (putSlot ws at x) at ≡ x
+pub slot-on : (ws : List ℕ) (at : ℕ) (x : Slot) → at + slotWords ≤ length ws → slotAt (putSlot ws at x) at ≡ x
 unfolding putSlot slotAt
 slot-on ws at x l =
-    let word : (k : ℕ) → k < workerWords → getD (putSlot ws at x) (at + k) 0 ≡ getD (wordsOf x) k 0 = λ k m. sets-in (wordsOf x) ws at k m l in
+    let word : (k : ℕ) → k < slotWords → getD (putSlot ws at x) (at + k) 0 ≡ getD (wordsOf x) k 0 = λ k m. sets-in (wordsOf x) ws at k m l in
     let e : at + 0 ≡ at = omega arith in
     let first : getD (putSlot ws at x) at 0 ≡ x .number = rw e at (word phaseWord (omega arith)) in
     λ u. record {
@@ -72,8 +73,8 @@ slot-on ws at x l =
       sum = word sumWord (omega arith) u;
     }
 
--- a worker whose eight words are as they were
-pub slot-kept : (ws vs : List ℕ) (at : ℕ) → ((k : ℕ) → k < workerWords → getD vs (at + k) 0 ≡ getD ws (at + k) 0) → slotAt vs at ≡ slotAt ws at
+-- a worker whose words are as they were
+pub slot-kept : (ws vs : List ℕ) (at : ℕ) → ((k : ℕ) → k < slotWords → getD vs (at + k) 0 ≡ getD ws (at + k) 0) → slotAt vs at ≡ slotAt ws at
 unfolding slotAt
 slot-kept ws vs at h =
     let e : at + 0 ≡ at = omega arith in
@@ -209,11 +210,11 @@ module _ (ws : List ℕ) (at j : ℕ) (e : Effect) where
   unfolding putWorker
   all-length = slot-length counted at (e .slot) ∙ length-set shared 6 _ ∙ shared-length ws j e
 
-  pub all-off : (m : ℕ) → m ≢ stepsAt → m ≢ putsAt → m ≢ topAt → m ≢ markAt → m ≢ subAt j → m ≢ secondAt j → (m < at) ⊎ (at + workerWords ≤ m) → getD allSet m 0 ≡ getD ws m 0
+  pub all-off : (m : ℕ) → m ≢ stepsAt → m ≢ putsAt → m ≢ topAt → m ≢ markAt → m ≢ subAt j → m ≢ secondAt j → (m < at) ⊎ (at + slotWords ≤ m) → getD allSet m 0 ≡ getD ws m 0
   unfolding putWorker
   all-off m a b c d f h o = slot-off counted at (e .slot) m o ∙ simp getD-set-other
 
-  module _ (above : secondAt j < at) (long : at + workerWords ≤ length ws) where
+  module _ (above : secondAt j < at) (long : at + slotWords ≤ length ws) where
     pub all-steps : getD allSet stepsAt 0 ≡ add32 (getD ws stepsAt 0) 1
     unfolding putWorker
     all-steps =

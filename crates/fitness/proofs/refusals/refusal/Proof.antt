@@ -19,15 +19,15 @@ head-fit-requires : tie.Need-head-fit-requires
 head-fit-requires c κs = search needs
 
 body-refusal-requires : tie.Need-body-refusal-requires
-body-refusal-requires c κs = rw (c .before .before .settings .ensures) (head-bounds _ (sym (c .before .head-fit .ensures) ∙ c .if2 .taken))
+body-refusal-requires c κs = head-bounds _ _ (sym (c .before .head-fit .ensures) ∙ c .if2 .taken)
 
 returns-2 : tie.Need-returns-2
 unfolding checkedOf cond
-returns-2 c = c .body-refusal .ensures ∙ simp (le-ltb _ _ (c .before .before .before .before .if1 .left), sym (c .before .before .head-fit .ensures) ∙ c .before .if2 .taken, c .before .before .before .settings .ensures)
+returns-2 c = c .body-refusal .ensures ∙ simp (le-ltb _ _ (c .before .before .before .before .if1 .left), ← c .before .before .before .settings .ensures, sym (c .before .before .head-fit .ensures) ∙ c .before .if2 .taken)
 
 returns-3 : tie.Need-returns-3
 unfolding checkedOf cond
-returns-3 c = simp (le-ltb _ _ (c .before .before .before .if1 .left), sym (c .before .head-fit .ensures) ∙ c .if2 .left)
+returns-3 c = simp (le-ltb _ _ (c .before .before .before .if1 .left), ← c .before .before .settings .ensures, sym (c .before .head-fit .ensures) ∙ c .if2 .left)
 
 pub refusal-spec : {M : Type 1} → statement M
 refusal-spec =

@@ -8,12 +8,13 @@ use Rattle.rules.specs.Fit.{Checked, Fit, checkedOf}
 use Rattle.rules.specs.Held.{heldBy, heldItems, heldOf}
 use Rattle.rules.specs.declared.Settings.{Settings}
 use Rattle.rules.specs.Layout.{settingsOf}
+use Rattle.rules.specs.Make.{shipped}
 use Rattle.held.proofs.total.items.Statement.{statement}
 use Rattle.held.proofs.total.items.Tie as tie
 
 -- past the test the words are a fit pool
-fit : (c : tie.Else1) → let ws = c .before .before .before .args .words .now in checkedOf ws ≡ Fit (settingsOf ws)
-fit c = refusal-none _ (sym (c .before .refusal .ensures) ∙ c .if1 .left)
+fit : (c : tie.Else1) → let ws = c .before .before .before .args .words .now in checkedOf shipped ws ≡ Fit (settingsOf ws)
+fit c = refusal-none shipped _ (sym (c .before .refusal .ensures) ∙ c .if1 .left)
 
 refusal-requires : tie.Need-refusal-requires
 refusal-requires c κs = search needs
@@ -22,13 +23,13 @@ returns : tie.Need-returns
 unfolding heldOf heldBy
 returns c =
     let ws = c .before .before .before .args .words .now in
-    ap (λ (k : Checked). heldBy ws k) (sym (refusal-some ws (λ z. c .if1 .taken (c .before .refusal .ensures ∙ z))))
+    ap (λ (k : Checked). heldBy ws k) (sym (refusal-some shipped ws (λ z. c .if1 .taken (c .before .refusal .ensures ∙ z))))
 
 settings-requires : tie.Need-settings-requires
-settings-requires c κs = omega (arith, fit-pool _ _ (fit c) .enough)
+settings-requires c κs = omega (arith, fit-pool shipped _ _ (fit c) .enough)
 
 fit-items-requires : tie.Need-fit-items-requires
-fit-items-requires c κs = rw (c .settings .ensures) (fit-pool _ _ (fit (c .before)))
+fit-items-requires c κs = rw (c .settings .ensures) (fit-pool shipped _ _ (fit (c .before)))
 
 returns-2 : tie.Need-returns-2
 unfolding heldOf heldBy

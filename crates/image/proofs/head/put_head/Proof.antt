@@ -40,6 +40,9 @@ slice-write-words-10 c = simp length-set (search needs)
 slice-write-words-11 : tie.Need-slice-write-words-11
 slice-write-words-11 c = simp length-set (search needs)
 
+slice-write-words-12 : tie.Need-slice-write-words-12
+slice-write-words-12 c = simp length-set (search needs)
+
 same-length : tie.Need-same-length
 same-length c = search needs
 
@@ -62,5 +65,6 @@ put-head-spec =
     slice-write-words-9
     slice-write-words-10
     slice-write-words-11
+    slice-write-words-12
     same-length
     returns)

@@ -2,6 +2,7 @@
 use Prim.Native.Nat.{_+_, _*_, _%_, _<_}
 use native.Mathlib.Nat.{mod-lt}
 use native.Mathlib.Omega.{arith}
+use Rattle.rules.proofs.Workers.{cells-low}
 use Rattle.rules.proofs.Cells.{cell-lt, rows-pos}
 use borrow.Author.Needs.{needs}
 use Rattle.image.proofs.places.cell_at.Statement.{statement}
@@ -33,7 +34,9 @@ mul-result : tie.Need-mul-result
 mul-result c = omega (arith, cell-in c)
 
 add-result : tie.Need-add-result
-add-result c = omega (arith, cell-in c)
+add-result c =
+    let s = c .before .before .before in
+    omega (arith, cell-in c, c .sub-cells-at .ensures, cells-low (s .args .g) (s .pre .0), s .pre .0 .cells)
 
 returns : tie.Need-returns
 returns c = (simp (c .sub-cells-at .ensures, c .before .before .minus .ensures) (omega arith), omega (arith, cell-in c))

@@ -3,6 +3,7 @@ use Prim.Native.Nat.{_*_, _≤_}
 use native.Mathlib.Nat.{mul-le-mul-right}
 use native.Mathlib.Omega.{arith}
 use borrow.Author.Needs.{needs}
+use Rattle.rules.proofs.Workers.{cells-low}
 use Rattle.image.proofs.places.sub_cells_at.Statement.{statement}
 use Rattle.image.proofs.places.sub_cells_at.Tie as tie
 
@@ -23,7 +24,7 @@ mul-result-2 : tie.Need-mul-result-2
 mul-result-2 c = omega (arith, cells-before c)
 
 add-result : tie.Need-add-result
-add-result c = omega (arith, cells-before c)
+add-result c = let s = c .before .before in omega (arith, cells-before c, c .before .worker-at .ensures, cells-low (s .args .g) (s .pre .0))
 
 returns : tie.Need-returns
 returns c = search needs

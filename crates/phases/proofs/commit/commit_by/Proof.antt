@@ -17,17 +17,14 @@ returns-2 : tie.Need-returns-2
 unfolding commitBy cond
 returns-2 c = c .refused .ensures ∙ simp (c .before .if2 .left, c .before .before .if1 .taken)
 
-hop-requires : tie.Need-hop-requires
-hop-requires c κs = search needs
-
-restart-requires : tie.Need-restart-requires
-restart-requires c κs = search needs
+lost-requires : tie.Need-lost-requires
+lost-requires c κs = search needs
 
 returns-3 : tie.Need-returns-3
 unfolding commitBy cond
-returns-3 c = c .restart .ensures ∙ simp (c .before .before .if1 .left, c .before .hop .ensures)
+returns-3 c = c .lost .ensures ∙ simp (c .before .if1 .left)
 
 pub commit-by-spec : {M : Type 1} → statement M
 commit-by-spec =
     tie.close
-    (tie.spec returns refused-requires returns-2 hop-requires restart-requires returns-3)
+    (tie.spec returns refused-requires returns-2 lost-requires returns-3)

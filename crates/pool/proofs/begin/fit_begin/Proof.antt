@@ -4,6 +4,7 @@ use borrow.Author.Tests.{le-leb, lt-leb}
 use Rattle.laws.specs.Choice.{cond}
 use Rattle.rules.specs.Begin.{fitBegin}
 use borrow.Author.Needs.{needs}
+use Rattle.rules.proofs.Workers.{worker-lent}
 use Rattle.pool.proofs.begin.fit_begin.Statement.{statement}
 use Rattle.pool.proofs.begin.fit_begin.Tie as tie
 
@@ -15,7 +16,9 @@ worker-at-requires : tie.Need-worker-at-requires
 worker-at-requires c κs = search needs
 
 slot-begin-requires : tie.Need-slot-begin-requires
-slot-begin-requires c κs = search needs
+slot-begin-requires c κs =
+    let s = c .before .before .before .before .before in
+    rw (c .worker-at .ensures) (worker-lent (s .args .g) _ (s .args .i) (c .before .before .if1 .left) (s .pre .enough))
 
 same-length : tie.Need-same-length
 same-length c = search needs

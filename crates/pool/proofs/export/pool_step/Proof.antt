@@ -5,9 +5,9 @@ use Prim.Native.Nat.{ℕ}
 use borrow.Author.Needs.{needs}
 use Rattle.rules.specs.Fit.{Checked}
 use Rattle.rules.specs.Answers.{refuse, returnedOf}
-use Rattle.rules.specs.Layout.{settingsOf}
 use Rattle.rules.specs.Step.{checkedStep, stepOf}
-use Rattle.rules.proofs.Fitness.{fit-pool, refusal-none, refusal-some}
+use Rattle.rules.specs.Make.{shipped}
+use Rattle.rules.proofs.Fitness.{refusal-none, refusal-some}
 use Rattle.pool.proofs.export.pool_step.Statement.{statement}
 use Rattle.pool.proofs.export.pool_step.Tie as tie
 
@@ -27,13 +27,13 @@ returns c =
     let e = c .before .before .before .refusal .ensures in
     let is =
     ap (λ (m : ℕ). refuse m (args .words .now)) e
-    ∙ ap (λ (k : Checked). checkedStep (args .words .now) k (args .worker)) (sym (refusal-some (args .words .now) (λ z. c .before .before .if1 .taken (e ∙ z)))) in
+    ∙ ap (λ (k : Checked). checkedStep (args .words .now) k (args .worker)) (sym (refusal-some shipped (args .words .now) (λ z. c .before .before .if1 .taken (e ∙ z)))) in
     rw (c .answered .ensures .0, c .answered .ensures .1) (ap returnedOf is)
 
 fit-answer-requires : tie.Need-fit-answer-requires
 fit-answer-requires c κs =
     let ws = c .before .before .before .before .before .before .args .words .now in
-    fit-pool ws (settingsOf ws) (refusal-none ws (sym (c .before .before .before .refusal .ensures) ∙ c .before .before .if1 .left))
+    refusal-none shipped ws (sym (c .before .before .before .refusal .ensures) ∙ c .before .before .if1 .left)
 
 same-length-2 : tie.Need-same-length-2
 same-length-2 c = search needs
@@ -42,7 +42,7 @@ returns-2 : tie.Need-returns-2
 unfolding stepOf checkedStep
 returns-2 c =
     let args = c .before .before .before .before .before .before .before .before .before .args in
-    let is = ap (λ (k : Checked). checkedStep (args .words .now) k (args .worker)) (sym (refusal-none (args .words .now) (sym (c .before .before .before .before .before .before .refusal .ensures) ∙ c .before .before .before .before .before .if1 .left))) in
+    let is = ap (λ (k : Checked). checkedStep (args .words .now) k (args .worker)) (sym (refusal-none shipped (args .words .now) (sym (c .before .before .before .before .before .before .refusal .ensures) ∙ c .before .before .before .before .before .if1 .left))) in
     c .before .before .fit-answer .ensures ∙ ap returnedOf is
 
 pub pool-step-spec : {M : Type 1} → statement M

@@ -5,6 +5,7 @@ use mathlib.Core.List.{List}
 use Prim.Native.Nat.{ℕ, _%_, _-_, _≤_}
 use borrow.Author.Needs.{needs}
 use native.Mathlib.Omega.{arith}
+use Rattle.rules.proofs.Workers.{worker-lent}
 use Rattle.rules.proofs.Making.{indexed-more, indexed-none}
 use Rattle.rules.specs.Make.{indexed}
 use Rattle.rules.specs.Layout.{workerAt, indexAt}
@@ -27,7 +28,10 @@ rem-put-index : tie.Need-rem-put-index Inv-loop μ-loop
 rem-put-index c = search needs
 
 put-index-requires : tie.Need-put-index-requires Inv-loop μ-loop
-put-index-requires c κs = search needs
+put-index-requires c κs =
+    let s = c .before .before .before .before .before .before .before in
+    let l = c .before .before .before .before .before .loop in
+    search (needs, worker-lent (s .args .g) (s .args .words .now) (l .i) (c .before .before .before .if1 .taken) (s .pre .1))
 
 add-i : tie.Need-add-i Inv-loop μ-loop
 add-i c = search needs

@@ -16,11 +16,20 @@ put-worker-requires c κs = search needs
 enum-told-2 : tie.Need-enum-told-2
 enum-told-2 c = search needs
 
-put-shifted-requires : tie.Need-put-shifted-requires
-put-shifted-requires c κs = search needs
+count-lost-requires : tie.Need-count-lost-requires
+count-lost-requires c κs = search needs
 
 put-worker-requires-2 : tie.Need-put-worker-requires-2
 put-worker-requires-2 c κs = search needs
+
+enum-told-3 : tie.Need-enum-told-3
+enum-told-3 c = search needs
+
+put-shifted-requires : tie.Need-put-shifted-requires
+put-shifted-requires c κs = search needs
+
+put-worker-requires-3 : tie.Need-put-worker-requires-3
+put-worker-requires-3 c κs = search needs
 
 enum-known-outcome-2 : tie.Need-enum-known-outcome-2
 enum-known-outcome-2 c = search needs
@@ -28,8 +37,8 @@ enum-known-outcome-2 c = search needs
 put-landed-requires : tie.Need-put-landed-requires
 put-landed-requires c κs = search needs
 
-put-worker-requires-3 : tie.Need-put-worker-requires-3
-put-worker-requires-3 c κs = search needs
+put-worker-requires-4 : tie.Need-put-worker-requires-4
+put-worker-requires-4 c κs = search needs
 
 enum-known-outcome-3 : tie.Need-enum-known-outcome-3
 enum-known-outcome-3 c = search needs
@@ -40,12 +49,6 @@ taken-requires c κs = search needs
 put-sub-requires : tie.Need-put-sub-requires
 put-sub-requires c κs = search needs
 
-put-worker-requires-4 : tie.Need-put-worker-requires-4
-put-worker-requires-4 c κs = search needs
-
-enum-told-3 : tie.Need-enum-told-3
-enum-told-3 c = search needs
-
 put-worker-requires-5 : tie.Need-put-worker-requires-5
 put-worker-requires-5 c κs = search needs
 
@@ -54,6 +57,12 @@ enum-told-4 c = search needs
 
 put-worker-requires-6 : tie.Need-put-worker-requires-6
 put-worker-requires-6 c κs = search needs
+
+enum-told-5 : tie.Need-enum-told-5
+enum-told-5 c = search needs
+
+put-worker-requires-7 : tie.Need-put-worker-requires-7
+put-worker-requires-7 c κs = search needs
 
 returns : tie.Need-returns
 unfolding applyOf applyBy
@@ -71,28 +80,28 @@ same-length-2 c = search needs
 
 returns-3 : tie.Need-returns-3
 unfolding applyOf applyBy
-returns-3 c = simp (c .before .before .put-worker2 .ensures, c .before .before .before .before .before .before .put-shifted .ensures, c .before .before .before .before .before .before .before .before .enum-told2 .given .1)
+returns-3 c = simp (c .before .before .put-worker2 .ensures, c .before .before .before .before .before .before .count-lost .ensures, c .before .before .before .before .before .before .before .before .enum-told2 .given .1)
 
 same-length-3 : tie.Need-same-length-3
 same-length-3 c = search needs
 
 returns-4 : tie.Need-returns-4
 unfolding applyOf applyBy
-returns-4 c = simp (c .before .before .put-worker3 .ensures, c .before .before .before .before .before .before .put-landed .ensures, c .before .before .before .before .before .before .before .before .before .outcome2 .given .1)
+returns-4 c = simp (c .before .before .put-worker3 .ensures, c .before .before .before .before .before .before .put-shifted .ensures, c .before .before .before .before .before .before .before .before .enum-told3 .given .1)
 
 same-length-4 : tie.Need-same-length-4
 same-length-4 c = search needs
 
 returns-5 : tie.Need-returns-5
 unfolding applyOf applyBy
-returns-5 c = simp (c .before .before .put-worker4 .ensures, c .before .before .before .before .before .before .put-sub .ensures, c .before .before .before .before .before .before .before .before .taken .ensures, c .before .before .before .before .before .before .before .before .before .before .before .outcome3 .given .1)
+returns-5 c = simp (c .before .before .put-worker4 .ensures, c .before .before .before .before .before .before .put-landed .ensures, c .before .before .before .before .before .before .before .before .before .outcome2 .given .1)
 
 same-length-5 : tie.Need-same-length-5
 same-length-5 c = search needs
 
 returns-6 : tie.Need-returns-6
 unfolding applyOf applyBy
-returns-6 c = simp (c .before .before .put-worker5 .ensures, c .before .before .before .before .enum-told3 .given .1)
+returns-6 c = simp (c .before .before .put-worker5 .ensures, c .before .before .before .before .before .before .put-sub .ensures, c .before .before .before .before .before .before .before .before .taken .ensures, c .before .before .before .before .before .before .before .before .before .before .before .outcome3 .given .1)
 
 same-length-6 : tie.Need-same-length-6
 same-length-6 c = search needs
@@ -100,6 +109,13 @@ same-length-6 c = search needs
 returns-7 : tie.Need-returns-7
 unfolding applyOf applyBy
 returns-7 c = simp (c .before .before .put-worker6 .ensures, c .before .before .before .before .enum-told4 .given .1)
+
+same-length-7 : tie.Need-same-length-7
+same-length-7 c = search needs
+
+returns-8 : tie.Need-returns-8
+unfolding applyOf applyBy
+returns-8 c = simp (c .before .before .put-worker7 .ensures, c .before .before .before .before .enum-told5 .given .1)
 
 pub apply-spec : {M : Type 1} → statement M
 apply-spec =
@@ -109,19 +125,22 @@ apply-spec =
     enum-told
     put-worker-requires
     enum-told-2
-    put-shifted-requires
+    count-lost-requires
     put-worker-requires-2
+    enum-told-3
+    put-shifted-requires
+    put-worker-requires-3
     enum-known-outcome-2
     put-landed-requires
-    put-worker-requires-3
+    put-worker-requires-4
     enum-known-outcome-3
     taken-requires
     put-sub-requires
-    put-worker-requires-4
-    enum-told-3
     put-worker-requires-5
     enum-told-4
     put-worker-requires-6
+    enum-told-5
+    put-worker-requires-7
     returns
     same-length
     returns-2
@@ -134,4 +153,6 @@ apply-spec =
     same-length-5
     returns-6
     same-length-6
-    returns-7)
+    returns-7
+    same-length-7
+    returns-8)

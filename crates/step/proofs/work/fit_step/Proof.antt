@@ -4,6 +4,7 @@ use borrow.Author.Tests.{le-leb, lt-leb}
 use Rattle.laws.specs.Choice.{cond}
 use Rattle.rules.specs.Step.{fitStep}
 use borrow.Author.Needs.{needs}
+use Rattle.rules.proofs.Workers.{worker-lent}
 use Rattle.step.proofs.work.fit_step.Statement.{statement}
 use Rattle.step.proofs.work.fit_step.Tie as tie
 
@@ -17,7 +18,8 @@ worker-at-requires c κs = search needs
 slot-step-requires : tie.Need-slot-step-requires
 slot-step-requires c κs =
     let s = c .before .before .before .before .before in
-    (s .pre, (search needs, rw (c .worker-at .ensures) (s .pre .index (s .args .i) (c .before .before .if1 .left))))
+    let l = c .before .before .if1 .left in
+    (s .pre, (rw (c .worker-at .ensures) (worker-lent (s .args .g) _ (s .args .i) l (s .pre .enough)), rw (c .worker-at .ensures) (s .pre .index (s .args .i) l)))
 
 same-length : tie.Need-same-length
 same-length c = search needs
