@@ -1,8 +1,8 @@
 //! The check of a fit pool, and its words in parts.
 
 use crate::{Header, Worker};
-use second::layout::{self, HEADER_WORDS};
-use second::{Settings, QUEUE, TOO_SHORT, UNFIT};
+use second::layout::{self, HEADER_WORDS, WORKER_WORDS};
+use second::{Settings, CURRENT_EDITION, QUEUE, TOO_SHORT, UNFIT};
 
 /// Bits of the phases of each kind: 0 to 6 and 9 to 14; queues have no 3, 6
 /// or 11.
@@ -22,7 +22,7 @@ pub fn admit(words: &mut [u32]) -> Result<Parts<'_>, u32> {
         return Err(TOO_SHORT);
     };
     let settings = Settings::of_words(header);
-    if !settings.within_limits() || header[layout::ZERO] != 0 {
+    if !settings.within_limits() || header[layout::EDITION] != CURRENT_EDITION {
         return Err(UNFIT);
     }
     let needed = settings.needed_words();
@@ -30,7 +30,7 @@ pub fn admit(words: &mut [u32]) -> Result<Parts<'_>, u32> {
         return Err(TOO_SHORT);
     }
     let (subs, rest) = rest.split_at_mut(2 * settings.width as usize);
-    let (workers, rest) = rest.split_at_mut(8 * settings.workers as usize);
+    let (workers, rest) = rest.split_at_mut(WORKER_WORDS * settings.workers as usize);
     let cells = &mut rest[..needed - settings.cells_at()];
     let parts = Parts {
         header,

@@ -13,10 +13,10 @@ mod stack;
 use admit::{admit, Parts};
 pub use dispatch::dispatch;
 use second::layout::{self, HEADER_WORDS, INDEX, PHASE, PUTS_MADE, STEPS_COUNTED, SUM, VALUE};
-use second::layout::{STRIDE, WORKER_WORDS};
-use second::TOO_SHORT;
+use second::layout::{EDITION, FAILED_COMMITS, STRIDE, WORKER_WORDS};
 use second::{Answer, Settings};
 use second::{BUSY, IDLE, MOVING, NO_WORKER, OFF_LIMITS, PUT, QUEUE, SPENT, STEP_LIMIT, TAKEN};
+use second::{CURRENT_EDITION, TOO_SHORT};
 
 type Header = [u32; HEADER_WORDS];
 type Worker = [u32; WORKER_WORDS];
@@ -46,6 +46,7 @@ pub fn make(words: &mut [u32], settings: Settings) -> Answer {
     words[layout::PUT_WINDOW] = depth;
     words[layout::TAKE_WINDOW] = take_window;
     words[STRIDE] = stride;
+    words[EDITION] = CURRENT_EDITION;
     let all = &mut words[settings.workers_at()..settings.cells_at()];
     for (i, worker) in all.chunks_exact_mut(WORKER_WORDS).enumerate() {
         worker[INDEX] = i as u32 % width;
@@ -75,7 +76,7 @@ fn begin(words: &mut [u32], number: u32, phase: u32, value: u32) -> Answer {
     if parts.header[STEPS_COUNTED] >= STEP_LIMIT {
         return Answer::of(SPENT);
     }
-    *worker = [phase, value, worker[INDEX], 0, 0, 0, 0, 0];
+    *worker = cleared(worker, phase, value);
     Answer::of(MOVING)
 }
 
@@ -106,8 +107,14 @@ pub fn step(words: &mut [u32], number: u32) -> Answer {
 
 /// The idle worker that a final answer leaves.
 fn idle(worker: &mut Worker, answer: Answer) -> Answer {
-    *worker = [0, 0, worker[INDEX], 0, 0, 0, 0, 0];
+    *worker = cleared(worker, 0, 0);
     answer
+}
+
+/// With this phase and value; it keeps its index and its failed commits.
+fn cleared(worker: &Worker, phase: u32, value: u32) -> Worker {
+    let failed_commits = worker[FAILED_COMMITS];
+    [phase, value, worker[INDEX], 0, 0, 0, 0, 0, failed_commits]
 }
 
 fn next_index(worker: &mut Worker, width: usize) {
@@ -123,8 +130,8 @@ fn scanned_all(worker: &mut Worker, width: usize) -> bool {
     all
 }
 
-/// A commit that another one came before: a hop by the stride, where 0 stands
-/// for 1.
+/// A commit that another one came before is counted, and hops by the stride,
+/// where 0 stands for 1.
 fn lost(parts: &mut Parts, number: usize, restart: u32) -> Answer {
     let width = parts.subs.len() as u32;
     let worker = &mut parts.workers[number];
@@ -134,6 +141,7 @@ fn lost(parts: &mut Parts, number: usize, restart: u32) -> Answer {
     } else {
         hopped - width
     };
+    worker[FAILED_COMMITS] = worker[FAILED_COMMITS].wrapping_add(1);
     worker[PHASE] = restart;
     Answer::of(MOVING)
 }

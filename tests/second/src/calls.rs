@@ -2,6 +2,7 @@
 
 use crate::answer::TOO_SHORT;
 use crate::answer::{Answer, BUSY, IDLE, MOVING, NO_WORKER, OFF_LIMITS, SPENT, STEP_LIMIT};
+use crate::pool::edition::CURRENT_EDITION;
 use crate::pool::fit::fit;
 use crate::pool::phase::{self, Side, Stage};
 use crate::pool::settings::{Settings, QUEUE};
@@ -9,7 +10,8 @@ use crate::pool::{layout, Pool, Worker};
 use crate::stages;
 
 /// Paper 01, "Make sets P = T = d, or G = d; worker i has index i mod w; all
-/// other needed words but the settings are zero". Refusals: 22, then 21.
+/// other needed words but the settings are zero", and K5's edition. Refusals:
+/// 22, then 21.
 pub fn make(words: &mut [u32], settings: Settings) -> Answer {
     if !settings.within_limits() {
         return Answer::of(OFF_LIMITS);
@@ -25,6 +27,7 @@ pub fn make(words: &mut [u32], settings: Settings) -> Answer {
     words[layout::ROWS] = settings.rows;
     words[layout::WORKERS] = settings.workers;
     words[layout::STRIDE] = settings.stride;
+    words[layout::EDITION] = CURRENT_EDITION;
     if settings.kind == QUEUE {
         words[layout::PUT_WINDOW] = settings.depth;
         words[layout::TAKE_WINDOW] = settings.depth;
@@ -33,7 +36,11 @@ pub fn make(words: &mut [u32], settings: Settings) -> Answer {
     }
     let mut pool = Pool { words, settings };
     for i in 0..settings.workers {
-        pool.set_worker(i, Worker::idle_at(i % settings.width));
+        let made = Worker {
+            index: i % settings.width,
+            ..Worker::default()
+        };
+        pool.set_worker(i, made);
     }
     Answer::of(MOVING)
 }
@@ -47,7 +54,7 @@ pub fn begin_take(words: &mut [u32], number: u32) -> Answer {
 }
 
 /// "Begin sets the value (0 for a take), phase 1 or 9, other words zero, index
-/// kept." A begin is no step: the step count stays.
+/// kept", and the failed commits. A begin is no step: the step count stays.
 fn begin(words: &mut [u32], number: u32, side: Side, value: u32) -> Answer {
     let mut pool = match admitted(words, number, false) {
         Ok(pool) => pool,
@@ -56,7 +63,7 @@ fn begin(words: &mut [u32], number: u32, side: Side, value: u32) -> Answer {
     let begun = Worker {
         phase: side.phase(Stage::Window),
         value,
-        ..Worker::idle_at(pool.worker(number).index)
+        ..pool.worker(number).idle()
     };
     pool.set_worker(number, begun);
     Answer::of(MOVING)
@@ -74,7 +81,7 @@ pub fn step(words: &mut [u32], number: u32) -> Answer {
         return answer;
     }
     if answer.is_final() {
-        worker = Worker::idle_at(worker.index);
+        worker = worker.idle();
     }
     pool.set_worker(number, worker);
     // "A step not refused adds 1 to the step count", which is below its limit.

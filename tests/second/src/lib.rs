@@ -25,6 +25,7 @@ pub use calls::{begin_put, begin_take, make, step};
 pub use dispatch::{dispatch, dispatch_watched, Dispatched, Returned, NONE_BUSY, RAN_OUT};
 pub use listing::{list, ABOVE_BOUND, CUT, OUT_OF_PLACE};
 pub use one_at_a_time::{one_at_a_time, AtLast, Event, Placed, Unchanging};
+pub use pool::edition::CURRENT_EDITION;
 pub use pool::segments::segments;
 pub use pool::settings::{Settings, QUEUE, STACK};
 pub use pool::{layout, phase};

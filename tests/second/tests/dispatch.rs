@@ -84,7 +84,7 @@ fn refusals_before_the_first_turn() {
                 refused_unchanged(&mut [], named, count, TOO_SHORT);
             }
         }
-        words[layout::ZERO] = 1;
+        words[layout::EDITION] = 0;
         for count in [0, 1, TOP] {
             for named in [0, 3, TOP] {
                 refused_unchanged(&mut words, named, count, UNFIT);

@@ -9,19 +9,19 @@ const JUNK: u32 = 0x5eed_5eed;
 
 #[test]
 fn every_needed_word_and_none_beyond() {
-    // w 2, d 2, R 4, n 3: 12 + 4 + 24 + 16 words.
-    let of_queue = [0, 2, 2, 2, 4, 3, 0, 0, 2, 2, 0, 0];
-    let of_stack = [1, 2, 2, 1, 4, 3, 0, 0, 2, 0, 1, 0];
+    // w 2, d 2, R 4, n 3: 12 + 4 + 27 + 16 words.
+    let of_queue = [0, 2, 2, 2, 4, 3, 0, 0, 2, 2, 0, 1];
+    let of_stack = [1, 2, 2, 1, 4, 3, 0, 0, 2, 0, 1, 1];
     for (settings, header) in [
         (queue(2, 2, 4, 3), of_queue),
         (strided(1, stack(2, 2, 1, 4, 3)), of_stack),
     ] {
-        let mut expected = vec![0; 56];
+        let mut expected = vec![0; 59];
         expected[..12].copy_from_slice(&header);
         // Worker i has index i mod w: of three, only worker 1 has index 1.
-        expected[12 + 4 + 8 + 2] = 1;
+        expected[12 + 4 + 9 + 2] = 1;
         expected.extend([JUNK; 5]);
-        let mut words = vec![JUNK; 61];
+        let mut words = vec![JUNK; 64];
         assert_eq!(make(&mut words, settings), Answer::of(MOVING));
         assert_eq!(words, expected);
     }
@@ -71,6 +71,15 @@ fn limits() {
         // 22 stands before 21.
         assert_eq!(number(settings, 9000), OFF_LIMITS, "{settings:?}");
         assert_eq!(number(settings, 0), OFF_LIMITS, "{settings:?}");
+    }
+}
+
+#[test]
+fn the_largest_pool() {
+    for settings in [queue(16, 64, 256, 32), stack(16, 64, 64, 256, 32)] {
+        assert_eq!(settings.needed_words(), 8524);
+        assert_eq!(number(settings, 8524), MOVING);
+        assert_eq!(number(settings, 8523), TOO_SHORT);
     }
 }
 

@@ -46,7 +46,7 @@ fn refusals_stand_in_their_order() {
     refused_unchanged(&mut words, 1, UNFIT);
     let short = settings.needed_words() - 1;
     refused_unchanged(&mut words[..short], 1, TOO_SHORT);
-    words[layout::ZERO] = 1;
+    words[layout::EDITION] = 0;
     refused_unchanged(&mut words[..short], 1, UNFIT);
     refused_unchanged(&mut words[..12], 1, UNFIT);
     refused_unchanged(&mut words[..11], 1, TOO_SHORT);

@@ -1,4 +1,5 @@
-//! Paper 01, Runs by hand: a test for each of them, in its order.
+//! Paper 01, Runs by hand, the first with K5's numbers: a test for each of them,
+//! in its order.
 
 mod common;
 
@@ -13,16 +14,16 @@ fn make_number(settings: Settings, len: usize) -> u32 {
 #[test]
 fn needed_words() {
     for settings in [queue(2, 1, 4, 2), queue(2, 2, 4, 2), stack(2, 2, 1, 4, 2)] {
-        assert_eq!(settings.needed_words(), 48);
-        assert_eq!(make_number(settings, 48), MOVING);
-        assert_eq!(make_number(settings, 47), TOO_SHORT);
+        assert_eq!(settings.needed_words(), 50);
+        assert_eq!(make_number(settings, 50), MOVING);
+        assert_eq!(make_number(settings, 49), TOO_SHORT);
     }
 }
 
 #[test]
 fn limits_of_width_and_rows() {
-    assert_eq!(make_number(queue(16, 1, 256, 1), 8492), MOVING);
-    assert_eq!(make_number(stack(16, 1, 1, 256, 1), 8492), MOVING);
+    assert_eq!(make_number(queue(16, 1, 256, 1), 10_000), MOVING);
+    assert_eq!(make_number(stack(16, 1, 1, 256, 1), 10_000), MOVING);
     assert_eq!(make_number(queue(16, 1, 257, 1), 10_000), OFF_LIMITS);
     assert_eq!(make_number(stack(16, 1, 1, 257, 1), 10_000), OFF_LIMITS);
     assert_eq!(make_number(queue(17, 1, 2, 1), 10_000), OFF_LIMITS);

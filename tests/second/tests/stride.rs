@@ -8,7 +8,7 @@ use common::states::CALLS;
 use common::{finish, made, put_answer, queue, stack, strided, Numbers};
 use second::phase::{decode, Side, Stage};
 use second::{begin_put, layout, make, step, Answer, Settings};
-use second::{MOVING, OFF_LIMITS, TOO_SHORT, UNFIT};
+use second::{CURRENT_EDITION, MOVING, OFF_LIMITS, TOO_SHORT, UNFIT};
 
 /// Strides within and off the limits of every width.
 fn strides() -> impl Iterator<Item = u32> {
@@ -65,14 +65,14 @@ fn limits_of_word_10() {
         let short = words.len() - 1;
         for stride in strides() {
             words[layout::STRIDE] = stride;
-            words[layout::ZERO] = 0;
+            words[layout::EDITION] = CURRENT_EDITION;
             let fits = stride < settings.width;
             let or_unfit = |number| if fits { number } else { UNFIT };
             assert_eq!(number(&words), or_unfit(MOVING), "{stride}");
             assert_eq!(number(&words[..short]), or_unfit(TOO_SHORT), "{stride}");
             assert_eq!(number(&words[..12]), or_unfit(TOO_SHORT), "{stride}");
             assert_eq!(number(&words[..11]), TOO_SHORT, "{stride}");
-            words[layout::ZERO] = 1;
+            words[layout::EDITION] = 0;
             assert_eq!(number(&words), UNFIT, "{stride}");
             assert_eq!(number(&words[..12]), UNFIT, "{stride}");
         }
@@ -94,6 +94,7 @@ fn a_commit_that_failed_hops() {
                 expected[at + layout::PHASE] = side.phase(Stage::Window);
                 let hopped = index + settings.stride.max(1);
                 expected[at + layout::INDEX] = hopped % settings.width;
+                expected[at + layout::FAILED_COMMITS] = 1;
                 assert_eq!(step(&mut words, 0), Answer::of(MOVING));
                 assert_eq!(words, expected, "{settings:?}, {side:?}");
             }

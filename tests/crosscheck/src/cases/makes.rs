@@ -29,11 +29,11 @@ pub fn with(rng: &mut Rng, settings: Settings, checks: &mut Checks) -> Result<()
 
 /// Around the needed words, around 12, or any; off limits, where no number of
 /// words is needed, enough for any pool or few.
-fn length(rng: &mut Rng, settings: &Settings) -> usize {
-    let needed = if settings.within_limits() {
-        settings.needed_words()
+fn length(rng: &mut Rng, wanted: &Settings) -> usize {
+    let needed = if wanted.within_limits() {
+        wanted.needed_words()
     } else {
-        rng.pick(&[100, 8492])
+        rng.pick(&[100, settings::LARGEST.needed_words()])
     };
     match rng.below(6) {
         0 => rng.below(14) as usize,

@@ -7,7 +7,7 @@ use super::settings::{within, Size};
 use super::values::Values;
 use crate::rng::Rng;
 use second::phase;
-use second::{layout, Settings, QUEUE};
+use second::{layout, Settings, CURRENT_EDITION, QUEUE};
 
 /// A fit one more often than not.
 pub fn any(rng: &mut Rng) -> Vec<u32> {
@@ -111,7 +111,7 @@ fn header(rng: &mut Rng, settings: &Settings, words: &mut [u32]) {
     words[layout::WORKERS] = settings.workers;
     words[layout::STEPS_COUNTED] = junk::step_count(rng);
     words[layout::STRIDE] = settings.stride;
-    words[layout::ZERO] = 0;
+    words[layout::EDITION] = CURRENT_EDITION;
     windows(rng, settings, words);
 }
 

@@ -8,6 +8,17 @@ use std::ops::Range;
 /// Within and off the limits of each width.
 pub const STRIDES: Range<u32> = 0..17;
 
+/// No pool needs more words.
+pub const LARGEST: Settings = Settings {
+    kind: QUEUE,
+    width: 16,
+    depth: 64,
+    shift: 64,
+    rows: 256,
+    workers: 32,
+    stride: 0,
+};
+
 #[derive(Clone, Copy, PartialEq, Eq)]
 pub enum Size {
     Small,

@@ -1,5 +1,6 @@
 //! Paper 01, Fit, in the order of its refusals (Returned by the calls, Order).
 
+use super::edition::CURRENT_EDITION;
 use super::layout;
 use super::phase;
 use super::settings::{Settings, QUEUE};
@@ -7,14 +8,14 @@ use super::view::Pool;
 use crate::answer::{TOO_SHORT, UNFIT};
 
 /// The pool in these words, or the number of the refusal: 21 for 12 words, 23
-/// for the settings, word 10 among them, and word 11, 21 for the needed words,
-/// 23 for subs and workers.
+/// for the settings, word 10 among them, and the edition, 21 for the needed
+/// words, 23 for subs and workers.
 pub(crate) fn fit(words: &mut [u32]) -> Result<Pool<'_>, u32> {
     if words.len() < layout::HEADER_WORDS {
         return Err(TOO_SHORT);
     }
     let settings = Settings::of_words(words);
-    if !settings.within_limits() || words[layout::ZERO] != 0 {
+    if !settings.within_limits() || words[layout::EDITION] != CURRENT_EDITION {
         return Err(UNFIT);
     }
     if words.len() < settings.needed_words() {

@@ -19,7 +19,7 @@ pub const WINDOW: usize = 8;
 pub const WINDOW_VERSION: usize = 9;
 
 pub const STRIDE: usize = 10;
-pub const ZERO: usize = 11;
+pub const EDITION: usize = 11;
 pub const HEADER_WORDS: usize = 12;
 
 /// Two words per sub. Queue: items put and items taken.
@@ -30,7 +30,7 @@ pub const ITEMS_HELD: usize = 0;
 pub const VERSION: usize = 1;
 pub const SUB_WORDS: usize = 2;
 
-/// Eight words per worker.
+/// Nine words per worker.
 pub const PHASE: usize = 0;
 pub const VALUE: usize = 1;
 pub const INDEX: usize = 2;
@@ -39,7 +39,9 @@ pub const EXTRA: usize = 4;
 pub const SCAN: usize = 5;
 pub const SEEN: usize = 6;
 pub const SUM: usize = 7;
-pub const WORKER_WORDS: usize = 8;
+/// K5: since make.
+pub const FAILED_COMMITS: usize = 8;
+pub const WORKER_WORDS: usize = 9;
 
 /// Two words per cell.
 pub const CELL_VALUE: usize = 0;

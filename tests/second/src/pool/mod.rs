@@ -1,5 +1,6 @@
 //! Paper 01, The pool's words.
 
+pub mod edition;
 pub(crate) mod fit;
 pub mod layout;
 pub mod phase;

@@ -51,7 +51,7 @@ impl Settings {
         self.shift == self.depth && self.rows.is_multiple_of(self.depth)
     }
 
-    /// 12 + 2w + 8n + 2wR, of settings within limits.
+    /// 12 + 2w + 9n + 2wR, of settings within limits.
     pub fn needed_words(&self) -> usize {
         self.cells_at() + layout::CELL_WORDS * self.width as usize * self.rows as usize
     }

@@ -1,4 +1,4 @@
-//! A worker's eight words, read and written as a whole.
+//! A worker's nine words, read and written as a whole.
 
 use super::layout;
 
@@ -12,14 +12,17 @@ pub(crate) struct Worker {
     pub scan: u32,
     pub seen: u32,
     pub sum: u32,
+    pub failed_commits: u32,
 }
 
 impl Worker {
     /// "After a final answer the worker is idle, all its words zero but the
-    /// index"; a begin starts from the same words.
-    pub fn idle_at(index: u32) -> Worker {
+    /// index"; a begin starts from the same words. K5: the failed commits survive
+    /// both.
+    pub fn idle(self) -> Worker {
         Worker {
-            index,
+            index: self.index,
+            failed_commits: self.failed_commits,
             ..Worker::default()
         }
     }
@@ -34,6 +37,7 @@ impl Worker {
             scan: words[layout::SCAN],
             seen: words[layout::SEEN],
             sum: words[layout::SUM],
+            failed_commits: words[layout::FAILED_COMMITS],
         }
     }
 
@@ -46,5 +50,6 @@ impl Worker {
         words[layout::SCAN] = self.scan;
         words[layout::SEEN] = self.seen;
         words[layout::SUM] = self.sum;
+        words[layout::FAILED_COMMITS] = self.failed_commits;
     }
 }

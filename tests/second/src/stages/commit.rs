@@ -9,6 +9,7 @@ use crate::pool::{layout, Pool, Worker};
 pub(super) fn commit(pool: &mut Pool, worker: &mut Worker, side: Side) -> Answer {
     if now(pool, worker.index, side) != worker.seen {
         hop(pool, worker);
+        count_failed(worker);
         restart(worker, side);
         return Answer::of(MOVING);
     }
@@ -25,6 +26,11 @@ pub(super) fn commit(pool: &mut Pool, worker: &mut Worker, side: Side) -> Answer
 fn hop(pool: &Pool, worker: &mut Worker) {
     let stride = pool.settings.stride.max(1);
     worker.index = (worker.index + stride) % pool.settings.width;
+}
+
+/// K5: "its failed commits since make", which "counts modulo 2^32".
+fn count_failed(worker: &mut Worker) {
+    worker.failed_commits = worker.failed_commits.wrapping_add(1);
 }
 
 /// Items put (queue put), items taken (queue take) or the version (stack).

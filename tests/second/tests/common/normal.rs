@@ -2,7 +2,7 @@
 //! pools from make with the same normal words answer the same later calls with
 //! the same numbers, and have the same normal words afterwards.
 //!
-//! What no later step reads is zero. A queue's counts and windows and a stack's
+//! What no later step goes by is zero. A queue's counts and windows and a stack's
 //! versions only grow, and a step only compares them or adds up a pass of
 //! them; so they come down again, with all that the workers have seen of them.
 

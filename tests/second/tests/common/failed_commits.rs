@@ -1,0 +1,47 @@
+//! The ninth words (K5), and whether a commit fails, by the words before it.
+
+use second::{layout, Settings, QUEUE};
+
+/// The places of the ninth words, by worker.
+pub fn ninth_words(settings: &Settings) -> impl Iterator<Item = usize> {
+    let workers = settings.workers_at()..settings.cells_at();
+    workers
+        .skip(layout::FAILED_COMMITS)
+        .step_by(layout::WORKER_WORDS)
+}
+
+pub fn failed_commits(words: &[u32]) -> Vec<u32> {
+    let settings = Settings::of_words(words);
+    ninth_words(&settings).map(|at| words[at]).collect()
+}
+
+pub fn set_failed_commits(words: &mut [u32], all: impl IntoIterator<Item = u32>) {
+    let settings = Settings::of_words(words);
+    for (at, failed) in ninth_words(&settings).zip(all) {
+        words[at] = failed;
+    }
+}
+
+pub fn phase(words: &[u32], worker: u32) -> u32 {
+    worker_words(words, worker)[layout::PHASE]
+}
+
+/// Whether the worker stands before a commit that finds another count (queue) or
+/// version (stack) than the one seen. Commit is phase 4 of a put, 12 of a take.
+pub fn commit_fails(words: &[u32], worker: u32) -> bool {
+    let settings = Settings::of_words(words);
+    let worker = worker_words(words, worker);
+    let sub = &words[settings.subs_at() + layout::SUB_WORDS * worker[layout::INDEX] as usize..];
+    let found = match (worker[layout::PHASE], settings.kind) {
+        (4, QUEUE) => sub[layout::ITEMS_PUT],
+        (12, QUEUE) => sub[layout::ITEMS_TAKEN],
+        (4 | 12, _) => sub[layout::VERSION],
+        _ => return false,
+    };
+    found != worker[layout::SEEN]
+}
+
+fn worker_words(words: &[u32], worker: u32) -> &[u32] {
+    let workers_at = Settings::of_words(words).workers_at();
+    &words[workers_at + layout::WORKER_WORDS * worker as usize..][..layout::WORKER_WORDS]
+}
