@@ -84,6 +84,11 @@ impl SideBySide {
         self.second.lent()
     }
 
+    /// Those before the last call.
+    pub fn words_before(&self) -> &[u32] {
+        &self.before
+    }
+
     pub fn call(&mut self, call: Call, checks: &mut Checks) -> Result<Answer, Failure> {
         self.before.copy_from_slice(self.second.lent());
         let answer = SECOND.call(self.second.lend(), call);

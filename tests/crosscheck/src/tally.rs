@@ -2,7 +2,8 @@
 
 use crate::cases::files::Lister;
 use crate::cases::runs::Runs;
-use crate::cases::{dispatch, images, makes, scripts, segments, solo, spacers, stretch, strides};
+use crate::cases::{collisions, dispatch, images, makes, scripts, segments};
+use crate::cases::{solo, spacers, stretch, strides};
 use crate::coverage::Coverage;
 use crate::failure::Failure;
 use crate::options::Options;
@@ -14,14 +15,14 @@ use std::time::{Duration, Instant};
 
 /// Cases that are run however short the time is. They reach all there is to
 /// reach but for few seeds, which ask for more time (one of the first sixty).
-const LEAST_CASES: u64 = 400;
+const LEAST_CASES: u64 = 420;
 /// Images, makes and most scripts are short: a case has this many of them.
 const IMAGES: u64 = 160;
 const MAKES: u64 = 40;
 const SCRIPTS: u64 = 6;
 /// Which cases are of which sort goes by their number modulo this: most are
 /// runs, which say the most, and a case of run files takes as long as twenty.
-const SORTS: u64 = 20;
+const SORTS: u64 = 21;
 const RUN_FILES: u64 = 4;
 const OF_SCRIPTS: u64 = 5;
 const SOLO: u64 = 6;
@@ -30,6 +31,7 @@ const STRETCH: u64 = 8;
 const STRIDES: u64 = 9;
 const SEGMENTS: u64 = 10;
 const SPACERS: u64 = 11;
+const COLLISIONS: u64 = 12;
 
 pub struct Tally {
     checks: Checks,
@@ -117,6 +119,7 @@ impl Tally {
             STRIDES => strides::run(rng, width_in_turn(case), &mut self.checks)?,
             SEGMENTS => segments::run(rng, width_in_turn(case), &mut self.checks)?,
             SPACERS => spacers::run(rng, &mut self.checks)?,
+            COLLISIONS => collisions::run(rng, &mut self.checks)?,
             _ => self.runs.run(rng, &mut self.checks)?,
         }
         Ok(())

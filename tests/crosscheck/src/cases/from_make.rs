@@ -2,6 +2,7 @@
 //! at a time.
 
 use super::events::{at_last_steps, event};
+use super::failed_commits::FailedCommits;
 use crate::failure::Failure;
 use crate::make_up::junk;
 use crate::make_up::values::Values;
@@ -10,7 +11,7 @@ use crate::side_by_side::{Checks, SideBySide};
 use crate::take::Take;
 use second::{layout, longest_stretch, one_at_a_time, worst_distance};
 use second::{Answer, Dispatched, Event, Placed, Settings, QUEUE, STEP_LIMIT, TAKEN};
-use sides::{Call, Dispatch};
+use sides::{Call, Dispatch, SECOND};
 
 pub struct FromMake {
     /// What a failure calls it.
@@ -20,6 +21,7 @@ pub struct FromMake {
     pub values: Values,
     pools: SideBySide,
     events: Vec<Event>,
+    failed_commits: FailedCommits,
     /// The most items that a take has passed over so far, spacers too.
     pub most_passed: u32,
     /// Steps since the last final answer, and the most of them so far.
@@ -55,6 +57,7 @@ impl FromMake {
             values,
             pools,
             events: Vec::new(),
+            failed_commits: FailedCommits::since_make(settings.workers),
             most_passed: 0,
             stretch: 0,
             longest: 0,
@@ -68,9 +71,12 @@ impl FromMake {
     pub fn call(&mut self, call: Call, checks: &mut Checks) -> Result<Answer, Failure> {
         let answer = self.pools.call(call, checks)?;
         self.events.push(event(call, answer));
-        if let Call::Step { .. } = call {
+        if let Call::Step { worker } = call {
+            let before = self.pools.words_before();
+            self.failed_commits.note(before, worker, answer);
             self.note_step(answer)?;
         }
+        self.hold_ninth_words()?;
         Ok(answer)
     }
 
@@ -79,12 +85,24 @@ impl FromMake {
         dispatch: Dispatch,
         checks: &mut Checks,
     ) -> Result<Dispatched, Failure> {
+        let mut words = self.words().to_vec();
         let (dispatched, made) = self.pools.dispatch(dispatch, checks)?;
         for (worker, answer) in made {
             self.events.push(Event::Step { worker, answer });
+            self.failed_commits.note(&words, worker, answer);
+            SECOND.call(&mut words, Call::Step { worker });
             self.note_step(answer)?;
         }
+        self.hold_ninth_words()?;
         Ok(dispatched)
+    }
+
+    /// Against the count over the run (K5).
+    fn hold_ninth_words(&self) -> Result<(), Failure> {
+        match self.failed_commits.difference(self.words()) {
+            Some(what) => Err(self.said(&what)),
+            None => Ok(()),
+        }
     }
 
     /// In a queue no stretch may be longer than the figure.
@@ -112,6 +130,17 @@ impl FromMake {
         let mut words = self.words().to_vec();
         words[layout::STEPS_COUNTED] = STEP_LIMIT - left;
         self.pools = SideBySide::with_values(&words, self.values, checks);
+    }
+
+    /// As after a longer one than there is: with failed commits near 2^32.
+    pub fn leave_failed_commits(&mut self, rng: &mut Rng, checks: &Checks) {
+        let mut words = self.words().to_vec();
+        let workers = &mut words[self.settings.workers_at()..self.settings.cells_at()];
+        for worker in workers.chunks_mut(layout::WORKER_WORDS) {
+            worker[layout::FAILED_COMMITS] = junk::near_the_top(rng);
+        }
+        self.pools = SideBySide::with_values(&words, self.values, checks);
+        self.failed_commits = FailedCommits::of(&words);
     }
 
     /// With the worst distance in the place of demand 3's bound, which is a

@@ -2,7 +2,8 @@
 //! than needed or more.
 
 use crate::failure::Failure;
-use crate::make_up::{junk, settings};
+use crate::make_up::settings::{self, Size};
+use crate::make_up::{editions, junk};
 use crate::rng::Rng;
 use crate::side_by_side::{Checks, SideBySide};
 use second::Settings;
@@ -28,18 +29,19 @@ pub fn with(rng: &mut Rng, settings: Settings, checks: &mut Checks) -> Result<()
 }
 
 /// Around the needed words, around 12, or any; off limits, where no number of
-/// words is needed, enough for any pool or few.
+/// words is needed, that of a small pool or of the largest.
 fn length(rng: &mut Rng, wanted: &Settings) -> usize {
-    let needed = if wanted.within_limits() {
-        wanted.needed_words()
+    let settings = if wanted.within_limits() {
+        *wanted
     } else {
-        rng.pick(&[100, settings::LARGEST.needed_words()])
+        let small = settings::within(rng, Size::Small);
+        rng.pick(&[small, settings::LARGEST])
     };
+    let needed = settings.needed_words();
     match rng.below(6) {
         0 => rng.below(14) as usize,
         1 => rng.below(needed as u32) as usize,
-        2 => needed - 1,
-        3 => needed,
+        2..=3 => rng.pick(&editions::lengths(&settings)),
         _ => needed + rng.below(6) as usize,
     }
 }

@@ -1,7 +1,9 @@
 //! The sorts of cases.
 
+pub mod collisions;
 pub mod dispatch;
 mod events;
+mod failed_commits;
 pub mod files;
 mod from_make;
 pub mod images;

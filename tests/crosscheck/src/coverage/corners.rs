@@ -2,7 +2,7 @@
 //! passes 2^32 or 0, and where two readings of the paper would part.
 
 use super::Seen;
-use second::phase::{self, Side, Stage};
+use second::phase::{Side, Stage};
 use second::{layout, PUT, QUEUE, TAKEN};
 
 pub type Corner = (&'static str, fn(&Seen) -> bool);
@@ -21,7 +21,7 @@ pub const CORNERS: [Corner; 10] = [
     }),
     ("a stack take's seen window below d", |seen| {
         !is_queue(seen)
-            && stage(seen) == Some((Side::Take, Stage::Read))
+            && seen.stage() == Some((Side::Take, Stage::Read))
             && seen.worker[layout::SEEN_WINDOW] < seen.settings.depth
     }),
     ("P below T moves up", |seen| {
@@ -35,14 +35,14 @@ pub const CORNERS: [Corner; 10] = [
     }),
     ("G wraps", |seen| {
         !is_queue(seen)
-            && stage(seen) == Some((Side::Put, Stage::Shift))
+            && seen.stage() == Some((Side::Put, Stage::Shift))
             && seen.after[layout::WINDOW] < seen.before[layout::WINDOW]
     }),
     ("the window's version wraps", |seen| {
         !is_queue(seen) && moved(seen) && seen.after[layout::WINDOW_VERSION] == 0
     }),
     ("confirm passes below 0", |seen| {
-        matches!(stage(seen), Some((_, Stage::Confirm)))
+        matches!(seen.stage(), Some((_, Stage::Confirm)))
             && seen.worker[layout::SUM] < sub(seen)[usize::from(!is_queue(seen))]
     }),
     ("a taken stamp stands in two cells", |seen| {
@@ -54,12 +54,8 @@ fn is_queue(seen: &Seen) -> bool {
     seen.settings.kind == QUEUE
 }
 
-fn stage(seen: &Seen) -> Option<(Side, Stage)> {
-    phase::decode(seen.worker[layout::PHASE])
-}
-
 fn is_at(seen: &Seen, kind: u32, side: Side, at: Stage) -> bool {
-    seen.settings.kind == kind && stage(seen) == Some((side, at))
+    seen.settings.kind == kind && seen.stage() == Some((side, at))
 }
 
 fn moved(seen: &Seen) -> bool {

@@ -6,8 +6,11 @@
 //! dispatch, and the most steps of a stretch; a lost commit with each stride of
 //! each width, and the refusals for the stride alone; each corner of the segments
 //! that a distance goes through; each corner of the spacers that it does not count;
-//! and an empty of each kind that cannot stand at its last step.
+//! each corner of the failed commits, and each edition and length that decides; and
+//! an empty of each kind that cannot stand at its last step.
 
+mod by_origin;
+mod collisions;
 mod corners;
 mod counts;
 mod dispatch;
@@ -20,9 +23,9 @@ mod solo;
 mod spacers;
 mod stretch;
 mod strides;
-mod takes;
 
 use crate::take::Take;
+use collisions::Collisions;
 use corners::CORNERS;
 use counts::Counts;
 use dispatch::DISPATCHES;
@@ -30,7 +33,8 @@ use numbers::Numbers;
 use phases::Phases;
 use places::Places;
 use scripts::SCRIPTS;
-use second::{layout, Answer, Dispatched, Settings, TAKEN, UNFIT};
+use second::phase::{self, Side, Stage};
+use second::{layout, Answer, Dispatched, Settings, MOVING, TAKEN, UNFIT};
 use segments::Segments;
 use sides::{Call, Dispatch, SECOND};
 use solo::Solo;
@@ -58,6 +62,21 @@ struct Seen<'a> {
     answer: Answer,
 }
 
+impl Seen<'_> {
+    /// Before it; none for a begin.
+    fn stage(&self) -> Option<(Side, Stage)> {
+        phase::decode(self.worker[layout::PHASE])
+    }
+
+    /// A commit that only moves on has failed.
+    fn failed_commit(&self) -> Option<Side> {
+        match self.stage() {
+            Some((side, Stage::Commit)) if self.answer.number == MOVING => Some(side),
+            _ => None,
+        }
+    }
+}
+
 #[derive(Default)]
 pub struct Coverage {
     pub calls: u64,
@@ -74,6 +93,7 @@ pub struct Coverage {
     pub strides: Strides,
     segments: Segments,
     pub spacers: Spacers,
+    collisions: Collisions,
     pub places: Places,
 }
 
@@ -90,6 +110,7 @@ impl Coverage {
         let (name, worker) = match call {
             Call::Make(settings) => {
                 self.strides.record_make(&settings, answer.number);
+                self.collisions.record_make(settings, before, answer.number);
                 ("make", None)
             }
             Call::BeginPut { worker, .. } => ("begin put", Some(worker)),
@@ -100,6 +121,7 @@ impl Coverage {
         let Some(worker) = worker else {
             return;
         };
+        self.collisions.record_call(name, before, answer.number);
         if answer.number == UNFIT && fitness(before) == UNFIT {
             self.strides.record_unfit(before);
             return;
@@ -119,6 +141,7 @@ impl Coverage {
         };
         self.phases.record(&seen);
         self.strides.record(&seen);
+        self.collisions.record(&seen, origin);
         self.corners.add(CORNERS.map(|(_, reached)| reached(&seen)));
         if answer.number == TAKEN {
             let take = Take::of(before, &answer);
@@ -135,7 +158,9 @@ impl Coverage {
         before: &[u32],
     ) {
         self.dispatches += 1;
-        self.numbers.record("dispatch", dispatched.returned().0);
+        let (number, _) = dispatched.returned();
+        self.numbers.record("dispatch", number);
+        self.collisions.record_call("dispatch", before, number);
         let seen = dispatch::Seen {
             dispatch,
             dispatched,
@@ -163,6 +188,7 @@ impl Coverage {
         missing.extend(self.strides.report());
         missing.extend(self.segments.report());
         missing.extend(self.spacers.report());
+        missing.extend(self.collisions.report());
         missing.extend(self.places.report());
         missing
     }

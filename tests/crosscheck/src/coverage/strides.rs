@@ -5,7 +5,7 @@
 use super::counts::Counts;
 use super::{fitness, Seen};
 use crate::make_up::settings::STRIDES;
-use second::phase::{self, Side, Stage};
+use second::phase::Side;
 use second::{layout, Settings, MOVING, NO_WORKER, OFF_LIMITS, QUEUE, TOO_SHORT};
 use std::collections::BTreeSet;
 use std::ops::Range;
@@ -72,8 +72,7 @@ impl Strides {
     }
 
     pub(super) fn record(&mut self, seen: &Seen) {
-        let at = phase::decode(seen.worker[layout::PHASE]);
-        let (Some((side, Stage::Commit)), MOVING) = (at, seen.answer.number) else {
+        let Some(side) = seen.failed_commit() else {
             return;
         };
         let settings = &seen.settings;

@@ -194,6 +194,9 @@ fn worker(rng: &mut Rng, settings: &Settings, words: &mut [u32], at: usize) {
     if rng.chance(40) {
         words[at + layout::SUM] = sum_to_come(settings, words, at);
     }
+    if rng.chance(40) {
+        words[at + layout::FAILED_COMMITS] = junk::near_the_top(rng);
+    }
 }
 
 /// The sum that confirm brings to 0, if no sub changes meanwhile.

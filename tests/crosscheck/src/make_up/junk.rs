@@ -9,7 +9,7 @@ pub fn word(rng: &mut Rng) -> u32 {
         0 => 0,
         1 => rng.below(4),
         2 => rng.below(80),
-        3 => u32::MAX - rng.below(4),
+        3 => near_the_top(rng),
         4 => u32::MAX - rng.below(80),
         _ => rng.u32(),
     }
@@ -17,6 +17,11 @@ pub fn word(rng: &mut Rng) -> u32 {
 
 pub fn words(rng: &mut Rng, len: usize) -> Vec<u32> {
     (0..len).map(|_| word(rng)).collect()
+}
+
+/// A count that one or a few more bring round to 0.
+pub fn near_the_top(rng: &mut Rng) -> u32 {
+    u32::MAX - rng.below(4)
 }
 
 /// A step count, now and then at its limit.

@@ -3,6 +3,7 @@
 mod acts;
 mod ambush;
 pub mod dispatches;
+pub mod editions;
 pub mod held_cells;
 pub mod image;
 pub mod junk;
@@ -15,5 +16,5 @@ pub mod script;
 pub mod settings;
 mod turns;
 pub mod values;
-mod workers;
+pub mod workers;
 pub mod worst_distance;

@@ -1,4 +1,5 @@
-//! What a scheduler sees of the workers, the windows and the subs.
+//! What a scheduler, or a count over a run, sees of the workers, the windows and the
+//! subs.
 
 use second::phase::{self, Side, Stage};
 use second::{layout, Settings, STACK};
@@ -32,6 +33,25 @@ impl Workers<'_> {
 
     pub fn scan(&self, worker: u32) -> u32 {
         self.word(worker, layout::SCAN)
+    }
+
+    /// Its ninth word.
+    pub fn failed_commits(&self, worker: u32) -> u32 {
+        self.word(worker, layout::FAILED_COMMITS)
+    }
+
+    /// It stands before a commit, and its sub has another count (queue) or version
+    /// (stack) than the one seen.
+    pub fn is_to_fail(&self, worker: u32) -> bool {
+        let Some((side, Stage::Commit)) = self.stage(worker) else {
+            return false;
+        };
+        let which = match (self.settings.kind, side) {
+            (STACK, _) => layout::VERSION,
+            (_, Side::Put) => layout::ITEMS_PUT,
+            (_, Side::Take) => layout::ITEMS_TAKEN,
+        };
+        self.sub_word(self.index(worker), which) != self.word(worker, layout::SEEN)
     }
 
     /// P or G: both stand in word 8.

@@ -3,8 +3,8 @@
 
 mod corners;
 
+use super::by_origin::ByOrigin;
 use super::phases::kind_name;
-use super::takes::Takes;
 use super::Origin;
 use crate::take::Take;
 use corners::{Corner, OF_QUEUES, OF_STACKS};
@@ -13,7 +13,7 @@ use second::{QUEUE, STACK};
 const WIDTHS: usize = 16;
 
 /// By corner and width, from 1 on.
-struct ByWidth<const N: usize>([[Takes; WIDTHS]; N]);
+struct ByWidth<const N: usize>([[ByOrigin; WIDTHS]; N]);
 
 #[derive(Default)]
 pub struct Segments {
@@ -40,7 +40,7 @@ impl Segments {
 
 impl<const N: usize> Default for ByWidth<N> {
     fn default() -> ByWidth<N> {
-        ByWidth([[Takes::default(); WIDTHS]; N])
+        ByWidth([[ByOrigin::default(); WIDTHS]; N])
     }
 }
 
@@ -66,7 +66,7 @@ impl<const N: usize> ByWidth<N> {
 fn report_corner(
     name: &str,
     corner: &Corner,
-    by_width: &[Takes; WIDTHS],
+    by_width: &[ByOrigin; WIDTHS],
     missing: &mut Vec<String>,
 ) {
     let least = corner.least_width;

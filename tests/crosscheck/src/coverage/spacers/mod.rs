@@ -4,8 +4,8 @@
 
 mod corners;
 
+use super::by_origin::ByOrigin;
 use super::phases::kind_name;
-use super::takes::Takes;
 use super::Origin;
 use crate::make_up::values::SHARES;
 use crate::take::Take;
@@ -18,7 +18,7 @@ type Key = (u32, u32);
 
 #[derive(Default)]
 pub struct Spacers {
-    takes: BTreeMap<Key, [Takes; CORNERS.len()]>,
+    takes: BTreeMap<Key, [ByOrigin; CORNERS.len()]>,
     files: BTreeMap<Key, u64>,
 }
 
@@ -65,7 +65,7 @@ impl Spacers {
         let mut parts = Vec::new();
         for share in corner.shares {
             let of_share = self.takes.get(&(kind, *share));
-            let takes = of_share.map_or(Takes::default(), |takes| takes[at]);
+            let takes = of_share.map_or(ByOrigin::default(), |takes| takes[at]);
             parts.push(format!("{share} %: {takes}"));
             let asked = [
                 (corner.from_make, takes.from_make, "a run from make"),

@@ -1,25 +1,25 @@
-//! How many takes came to a corner, in runs from make and in images.
+//! How many calls came to a corner, in runs from make and in images.
 
 use super::Origin;
 use std::fmt;
 
 #[derive(Clone, Copy, Default)]
-pub struct Takes {
+pub struct ByOrigin {
     pub from_make: u64,
     pub in_images: u64,
 }
 
-impl Takes {
+impl ByOrigin {
     pub fn add(&mut self, origin: Origin, reached: bool) {
-        let takes = match origin.from_make {
+        let count = match origin.from_make {
             true => &mut self.from_make,
             false => &mut self.in_images,
         };
-        *takes += u64::from(reached);
+        *count += u64::from(reached);
     }
 }
 
-impl fmt::Display for Takes {
+impl fmt::Display for ByOrigin {
     fn fmt(&self, to: &mut fmt::Formatter) -> fmt::Result {
         write!(to, "{}/{}", self.from_make, self.in_images)
     }
