@@ -8,7 +8,8 @@ pub struct Fault {
     pub old: &'static str,
     pub new: &'static str,
     /// A wrong pool or figure also by the runs one at a time, without a
-    /// comparison: the paper's "traps in the published text", and their like.
+    /// comparison: the paper's "traps in the published text", and their like;
+    /// or by the count of failed commits over them.
     pub seen_alone: bool,
     /// Only run files show it.
     pub of_lister: bool,
@@ -54,7 +55,7 @@ const fn lister_fault(
     }
 }
 
-pub const FAULTS: [Fault; 41] = [
+pub const FAULTS: [Fault; 54] = [
     trap(
         "empty after one pass, without confirm",
         "stages/read.rs",
@@ -235,6 +236,84 @@ pub const FAULTS: [Fault; 41] = [
         "self.stride < self.width",
         "self.stride <= self.width",
     ),
+    trap(
+        "a begin that clears the failed commits",
+        "calls.rs",
+        "        ..pool.worker(number).idle()",
+        "        failed_commits: 0,\n        ..pool.worker(number).idle()",
+    ),
+    trap(
+        "a final answer that clears the failed commits",
+        "calls.rs",
+        "worker = worker.idle();",
+        "worker = Worker {\n            failed_commits: 0,\n            ..worker.idle()\n        };",
+    ),
+    trap(
+        "a commit that succeeds counts as failed",
+        "stages/commit.rs",
+        "    match side {\n        Side::Put if",
+        "    count_failed(worker);\n    match side {\n        Side::Put if",
+    ),
+    trap(
+        "a check that restarts counts as a failed commit",
+        "stages/check.rs",
+        "restart(worker, side);",
+        "worker.failed_commits += 1;\n        restart(worker, side);",
+    ),
+    trap(
+        "a take's failed commit that counts none",
+        "stages/commit.rs",
+        "        count_failed(worker);\n",
+        "        if side == Side::Put {\n            count_failed(worker);\n        }\n",
+    ),
+    fault(
+        "a commit refused with 23 counts as failed",
+        "calls.rs",
+        "    if answer.is_refusal() {\n",
+        "    if answer.is_refusal() {\n        let mut counted = pool.worker(number);\n        counted.failed_commits = counted.failed_commits.wrapping_add(1);\n        pool.set_worker(number, counted);\n",
+    ),
+    fault(
+        "failed commits that stay at 2^32 - 1",
+        "stages/commit.rs",
+        "worker.failed_commits.wrapping_add(1)",
+        "worker.failed_commits.saturating_add(1)",
+    ),
+    fault(
+        "an idle worker fit with no failed commits alone",
+        "pool/fit.rs",
+        "\n        && worker.index < pool.settings.width",
+        "\n        && (worker.phase != phase::IDLE || worker.failed_commits == 0)\n        && worker.index < pool.settings.width",
+    ),
+    fault(
+        "eight words for each worker enough",
+        "pool/fit.rs",
+        "words.len() < settings.needed_words()",
+        "words.len() + (settings.workers as usize) < settings.needed_words()",
+    ),
+    fault(
+        "a make that leaves the edition at 0",
+        "calls.rs",
+        "    words[layout::EDITION] = CURRENT_EDITION;\n",
+        "",
+    ),
+    fault(
+        "edition 0 fit too",
+        "pool/fit.rs",
+        "words[layout::EDITION] != CURRENT_EDITION",
+        "words[layout::EDITION] > CURRENT_EDITION",
+    ),
+    fault(
+        "every later edition fit too",
+        "pool/fit.rs",
+        "words[layout::EDITION] != CURRENT_EDITION",
+        "words[layout::EDITION] < CURRENT_EDITION",
+    ),
+    fault(
+        "the edition looked at after the needed words",
+        "pool/fit.rs",
+        "words[layout::EDITION] != CURRENT_EDITION",
+        "words.len() >= settings.needed_words() && words[layout::EDITION] != CURRENT_EDITION",
+    ),
     fault(
         "a stack take that reads >= for >",
         "stages/read.rs",
@@ -262,7 +341,7 @@ pub const FAULTS: [Fault; 41] = [
     fault(
         "a begin that keeps the idle worker's words",
         "calls.rs",
-        "..Worker::idle_at(pool.worker(number).index)",
+        "..pool.worker(number).idle()",
         "..pool.worker(number)",
     ),
     fault(
