@@ -4,11 +4,11 @@
 mod common;
 
 use common::failed_commits::{commit_fails, failed_commits, phase, set_failed_commits};
-use common::states::{every_state, CALLS};
+use common::states::{every_state, CALLS, STEP};
 use common::{finish, made, put_answer, queue, stack, strided, taken_answer, Numbers};
 use second::phase::{decode, Side, Stage};
 use second::{begin_put, begin_take, dispatch, layout, make, step};
-use second::{Answer, Dispatched, Settings, CURRENT_EDITION, QUEUE, STEP_LIMIT};
+use second::{Answer, Dispatched, Settings, CURRENT_EDITION, STACK, STEP_LIMIT};
 use second::{EMPTY, FULL, MOVING, NO_WORKER, PUT, SPENT, TAKEN, TOO_SHORT, UNFIT};
 use std::collections::BTreeSet;
 
@@ -82,7 +82,7 @@ fn each_call_from_every_state() {
                     let mut without = words.to_vec();
                     let answer = call(&mut without, worker);
                     met.insert(name(words, &without, worker, answer));
-                    let fails = which == CALLS.len() - 1 && commit_fails(words, worker);
+                    let fails = which == STEP && commit_fails(words, worker);
                     for before in [[0, 0], [1, 7], [TOP, TOP]] {
                         let mut words = words.to_vec();
                         set_failed_commits(&mut words, before);
@@ -115,8 +115,8 @@ fn each_call_from_every_state() {
             "Put Confirm to Put Window",
             "Take Check to Take Window",
         ];
-        let of_kind = if settings.kind == QUEUE { 0 } else { 3 };
-        for what in of_both.iter().chain(&of_stacks[..of_kind]) {
+        let of_stacks = of_stacks.iter().filter(|_| settings.kind == STACK);
+        for what in of_both.iter().chain(of_stacks) {
             assert!(met.contains(*what), "{settings:?}: never {what}");
         }
     }
@@ -159,9 +159,11 @@ fn it_counts_modulo_2_to_the_32() {
     }
 }
 
+/// By its commit or its step count: the pool is fit.
 fn refused_unchanged(mut words: Vec<u32>, number: u32) {
     for failed in [0, 5, TOP] {
         set_failed_commits(&mut words, [1, failed, 2]);
+        assert_eq!(fitness(&words), NO_WORKER);
         let before = words.clone();
         assert_eq!(step(&mut words, 1), Answer::of(number));
         assert_eq!(words, before);

@@ -12,6 +12,9 @@ pub const CALLS: [fn(&mut [u32], u32) -> Answer; 3] = [
     step,
 ];
 
+/// The place of `step` in CALLS; the others are begins.
+pub const STEP: usize = CALLS.len() - 1;
+
 /// A call of CALLS that is not refused, by its place there; its answer, and the
 /// state after it.
 pub type Move = (usize, Answer, Vec<u32>);

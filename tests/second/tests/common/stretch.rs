@@ -1,12 +1,9 @@
 //! Stretches: steps without a final answer, begins between them, anywhere in a
 //! run from make.
 
-use super::states::{every_state, moves, CALLS};
+use super::states::{every_state, moves, STEP};
 use second::Settings;
 use std::collections::HashMap;
-
-/// The place of `step` in CALLS; the others are begins.
-const STEP: usize = CALLS.len() - 1;
 
 /// A state's moves in a stretch: where each leads, and how many steps it is.
 type Moves = Vec<(usize, u32)>;
