@@ -2,8 +2,9 @@
  * Two archives of the library beside each other in one process: time per call, before / after, on the same operations and equal words. Built by
  * beside.sh, which gives each archive's functions a prefix of their own. A round makes OPERATIONS puts, each followed by a take, with one archive and then
  * with the other; the order changes from round to round. Each number is the median of the rounds, and a ratio the median of the rounds' ratios.
- * The second archive makes the pools of both, so that the first may be one whose make has no stride. No value is 0, so that the first may be one
- * that counts spacers in a distance too: the answers of both are compared as well as the words.
+ * The second archive makes the pools of both, so that the first may be one whose make has no stride. Where the first refuses such a pool, it gets the
+ * same pool in edition 0. No value is 0, so that the first may be one that counts spacers in a distance too: the answers of both are compared, and the
+ * words, of edition 0 all that it has.
  */
 #include "pool.h"
 #include <stdio.h>
@@ -15,6 +16,11 @@
 #define OPERATIONS 200
 #define DEPTH 4u
 #define ROWS 64u
+
+/* Edition 0 has a 0 in the edition's word, and of a worker all words but the last, its failed commits. */
+#define EDITION_AT 11
+#define WORKERS_AT(width) POOL_WORDS(width, 0u, 0u)
+#define WORKER_WORDS (POOL_WORDS(0u, 0u, 1u) - POOL_WORDS(0u, 0u, 0u))
 
 uint32_t after_make(uint32_t *, size_t, uint32_t, uint32_t, uint32_t, uint32_t, uint32_t, uint32_t, uint32_t, uint32_t *);
 #define LIBRARY(name)                                                                                                                      \
@@ -53,6 +59,21 @@ static uint32_t take(const Library *library, uint32_t *pool, size_t len, uint32_
     library->begin_take(pool, len, worker, fields);
     while (library->step(pool, len, worker, fields) == POOL_MOVING) { calls++; }
     return calls;
+}
+
+/* Whether the words are a fit pool of this archive's edition: it then refuses the worker that is not there. */
+static int fits(const Library *library, uint32_t *pool, size_t len, uint32_t workers) {
+    return library->step(pool, len, workers, fields) == POOL_NO_SUCH_WORKER;
+}
+
+/* Makes a pool one of edition 0; its number of words. */
+static size_t moved_back(uint32_t *pool, size_t len, uint32_t width, uint32_t workers) {
+    size_t start = WORKERS_AT(width), end = start + (size_t)workers * WORKER_WORDS, to = start;
+    for (size_t from = start; from < len; from++) {
+        if (from >= end || (from - start) % WORKER_WORDS != WORKER_WORDS - 1) { pool[to++] = pool[from]; }
+    }
+    pool[EDITION_AT] = 0;
+    return to;
 }
 
 /* A sum over all fields of all takes' answers, in which each place counts otherwise. */
@@ -107,18 +128,25 @@ int main(void) {
         for (int row = 0; row < 36; row++) {
             uint32_t width = widths[row / 9], workers = crews[row / 3 % 3], shift = kind == POOL_QUEUE ? DEPTH : DEPTH / 2;
             uint32_t held = row % 3 == 0 ? 0 : row % 3 == 1 ? width * ROWS / 2 : width * (ROWS - 2 * DEPTH);
-            size_t len = POOL_WORDS(width, ROWS, workers);
+            size_t len[2] = {POOL_WORDS(width, ROWS, workers), POOL_WORDS(width, ROWS, workers)};
+            for (int side = 0; side < 2; side++) { after_make(words[side], len[side], kind, width, DEPTH, shift, ROWS, workers, 0, fields); }
+            int older = !fits(&libraries[0], words[0], len[0], workers);
+            if (older) { len[0] = moved_back(words[0], len[0], width, workers); }
             for (int side = 0; side < 2; side++) {
-                after_make(words[side], len, kind, width, DEPTH, shift, ROWS, workers, 0, fields);
-                for (uint32_t at = 0; at < held; at++) { put(&libraries[side], words[side], len, at % workers, at + 1); }
+                if (!fits(&libraries[side], words[side], len[side], workers)) {
+                    fprintf(stderr, "an archive refuses its pool\n");
+                    return 1;
+                }
+                for (uint32_t at = 0; at < held; at++) { put(&libraries[side], words[side], len[side], at % workers, at + 1); }
             }
             for (int round = 0; round < ROUNDS; round++) {
                 for (int turn = 0; turn < 2; turn++) {
                     int side = (round + turn) % 2;
-                    measured(&libraries[side], words[side], len, workers, &puts[side][round], &takes[side][round], &answers[side]);
+                    measured(&libraries[side], words[side], len[side], workers, &puts[side][round], &takes[side][round], &answers[side]);
                 }
             }
-            if (memcmp(words[0], words[1], 4 * len) != 0 || answers[0] != answers[1]) {
+            if (older) { moved_back(words[1], len[1], width, workers); }
+            if (memcmp(words[0], words[1], 4 * len[0]) != 0 || answers[0] != answers[1]) {
                 fprintf(stderr, "the words or the answers differ\n");
                 return 1;
             }
