@@ -1,6 +1,7 @@
 //! The compiled library's time per call beside that of `fast`, the second
 //! implementation made fast, as Markdown for a page in docs. With `distance`, what
-//! a distance costs alone; with `reading`, the last table.
+//! a distance costs alone; with `reading`, the last table; with `strides`, the figures
+//! of another page, which tells how often commits fail.
 
 mod again;
 mod busy;
@@ -13,9 +14,13 @@ mod loops;
 mod machine;
 mod measure;
 mod reading;
+#[path = "../../tests/crosscheck/src/rng.rs"]
+#[allow(dead_code)] // The cross-check wants more kinds of numbers.
+mod rng;
 mod shares;
 mod side;
 mod spacers;
+mod strides;
 mod tables;
 mod walks;
 mod workload;
@@ -26,7 +31,8 @@ fn main() {
         [] => all(),
         ["distance"] => distances(),
         ["reading"] => reading::table(),
-        _ => eprintln!("bench [distance|reading]"),
+        ["strides"] => strides::tables(),
+        _ => eprintln!("bench [distance|reading|strides]"),
     }
 }
 

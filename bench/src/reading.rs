@@ -27,7 +27,7 @@ struct Case {
 pub fn table() {
     println!("## Beside reading the words once\n");
     println!(
-        "How much longer a call takes, in nanoseconds, for each sub (two words), worker (eight"
+        "How much longer a call takes, in nanoseconds, for each sub (two words), worker (nine"
     );
     println!(
         "words) or held item (two words) more: compiled, `fast`, and a loop that only adds up"
