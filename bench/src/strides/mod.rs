@@ -43,12 +43,12 @@ fn print_text() {
   pool, half full at the start, stays about half full: an \"empty\" or a \"full\" would have
   ended the command, and none came.
 - A pool has 1,024 cells, R = 1,024 / w, as in most tables of the benchmark. Its depth d is
-  the benchmark's 4, or a quarter or four times of that. A queue shifts by d, a stack by
+  the benchmark's 4, a quarter of that, or four times that. A queue shifts by d, a stack by
   half of it, with d 1 by 1.
 - Round robin: all workers step in turn, by number, which is `pool_dispatch`.
-- At random: each step is another worker's, any other's.
-- Bursts: a worker makes 1 to 8w steps, how many is random, before another goes on, any
+- Bursts: a worker makes 1 to 8w steps, how many is random, and then another one does, any
   other.
+- At random: the same, but that a worker makes one step.
 - Lock step: round robin, but each worker puts and takes by turns, at first those of even
   number put and the others take. Nothing in it is random.
 - Stride 0 stands for 1: they have one column.

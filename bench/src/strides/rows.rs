@@ -23,14 +23,14 @@ pub static WAYS: [Way; 4] = [
         depths: &[1, 4, 16],
     },
     Way {
-        name: "at random",
-        order: |_| Order::Bursts { most: 1 },
-        mix: Mix::Random,
-        depths: &[4],
-    },
-    Way {
         name: "bursts",
         order: |width| Order::Bursts { most: 8 * width },
+        mix: Mix::Random,
+        depths: &[1, 4, 16],
+    },
+    Way {
+        name: "at random",
+        order: |_| Order::Bursts { most: 1 },
         mix: Mix::Random,
         depths: &[4],
     },
