@@ -18,9 +18,7 @@
 #define ROWS 64u
 
 /* Edition 0 has a 0 in the edition's word, and of a worker all words but the last, its failed commits. */
-#define EDITION_AT 11
 #define WORKERS_AT(width) POOL_WORDS(width, 0u, 0u)
-#define WORKER_WORDS (POOL_WORDS(0u, 0u, 1u) - POOL_WORDS(0u, 0u, 0u))
 
 uint32_t after_make(uint32_t *, size_t, uint32_t, uint32_t, uint32_t, uint32_t, uint32_t, uint32_t, uint32_t, uint32_t *);
 #define LIBRARY(name)                                                                                                                      \
@@ -68,11 +66,11 @@ static int fits(const Library *library, uint32_t *pool, size_t len, uint32_t wor
 
 /* Makes a pool one of edition 0; its number of words. */
 static size_t moved_back(uint32_t *pool, size_t len, uint32_t width, uint32_t workers) {
-    size_t start = WORKERS_AT(width), end = start + (size_t)workers * WORKER_WORDS, to = start;
+    size_t start = WORKERS_AT(width), end = start + (size_t)workers * POOL_WORKER_WORDS, to = start;
     for (size_t from = start; from < len; from++) {
-        if (from >= end || (from - start) % WORKER_WORDS != WORKER_WORDS - 1) { pool[to++] = pool[from]; }
+        if (from >= end || (from - start) % POOL_WORKER_WORDS != POOL_WORKER_WORDS - 1) { pool[to++] = pool[from]; }
     }
-    pool[EDITION_AT] = 0;
+    pool[POOL_EDITION_AT] = 0;
     return to;
 }
 

@@ -30,6 +30,10 @@ int main(void) {
         int less = pool_make(words, needed - 1, kind, w, d, s, rows, n, 0, fields) == POOL_TOO_FEW_WORDS;
         printf(enough && less ? "\n" : ": not so\n");
     }
+    printf("at most %u words; edition %u, word %u\n", POOL_MAX_WORDS, POOL_EDITION, POOL_EDITION_AT);
+    if (words[POOL_EDITION_AT] != POOL_EDITION) {
+        printf("not so\n");
+    }
     for (uint32_t number = 0; number <= POOL_STEPS_SPENT; number += number == POOL_RAN_OUT ? 15 : 1) {
         printf("%u%s%s\n", number, POOL_FINAL(number) ? " ends an operation" : "", POOL_REFUSED(number) ? " refuses the call" : "");
     }

@@ -14,7 +14,7 @@
  *   6   pool_dispatch: the count of steps ran out
  *   21  fewer words than the pool needs, or fewer than 12
  *   22  pool_make: a setting off limits
- *   23  the words are not a fit pool; or a commit that matches finds no free cell or no item
+ *   23  the words are not a fit pool of this edition; or a commit that matches finds no free cell or no item
  *   24  the worker's number is not below the number of workers
  *   25  begin: the worker is busy
  *   26  pool_step: the worker is idle
@@ -73,9 +73,26 @@ extern "C" {
 #define POOL_WORKER 5
 #define POOL_DISPATCH_FIELDS 6
 
-/* How many words a pool needs, and the most that one can need. */
-#define POOL_WORDS(width, rows, workers) (12u + 2u * (width) + 8u * (workers) + 2u * (width) * (rows))
-#define POOL_MAX_WORDS 8492u
+/* How many words a pool needs, and the most that one can need: the head, two a sub, nine a worker, two a cell. */
+#define POOL_HEAD_WORDS 12u
+#define POOL_WORKER_WORDS 9u
+#define POOL_WORDS(width, rows, workers)                                                                                                    \
+    (POOL_HEAD_WORDS + 2u * (width) + POOL_WORKER_WORDS * (workers) + 2u * (width) * (rows))
+#define POOL_MAX_WORDS POOL_WORDS(16u, 256u, 32u)
+
+/*
+ * The edition of these calls. pool_make writes it to word 11, and words with another number there are not a fit pool, 23. Pools of edition 0, made
+ * before there was one, have eight words a worker and 0 there.
+ */
+#define POOL_EDITION 1u
+#define POOL_EDITION_AT 11 /* the word that holds the edition */
+
+/*
+ * A worker's card: how many of its commits have failed since pool_make, because another worker's came first at the same sub.
+ * A begin and a final answer leave it. It counts modulo 2^32, which no pool from pool_make lives to see. Proved: crates/rules/specs/Collisions.antt.
+ * Which stride has the fewest is in docs/STRIDES.md.
+ */
+#define POOL_LOST(words, width, worker) (+(words)[POOL_HEAD_WORDS + 2u * (width) + POOL_WORKER_WORDS * ((worker) + 1u) - 1u])
 
 /*
  * How many items a take may pass over, older ones (queue) or newer ones (stack), spacers among them: no distance is above it, as a distance
@@ -141,7 +158,7 @@ static inline uint32_t pool_steps_left(const uint32_t *words) {
  * Makes a new pool in the lent words. Limits: kind 0 or 1, width 1 to 16, depth 1 to 64, shift 1 to depth (a queue has
  * shift = depth), rows from 2 * depth to 1,024 (in a queue a multiple of depth), workers 1 to 32, width * rows at most 4,096,
  * stride 0 to width - 1. A worker whose commit failed, since another one's came first, goes on at the sub that is the stride
- * further, modulo width; 0 stands for 1, the next sub. No figure above depends on the stride.
+ * further, modulo width; 0 stands for 1, the next sub. No figure above depends on the stride; how many commits fail does (POOL_LOST).
  * Words beyond the needed ones are not touched, by this call or any other.
  */
 uint32_t pool_make(uint32_t *words, size_t len, uint32_t kind, uint32_t width, uint32_t depth, uint32_t shift, uint32_t rows,
