@@ -6,3 +6,4 @@ mod workers;
 
 pub use limits::settings_fit;
 pub use refusals::refusal;
+pub use refusals::source_refusal;

@@ -1,4 +1,4 @@
-// The order of the refusals before a call.
+// The order of the refusals before a call, and of a move's source.
 use crate::limits::settings_fit;
 use crate::subs::subs_fit;
 use crate::workers::workers_fit;
@@ -8,19 +8,11 @@ use image::words_needed;
 use rules::Settings;
 use rules::numbers::NOT_FIT;
 use rules::numbers::TOO_FEW_WORDS;
+use rules::numbers::WRONG_EDITION;
 ghost use mathlib.Core.Path.{_≡_};
-ghost use Rattle.rules.specs.Fit.{headFit, bodyChecked, checkedOf, refusalOf};
+ghost use Rattle.rules.specs.Fit.{bodyChecked, headChecked, checkedBy, checkedOf, refusalOf};
 ghost use Rattle.rules.specs.Limits.{Bounds};
-
-// Whether settings are within limits, and of an edition.
-fn head_fit(g: Settings, edition: u32) -> bool
-    ensures { λ r. ⌜ r ≡ headFit edition g ⌝ }
-{
-    if settings_fit(g) {
-        return g.edition == edition;
-    }
-    false
-}
+ghost use Rattle.rules.specs.Move.{sourceChecked};
 
 // The words needed, then the subs and the workers.
 fn body_refusal(words: &[u32], g: Settings) -> u32
@@ -38,17 +30,39 @@ fn body_refusal(words: &[u32], g: Settings) -> u32
     NOT_FIT
 }
 
+// The settings, then the edition, which has a number of its own to refuse another, then the above.
+fn head_refusal(words: &[u32], g: Settings, edition: u32, other: u32) -> u32
+    ensures { λ r. ⌜ r ≡ refusalOf (headChecked other edition (now (words .entry)) g) ⌝ }
+{
+    if settings_fit(g) {
+        if g.edition == edition {
+            return body_refusal(words, g);
+        }
+        return other;
+    }
+    NOT_FIT
+}
+
+fn refusal_by(words: &[u32], edition: u32, other: u32) -> u32
+    ensures { λ r. ⌜ r ≡ refusalOf (checkedBy other edition (now (words .entry))) ⌝ }
+{
+    if words.len() < HEAD_WORDS {
+        return TOO_FEW_WORDS;
+    }
+    head_refusal(words, settings(words), edition, other)
+}
+
 // The number of the refusal where the words are no fit pool of an edition, else 0. A number and not the settings: a struct would go
 // through memory at every call.
 pub fn refusal(words: &[u32], edition: u32) -> u32
     ensures { λ r. ⌜ r ≡ refusalOf (checkedOf edition (now (words .entry))) ⌝ }
 {
-    if words.len() < HEAD_WORDS {
-        return TOO_FEW_WORDS;
-    }
-    let g = settings(words);
-    if head_fit(g, edition) {
-        return body_refusal(words, g);
-    }
-    NOT_FIT
+    refusal_by(words, edition, NOT_FIT)
+}
+
+// The same of the source of a move from an edition.
+pub fn source_refusal(words: &[u32], edition: u32) -> u32
+    ensures { λ r. ⌜ r ≡ refusalOf (sourceChecked edition (now (words .entry))) ⌝ }
+{
+    refusal_by(words, edition, WRONG_EDITION)
 }

@@ -2,14 +2,16 @@
 use image::INDEX;
 use image::PHASE;
 use image::SCAN;
+use image::SLOT_WORDS;
+use image::as_shipped;
 use image::worker_at;
-use image::worker_words;
 use rules::Settings;
 use rules::numbers::COMMIT;
 use rules::numbers::CONFIRM;
 use rules::numbers::IDLE;
 use rules::numbers::READ;
 use rules::numbers::SHIFT;
+use rules::numbers::SHIPPED;
 use rules::numbers::TAKE_COMMIT;
 use rules::numbers::TAKE_CONFIRM;
 use rules::numbers::TAKE_READ;
@@ -77,20 +79,19 @@ fn word_fit(g: Settings, k: usize, x: u32) -> bool
     true
 }
 
-// Whether every word of every worker is fit.
-pub fn workers_fit(words: &[u32], g: Settings) -> bool
+// Whether every word of every worker is fit. Those behind the ones that rules read are free in every edition.
+fn every_fit(words: &[u32], g: Settings) -> bool
     requires { ⌜ Bounds g ⌝ }
     requires { ⌜ needed g ≤ length (now words) ⌝ }
     ensures { λ r. ⌜ r ≡ workersFit (now (words .entry)) g ⌝ }
 {
     let n = g.workers;
-    let each = worker_words(g.edition);
     let mut fit = true;
     let mut i: u32 = 0;
     'workers: while i < n {
         let at = worker_at(g, i);
         let mut k: usize = 0;
-        while k < each {
+        while k < SLOT_WORDS {
             let x = words[at + k];
             if !word_fit(g, k, x) {
                 fit = false;
@@ -101,4 +102,16 @@ pub fn workers_fit(words: &[u32], g: Settings) -> bool
         i += 1;
     }
     fit
+}
+
+// The same, with the shipped edition told to the compiler.
+pub fn workers_fit(words: &[u32], g: Settings) -> bool
+    requires { ⌜ Bounds g ⌝ }
+    requires { ⌜ needed g ≤ length (now words) ⌝ }
+    ensures { λ r. ⌜ r ≡ workersFit (now (words .entry)) g ⌝ }
+{
+    if g.edition == SHIPPED {
+        return every_fit(words, as_shipped(g));
+    }
+    every_fit(words, g)
 }

@@ -24,7 +24,7 @@ ghost use Rattle.laws.specs.Wrap.{add32};
 ghost use Rattle.rules.specs.Apply.{putShifted};
 ghost use Rattle.rules.specs.Begin.{outOfSteps};
 ghost use Rattle.rules.specs.Layout.{headWords, settingsOf, stepsAt};
-ghost use Rattle.rules.specs.Make.{shipped, newMark, newHead};
+ghost use Rattle.rules.specs.Make.{shipped, inEdition, newMark, newHead};
 
 // The settings that the words hold.
 pub fn settings(words: &[u32]) -> Settings
@@ -43,12 +43,10 @@ pub fn settings(words: &[u32]) -> Settings
     }
 }
 
-// The same of a pool of the shipped edition. That number is written here, and not read, so that the compiler knows how many words a worker has.
-pub fn shipped_settings(words: &[u32]) -> Settings
-    requires { ⌜ (headWords ≤ length (now words)) × (settingsOf (now words) .edition ≡ shipped) ⌝ }
-    ensures { λ r. ⌜ r ≡ settingsOf (now (words .entry)) ⌝ }
+// The same settings in an edition.
+pub fn in_edition(g: Settings, edition: u32) -> Settings
+    ensures { λ r. ⌜ r ≡ inEdition edition g ⌝ }
 {
-    let g = settings(words);
     Settings {
         kind: g.kind,
         width: g.width,
@@ -57,8 +55,24 @@ pub fn shipped_settings(words: &[u32]) -> Settings
         rows: g.rows,
         workers: g.workers,
         stride: g.stride,
-        edition: SHIPPED,
+        edition,
     }
+}
+
+// Settings of the shipped edition. That number is written here, and not read, so that the compiler knows how many words a worker has.
+pub fn as_shipped(g: Settings) -> Settings
+    requires { ⌜ g .edition ≡ shipped ⌝ }
+    ensures { λ r. ⌜ r ≡ g ⌝ }
+{
+    in_edition(g, SHIPPED)
+}
+
+// The settings of a pool of the shipped edition.
+pub fn shipped_settings(words: &[u32]) -> Settings
+    requires { ⌜ (headWords ≤ length (now words)) × (settingsOf (now words) .edition ≡ shipped) ⌝ }
+    ensures { λ r. ⌜ r ≡ settingsOf (now (words .entry)) ⌝ }
+{
+    as_shipped(settings(words))
 }
 
 // Whether the step count is at its limit, or above.

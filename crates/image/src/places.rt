@@ -60,8 +60,11 @@ pub const SEEN: usize = 6;
 
 pub const SUM: usize = 7;
 
+// So many are read by the rules of a step.
+pub const SLOT_WORDS: usize = SUM + 1;
+
 // Its failed commits, from edition 1 on.
-pub const LOST: usize = SUM + 1;
+pub const LOST: usize = SLOT_WORDS;
 
 // How many words a worker has in the edition of the shipped calls.
 pub const WORKER_WORDS: usize = 9;

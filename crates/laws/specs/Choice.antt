@@ -1,5 +1,5 @@
 -- Choice by a test, and tests that hold together: all of a list, all below a bound.
-use Prim.Native.Nat.{ℕ, zero, suc, _+_, _<_}
+use Prim.Native.Nat.{ℕ, zero, suc, _+_, _≤_, _<_}
 use mathlib.Core.Bool.{Bool, true, false, false≢true}
 use mathlib.Core.List.{List, [], _∷_}
 use mathlib.Core.Path.{_≡_, refl, sym, _∙_}
@@ -26,6 +26,13 @@ pub cases : {A : Type 0} (P : A → Type 0) (b : Bool) (x y : A) → (b ≡ true
 unfolding cond
 cases P true x y f g = f refl
 cases P false x y f g = g refl
+
+-- one that is made twice, by one test
+pub cond-both : {A B : Type 0} (R : A → B → Type 0) (b : Bool) {x y : A} {x′ y′ : B} → (b ≡ true → R x x′) → (b ≡ false → R y y′)
+    → R (cond b x y) (cond b x′ y′)
+unfolding cond
+cond-both R true f g = f refl
+cond-both R false f g = g refl
 
 -- what is done to a choice is done to either
 pub cond-under : {A B : Type 0} (f : A → B) (b : Bool) (x y : A) → f (cond b x y) ≡ cond b (f x) (f y)
@@ -95,6 +102,22 @@ allBelow-at zero p i h e = absurd (omega arith)
 allBelow-at (suc n) p i h e =
     let t = both-true (allBelow n p) (p n) e in
     ⊎-elim (λ (q : i ≡ n). rw q (t .1)) (λ (l : i < n). allBelow-at n p i l (t .0)) (eq-or-lt-of-le (omega arith))
+
+-- two tests that agree below the bound
+pub allBelow-same : (n : ℕ) (p q : ℕ → Bool) → ((i : ℕ) → i < n → p i ≡ q i) → allBelow n p ≡ allBelow n q
+unfolding allBelow
+allBelow-same zero p q h = refl
+allBelow-same (suc n) p q h = rw (allBelow-same n p q (λ i l. h i (omega arith)), h n (omega arith)) refl
+
+-- a test that holds anyway from m on
+pub allBelow-free : (m n : ℕ) (p : ℕ → Bool) → m ≤ n → ((k : ℕ) → m ≤ k → p k ≡ true) → allBelow n p ≡ allBelow m p
+unfolding allBelow
+allBelow-free m zero p l h = let z : m ≡ 0 = omega arith in rw z refl
+allBelow-free m (suc n) p l h =
+    ⊎-elim
+    (λ (q : m ≡ suc n). rw q refl)
+    (λ (k : m < suc n). rw (h n (omega arith), both-one (allBelow n p)) (allBelow-free m n p (omega arith) h))
+    (eq-or-lt-of-le l)
 
 -- four numbers more
 abbrev pub fourFrom : ℕ → (ℕ → Bool) → Bool

@@ -9,7 +9,7 @@ use Rattle.rules.specs.Check.{checkRule}
 use Rattle.rules.specs.Commit.{commitBy, queueCommit, stackCommit}
 use Rattle.rules.specs.Confirm.{confirmedOf, confirmRule}
 use Rattle.rules.specs.Effects.{viewOf, nextOf}
-use Rattle.rules.specs.Fit.{headFit, subFit, subsFit, phaseFit, wordFit, workersFit, bodyChecked, checkedOf}
+use Rattle.rules.specs.Fit.{subFit, subsFit, phaseFit, wordFit, workersFit, bodyChecked, headChecked, checkedBy}
 use Rattle.rules.specs.Held.{itemsAbove, heldSub, heldBelow, countItems, distanceOf, heldBy, heldOf}
 use Rattle.rules.specs.Layout.{workerWords}
 use Rattle.rules.specs.Limits.{settingsFit}
@@ -37,7 +37,7 @@ file =
     (0x10001021 ∷ 0x20000802 ∷ 0x30000007 ∷ 0x50000000 ∷ 0x50000000 ∷ 0x50000000 ∷ 0x40000000 ∷ 0x50000000 ∷ 0x50000000 ∷ 0x50000000 ∷ 0x60000000 ∷ [])
 
 lines-are : linesOf file ≡ entry (5 ∷ 1 ∷ 0 ∷ 7 ∷ 0 ∷ 1 ∷ 1 ∷ 0 ∷ []) ∷ entry (9 ∷ 2 ∷ 0 ∷ 7 ∷ 0 ∷ 1 ∷ 1 ∷ 0 ∷ []) ∷ closing 0 0 ∷ []
-unfolding stored file cond allBelow putItem putSub putLanded putShifted countLost putWorker takenOf applyBy applyOf slotBegin fitBegin checkedBegin beginOf checkRule commitBy queueCommit stackCommit confirmedOf confirmRule viewOf nextOf headFit subFit subsFit phaseFit wordFit workersFit bodyChecked checkedOf itemsAbove heldSub heldBelow countItems distanceOf settingsFit zeroed indexed madeWords makeOf missOf queuePutRead queueTakeRead stackRead shiftBy queueShift stackShift ruleBy ruleOf slotStep fitStep checkedStep stepOf windowRule slotAt putSlot queuePhase stackPhase phaseOf encodePhase encode fileFrom fileOf firstOf secondOf laterOf itemOf readsOf readAt mostPassed boundIn cappedOf stops heldBy heldOf workerWords linesFrom linesOf
+unfolding stored file cond allBelow putItem putSub putLanded putShifted countLost putWorker takenOf applyBy applyOf slotBegin fitBegin checkedBegin beginOf checkRule commitBy queueCommit stackCommit confirmedOf confirmRule viewOf nextOf subFit subsFit phaseFit wordFit workersFit bodyChecked headChecked checkedBy itemsAbove heldSub heldBelow countItems distanceOf settingsFit zeroed indexed madeWords makeOf missOf queuePutRead queueTakeRead stackRead shiftBy queueShift stackShift ruleBy ruleOf slotStep fitStep checkedStep stepOf windowRule slotAt putSlot queuePhase stackPhase phaseOf encodePhase encode fileFrom fileOf firstOf secondOf laterOf itemOf readsOf readAt mostPassed boundIn cappedOf stops heldBy heldOf workerWords linesFrom linesOf
 lines-are = refl
 
 -- "5 1 0 7 0 1 1 0", "9 2 0 7 0 1 1 0", "held 0 worst 0", a newline after each

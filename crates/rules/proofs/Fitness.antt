@@ -6,15 +6,15 @@ use mathlib.Core.List.{List}
 use mathlib.Core.Bool.{Bool, true, false}
 use native.Mathlib.Omega.{arith}
 use lib.ListN.{getD, length}
-use lib.Dec.{ltb, leb, lit<}
+use lib.Dec.{ltb, leb, eqb, lit<}
 use borrow.Author.Tests.{ltb-true, ltb-false, leb-true, eq-eqb, ne-eqb, eqb-true}
-use Rattle.laws.specs.Choice.{cond, cases, both-true, all, all-holds, allBelow-at}
+use Rattle.laws.specs.Choice.{cond, cases, both-true, all, all-holds, allBelow, allBelow-at, allBelow-same, allBelow-free}
 use Rattle.rules.specs.Answers.{tooFewWords, notFit}
-use Rattle.rules.specs.Layout.{headWords, workerWords, workerAt, phaseWord, indexWord, scanWord, needed, settingsOf}
+use Rattle.rules.specs.Layout.{headWords, workerWords, slotWords, workerAt, phaseWord, indexWord, scanWord, needed, settingsOf}
 use Rattle.rules.specs.Limits.{limits, queueLimits, settingsFit, Bounds}
-use Rattle.rules.specs.Fit.{Checked, Unfit, Fit, headFit, subFit, subsFit, phaseFit, wordFit, workersFit, bodyChecked, checkedOf, refusalOf, SubFits, FitPool}
+use Rattle.rules.specs.Fit.{Checked, Unfit, Fit, subFit, subsFit, phaseFit, wordFit, workersFit, bodyChecked, headChecked, checkedBy, checkedOf, refusalOf, SubFits, FitPool}
 use Rattle.rules.specs.declared.Settings.{Settings}
-use Rattle.rules.proofs.Workers.{word-lt}
+use Rattle.rules.proofs.Workers.{slot-within, word-lt}
 
 -- ---- settings
 pub settings-bounds : (g : Settings) → settingsFit g ≡ true → Bounds g
@@ -81,6 +81,17 @@ pub worker-word : (ws : List ℕ) (g : Settings) (i k : ℕ) → i < g .workers 
 unfolding workersFit
 worker-word ws g i k h l e = allBelow-at (workerWords (g .edition)) _ k l (allBelow-at (g .workers) _ i h e)
 
+-- of a worker's words the fitness asks for those alone that the rules read
+free-word : (g : Settings) (k x : ℕ) → slotWords ≤ k → wordFit g k x ≡ true
+unfolding wordFit cond
+free-word g k x l = rw (ne-eqb k phaseWord (λ u. omega arith), ne-eqb k indexWord (λ u. omega arith), ne-eqb k scanWord (λ u. omega arith)) refl
+
+pub slots-fit : (g : Settings) (ws : List ℕ)
+    → workersFit ws g ≡ allBelow (g .workers) (λ i. allBelow slotWords (λ k. wordFit g k (getD ws (workerAt g i + k) 0)))
+unfolding workersFit
+slots-fit g ws =
+    allBelow-same (g .workers) _ _ (λ i l. allBelow-free slotWords (workerWords (g .edition)) _ (slot-within (g .edition)) (λ k m. free-word g k _ m))
+
 body-fit : (ws : List ℕ) (h g : Settings) → settingsOf ws ≡ h → settingsFit h ≡ true → bodyChecked ws h ≡ Fit g → FitPool h ws × (h ≡ g)
 unfolding bodyChecked subsFit wordFit cond
 body-fit ws h g s limits e =
@@ -98,28 +109,38 @@ body-fit ws h g s limits e =
       fit-settings h g (workers .1),
     )
 
-pub head-bounds : (ed : ℕ) (g : Settings) → headFit ed g ≡ true → Bounds g
-unfolding headFit
-head-bounds ed g e = settings-bounds g (both-true _ _ e .0)
+-- what is checked fit has passed each test of the head, whatever number another edition would have had
+record Passed (ed : ℕ) (ws : List ℕ) (g : Settings) : Type 0 where
+  long : ltb (length ws) headWords ≡ false
+  limits : settingsFit (settingsOf ws) ≡ true
+  edition : eqb (settingsOf ws .edition) ed ≡ true
+  body : bodyChecked ws (settingsOf ws) ≡ Fit g
+
+passed-head : (other ed : ℕ) (ws : List ℕ) (g : Settings) → checkedBy other ed ws ≡ Fit g → Passed ed ws g
+unfolding checkedBy headChecked
+passed-head other ed ws g e =
+    let long = passed-not (ltb (length ws) headWords) tooFewWords _ g e in
+    let limits = passed (settingsFit (settingsOf ws)) notFit _ g (long .1) in
+    let edition = passed (eqb (settingsOf ws .edition) ed) other _ g (limits .1) in
+    record { long = long .0; limits = limits .0; edition = edition .0; body = edition .1 }
+
+-- so the check of a move's source finds fit what a call's does
+pub fit-with-other : (other other′ ed : ℕ) (ws : List ℕ) (g : Settings) → checkedBy other ed ws ≡ Fit g → checkedBy other′ ed ws ≡ Fit g
+unfolding checkedBy headChecked cond
+fit-with-other other other′ ed ws g e = let p = passed-head other ed ws g e in rw (p .long, p .limits, p .edition) (p .body)
 
 -- a pool that is checked fit
 pub fit-pool : (ed : ℕ) (ws : List ℕ) (g : Settings) → checkedOf ed ws ≡ Fit g → FitPool g ws
-unfolding checkedOf headFit
 fit-pool ed ws g e =
-    let head = passed (headFit ed (settingsOf ws)) notFit _ g (passed-not (ltb (length ws) headWords) tooFewWords _ g e .1) in
-    let p = body-fit ws (settingsOf ws) g refl (both-true _ _ (head .0) .0) (head .1) in
+    let head = passed-head notFit ed ws g e in
+    let p = body-fit ws (settingsOf ws) g refl (head .limits) (head .body) in
     subst (λ (h : Settings). FitPool h ws) (p .1) (p .0)
 
 -- its settings are within limits and it is of the edition asked for, and each worker is in a phase of its kind
-head-is : (ed : ℕ) (g : Settings) → headFit ed g ≡ true → (settingsFit g ≡ true) × (g .edition ≡ ed)
-unfolding headFit
-head-is ed g e = let t = both-true (settingsFit g) _ e in (t .0, eqb-true _ _ (t .1))
-
 pub fit-head : (ed : ℕ) (ws : List ℕ) (g : Settings) → checkedOf ed ws ≡ Fit g → (settingsFit g ≡ true) × (g .edition ≡ ed)
-unfolding checkedOf
 fit-head ed ws g e =
-    let h = head-is ed (settingsOf ws) (passed (headFit ed (settingsOf ws)) notFit _ g (passed-not (ltb (length ws) headWords) tooFewWords _ g e .1) .0) in
-    subst (λ (x : Settings). (settingsFit x ≡ true) × (x .edition ≡ ed)) (fit-pool ed ws g e .settings) h
+    let head = passed-head notFit ed ws g e in
+    subst (λ (x : Settings). (settingsFit x ≡ true) × (x .edition ≡ ed)) (fit-pool ed ws g e .settings) (head .limits, eqb-true _ _ (head .edition))
 
 -- so it is fit by its own edition
 pub fit-own : (ed : ℕ) (ws : List ℕ) (g : Settings) → checkedOf ed ws ≡ Fit g → checkedOf (g .edition) ws ≡ Fit g
@@ -132,10 +153,9 @@ body-workers ws h g e =
     (workers .0, fit-settings h g (workers .1))
 
 pub fit-number : (ed : ℕ) (ws : List ℕ) (g : Settings) → checkedOf ed ws ≡ Fit g → (i : ℕ) → i < g .workers → phaseFit (g .kind) (getD ws (workerAt g i) 0) ≡ true
-unfolding checkedOf wordFit cond
+unfolding wordFit cond
 fit-number ed ws g e i l =
-    let body = passed (headFit ed (settingsOf ws)) notFit _ g (passed-not (ltb (length ws) headWords) tooFewWords _ g e .1) .1 in
-    let p = body-workers ws (settingsOf ws) g body in
+    let p = body-workers ws (settingsOf ws) g (passed-head notFit ed ws g e .body) in
     let workers : workersFit ws g ≡ true = subst (λ (h : Settings). workersFit ws h ≡ true) (p .1) (p .0) in
     let z : workerAt g i + 0 ≡ workerAt g i = omega arith in
     rw z at (worker-word ws g i phaseWord l (word-lt (g .edition) _ (lit< tt)) workers)
@@ -151,23 +171,28 @@ body-numbered ws g =
     cases (Numbered g) (ltb (length ws) (needed g)) _ _ (λ e. omega arith)
     (λ e. cases (Numbered g) (subsFit ws g) _ _ (λ f. cases (Numbered g) (workersFit ws g) _ _ (λ h. refl) (λ h. omega arith)) (λ f. omega arith))
 
-numbered : (ed : ℕ) (ws : List ℕ) → Numbered (settingsOf ws) (checkedOf ed ws)
-unfolding checkedOf Numbered
-numbered ed ws =
+numbered : (other ed : ℕ) (ws : List ℕ) → 1 ≤ other → Numbered (settingsOf ws) (checkedBy other ed ws)
+unfolding checkedBy headChecked Numbered
+numbered other ed ws l =
     cases (Numbered (settingsOf ws)) (ltb (length ws) headWords) _ _ (λ e. omega arith)
-    (λ e. cases (Numbered (settingsOf ws)) (headFit ed (settingsOf ws)) _ _ (λ f. body-numbered ws (settingsOf ws)) (λ f. omega arith))
+    (λ e. cases (Numbered (settingsOf ws)) (settingsFit (settingsOf ws)) _ _
+    (λ f. cases (Numbered (settingsOf ws)) (eqb (settingsOf ws .edition) ed) _ _ (λ h. body-numbered ws (settingsOf ws)) (λ h. l))
+    (λ f. omega arith))
 
-pub refusal-none : (ed : ℕ) (ws : List ℕ) → refusalOf (checkedOf ed ws) ≡ 0 → checkedOf ed ws ≡ Fit (settingsOf ws)
+pub refusal-none-by : (other ed : ℕ) (ws : List ℕ) → 1 ≤ other → refusalOf (checkedBy other ed ws) ≡ 0 → checkedBy other ed ws ≡ Fit (settingsOf ws)
 unfolding Numbered
-refusal-none ed ws = go (checkedOf ed ws) (numbered ed ws)
+refusal-none-by other ed ws l = go (checkedBy other ed ws) (numbered other ed ws l)
   where
     go : (c : Checked) → Numbered (settingsOf ws) c → refusalOf c ≡ 0 → c ≡ Fit (settingsOf ws)
     go (Unfit n) h e = absurd (omega arith)
     go (Fit g) h e = rw h refl
 
+pub refusal-none : (ed : ℕ) (ws : List ℕ) → refusalOf (checkedOf ed ws) ≡ 0 → checkedOf ed ws ≡ Fit (settingsOf ws)
+refusal-none ed ws = refusal-none-by notFit ed ws (omega arith)
+
+pub refusal-some-by : (c : Checked) → ¬ (refusalOf c ≡ 0) → c ≡ Unfit (refusalOf c)
+refusal-some-by (Unfit n) h = refl
+refusal-some-by (Fit g) h = absurd (h refl)
+
 pub refusal-some : (ed : ℕ) (ws : List ℕ) → ¬ (refusalOf (checkedOf ed ws) ≡ 0) → checkedOf ed ws ≡ Unfit (refusalOf (checkedOf ed ws))
-refusal-some ed ws = go (checkedOf ed ws)
-  where
-    go : (c : Checked) → ¬ (refusalOf c ≡ 0) → c ≡ Unfit (refusalOf c)
-    go (Unfit n) h = refl
-    go (Fit g) h = absurd (h refl)
+refusal-some ed ws = refusal-some-by (checkedOf ed ws)

@@ -48,6 +48,10 @@ badWord = 29
 abbrev pub overBound : ℕ
 overBound = 30
 
+-- a move: "an image of the wrong edition for the direction"
+abbrev pub wrongEdition : ℕ
+wrongEdition = 31
+
 -- ---- the answers
 abbrev pub numberOf : Answer → ℕ
 numberOf Moving = 0
@@ -99,3 +103,7 @@ returned n ws fields = record { number = n; words = ws; fields = fields }
 
 abbrev pub returnedOf : Out → Returned
 returnedOf o = returned (numberOf (o .answer)) (o .words) (fieldsOf (o .answer))
+
+-- by a call that writes no fields
+abbrev pub returnedAlone : Out → Returned
+returnedAlone o = returned (numberOf (o .answer)) (o .words) []

@@ -13,10 +13,6 @@ use Rattle.rules.specs.Worker.{checkPhase, confirmPhase, sideBase, numbe
 use Rattle.rules.specs.declared.Settings.{Settings}
 use Rattle.rules.specs.declared.Side.the-variants.{Putting, Taking}
 
--- settings within limits, the stride in word 10 among them; and of the edition that is asked for, in word 11
-unfoldable pub headFit : ℕ → Settings → Bool
-headFit e g = both (settingsFit g) (eqb (g .edition) e)
-
 -- items taken at most items put, and put minus taken at most R
 abbrev pub queueSubFit : ℕ → ℕ → ℕ → Bool
 queueSubFit rows put taken = both (leb taken put) (leb (put - taken) rows)
@@ -58,9 +54,17 @@ bodyChecked ws g =
     cond (ltb (length ws) (needed g)) (Unfit tooFewWords)
     (cond (subsFit ws g) (cond (workersFit ws g) (Fit g) (Unfit notFit)) (Unfit notFit))
 
--- 21 for 12 words, 23 for the settings and the edition, then the above
-unfoldable pub checkedOf : ℕ → List ℕ → Checked
-checkedOf e ws = cond (ltb (length ws) headWords) (Unfit tooFewWords) (cond (headFit e (settingsOf ws)) (bodyChecked ws (settingsOf ws)) (Unfit notFit))
+-- 23 for the settings, the stride in word 10 among them, then `other` where word 11 is not the edition that is asked for, then the above
+unfoldable pub headChecked : ℕ → ℕ → List ℕ → Settings → Checked
+headChecked other e ws g = cond (settingsFit g) (cond (eqb (g .edition) e) (bodyChecked ws g) (Unfit other)) (Unfit notFit)
+
+-- 21 for 12 words first
+unfoldable pub checkedBy : ℕ → ℕ → List ℕ → Checked
+checkedBy other e ws = cond (ltb (length ws) headWords) (Unfit tooFewWords) (headChecked other e ws (settingsOf ws))
+
+-- the check before a call: of another edition is not fit
+abbrev pub checkedOf : ℕ → List ℕ → Checked
+checkedOf e ws = checkedBy notFit e ws
 
 -- the number of a refusal; 0 for a fit pool
 abbrev pub refusalOf : Checked → ℕ

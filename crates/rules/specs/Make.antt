@@ -20,9 +20,14 @@ abbrev pub settingsFrom : ℕ → ℕ → ℕ → ℕ → ℕ → ℕ → ℕ �
 settingsFrom kind width depth shift rows workers stride =
     record { kind = kind; width = width; depth = depth; shift = shift; rows = rows; workers = workers; stride = stride; edition = shipped }
 
+-- the same settings in an edition
+abbrev pub inEdition : ℕ → Settings → Settings
+inEdition e g =
+    record { kind = g .kind; width = g .width; depth = g .depth; shift = g .shift; rows = g .rows; workers = g .workers; stride = g .stride; edition = e }
+
 -- settings as a call of make that names them has them
 abbrev pub shippedFrom : Settings → Settings
-shippedFrom g = settingsFrom (g .kind) (g .width) (g .depth) (g .shift) (g .rows) (g .workers) (g .stride)
+shippedFrom g = inEdition shipped g
 
 -- the first n words zero
 unfoldable pub zeroed : List ℕ → ℕ → List ℕ

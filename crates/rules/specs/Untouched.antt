@@ -4,7 +4,8 @@ use mathlib.Core.Path.{_≡_}
 use mathlib.Core.List.{List}
 use lib.ListN.{getD, length}
 use Rattle.rules.specs.Layout.{needed, settingsOf}
-use Rattle.rules.specs.Make.{makeOf}
+use Rattle.rules.specs.Make.{makeOf, inEdition}
+use Rattle.rules.specs.Move.{moveOf}
 use Rattle.rules.specs.Begin.{beginOf}
 use Rattle.rules.specs.Step.{stepOf}
 use Rattle.rules.specs.Dispatch.{dispatchOf}
@@ -24,6 +25,10 @@ BeginKeeps = (e : ℕ) (ws : List ℕ) (i : ℕ) (side : Side) (value : ℕ) →
 
 abbrev pub StepKeeps : Type 0
 StepKeeps = (e : ℕ) (ws : List ℕ) (i : ℕ) → Beyond (needed (settingsOf ws)) ws (stepOf e ws i .words)
+
+-- of a move's target; its source is lent for reading
+abbrev pub MoveKeeps : Type 0
+MoveKeeps = (a b : ℕ) (from to : List ℕ) → Beyond (needed (inEdition b (settingsOf from))) to (moveOf a b from to .words)
 
 abbrev pub DispatchKeeps : Type 0
 DispatchKeeps = (e : ℕ) (ws : List ℕ) (i steps : ℕ) → Beyond (needed (settingsOf ws)) ws (dispatchOf e ws i steps .words)

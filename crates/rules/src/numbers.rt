@@ -21,6 +21,8 @@ pub const BAD_WORD: u32 = 29;
 
 pub const OVER_BOUND: u32 = 30;
 
+pub const WRONG_EDITION: u32 = 31;
+
 // The phases of a put; a take's are these and `TAKING`.
 pub const IDLE: u32 = 0;
 

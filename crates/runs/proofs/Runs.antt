@@ -13,7 +13,7 @@ use Rattle.rules.specs.Answers.{numberOf, out, refuse}
 use Rattle.rules.specs.Layout.{workerWords, needed}
 use Rattle.rules.specs.Limits.{settingsFit}
 use Rattle.rules.specs.Worker.{slotAt, putSlot, queuePhase, stackPhase, phaseOf, encode, encodePhase}
-use Rattle.rules.specs.Fit.{headFit, subFit, subsFit, phaseFit, wordFit, workersFit, bodyChecked, checkedOf}
+use Rattle.rules.specs.Fit.{subFit, subsFit, phaseFit, wordFit, workersFit, bodyChecked, headChecked, checkedBy}
 use Rattle.rules.specs.Make.{zeroed, indexed, madeWords, makeOf}
 use Rattle.rules.specs.Begin.{slotBegin, fitBegin, checkedBegin, beginOf}
 use Rattle.rules.specs.Effects.{viewOf, nextOf, hopOf}
@@ -44,6 +44,8 @@ use Rattle.runs.specs.Extremes.{extremes}
 use Rattle.runs.specs.Spacers.{spacers}
 use Rattle.runs.specs.Solos.{solos}
 use Rattle.runs.specs.Stretches.{Stretch, Unanswered, stretches}
+use Rattle.rules.specs.Move.{workerMoved, workersMoved, headMoved, cellsMoved, movedWords, fitMove, checkedMove, moveOf}
+use Rattle.runs.specs.Moves.{MovesByHand}
 use Rattle.runs.specs.Cards.{Cards, Says, carded, editionZero, EditionsByHand}
 use Rattle.runs.specs.Tests.{every, sameList, lineTests, sameLine, holds, gives, reaches, says, unanswered}
 
@@ -109,7 +111,7 @@ stretch-unanswered s t =
 
 -- ---- the tables
 tables-pass : (every holds table ≡ true) × (every holds strides ≡ true) × (every reaches extremes ≡ true) × (every reaches spacers ≡ true) × (every reaches solos ≡ true) × (every unanswered stretches ≡ true) × (every says carded ≡ true) × (every holds editionZero ≡ true)
-unfolding table strides extremes spacers solos stretches carded editionZero wordsAfter mostPassed leastFull frameworkBound exactBound thesisBound k14Bound countedSteps eventsOf runOf linesOf makeNumber settingsFit workerWords run callOf cond allBelow slotAt putSlot queuePhase stackPhase phaseOf encode encodePhase headFit subFit subsFit phaseFit wordFit workersFit bodyChecked checkedOf zeroed indexed madeWords makeOf slotBegin fitBegin checkedBegin beginOf viewOf nextOf hopOf windowRule missOf queuePutRead queueTakeRead stackRead checkRule commitBy queueCommit stackCommit shiftBy queueShift stackShift confirmedOf confirmRule itemsAbove heldSub heldBelow countItems passedOf distanceOf putItem putSub putLanded putShifted countLost putWorker takenOf applyBy applyOf ruleBy ruleOf slotStep fitStep checkedStep stepOf
+unfolding table strides extremes spacers solos stretches carded editionZero wordsAfter mostPassed leastFull frameworkBound exactBound thesisBound k14Bound countedSteps eventsOf runOf linesOf makeNumber settingsFit workerWords run callOf cond allBelow slotAt putSlot queuePhase stackPhase phaseOf encode encodePhase subFit subsFit phaseFit wordFit workersFit bodyChecked headChecked checkedBy zeroed indexed madeWords makeOf slotBegin fitBegin checkedBegin beginOf viewOf nextOf hopOf windowRule missOf queuePutRead queueTakeRead stackRead checkRule commitBy queueCommit stackCommit shiftBy queueShift stackShift confirmedOf confirmRule itemsAbove heldSub heldBelow countItems passedOf distanceOf putItem putSub putLanded putShifted countLost putWorker takenOf applyBy applyOf ruleBy ruleOf slotStep fitStep checkedStep stepOf
 tables-pass = (refl, refl, refl, refl, refl, refl, refl, refl)
 
 pub runs-hold : AllHold table × AllHold strides × All Reaches extremes × All Reaches spacers × All Reaches solos × All Unanswered stretches × All Says carded × AllHold editionZero
@@ -142,5 +144,10 @@ segments-by-hand = (
 
 -- ---- editions
 pub editions-by-hand : EditionsByHand
-unfolding makeOf madeWords zeroed indexed workerWords settingsFit checkedOf headFit bodyChecked subsFit subFit workersFit wordFit phaseFit allBelow cond
+unfolding makeOf madeWords zeroed indexed workerWords settingsFit headChecked checkedBy bodyChecked subsFit subFit workersFit wordFit phaseFit allBelow cond
 editions-by-hand = (refl, refl, refl, refl, refl, refl, refl, refl, refl, refl, refl)
+
+-- ---- moves
+pub moves-by-hand : MovesByHand
+unfolding moveOf checkedMove fitMove movedWords headMoved workersMoved workerMoved cellsMoved workerWords settingsFit headChecked checkedBy bodyChecked subsFit subFit workersFit wordFit phaseFit allBelow cond
+moves-by-hand = (refl, refl, refl, refl, refl, refl, refl, refl, refl, refl, refl, refl, refl, refl, refl, refl, refl, refl, refl, refl, refl, refl, refl)

@@ -6,13 +6,13 @@ use mathlib.Core.Path.{_≡_}
 use lib.ListN.{getD, set, replicate, take as cut}
 use Rattle.rules.specs.Layout.{editionAt}
 use Rattle.rules.specs.Fit.{checkedOf, refusalOf}
-use Rattle.rules.specs.Make.{shipped, settingsFrom, makeOf}
+use Rattle.rules.specs.Make.{shipped, settingsFrom, inEdition, makeOf}
 use Rattle.rules.specs.Collisions.{cardOf}
 use Rattle.rules.specs.Consequences.{wordsAfter}
 use Rattle.runs.specs.Rows.{Row, startOf, Holds}
 use Rattle.runs.specs.Table.{twoPuts, twoLines}
 use Rattle.runs.specs.Strides.{queuePuts, stackPuts, stackTakes}
-use Rattle.runs.specs.Notation.{queue, ofEdition, makes, runs, steps, take, taken}
+use Rattle.runs.specs.Notation.{queue, makes, runs, steps, take, taken}
 
 -- a row, and the cards of its workers by number
 pub record Cards : Type 0 where
@@ -52,15 +52,15 @@ carded =
     cards (stackTakes 0 (taken 4 8 9 2 1 3 0)) (0 ∷ 0 ∷ 0 ∷ 0 ∷ 1 ∷ []) ∷ []
 
 -- ---- the same calls have the same lines
-abbrev inEdition : ℕ → Row → Row
-inEdition e r = runs (ofEdition e (r .settings)) (r .calls) (r .lines)
+abbrev rowIn : ℕ → Row → Row
+rowIn e r = runs (inEdition e (r .settings)) (r .calls) (r .lines)
 
 unfoldable pub editionZero : List Row
 editionZero =
     -- paper 01's own first run: 48 words, and 47 gives 21
-    makes (ofEdition 0 (queue 2 1 4 2)) 48 0 ∷
-    makes (ofEdition 0 (queue 2 1 4 2)) 47 21 ∷
-    map (λ (x : Cards). inEdition 0 (x .row)) carded
+    makes (inEdition 0 (queue 2 1 4 2)) 48 0 ∷
+    makes (inEdition 0 (queue 2 1 4 2)) 47 21 ∷
+    map (λ (x : Cards). rowIn 0 (x .row)) carded
 
 -- ---- "Word 11 becomes the edition, set to 1 by make, and must be 1; an image with 0 there isn't fit"
 -- the words of a make, as its caller names the settings of the first run by hand, with all that are needed lent

@@ -9,4 +9,5 @@ pub mod Spacers
 pub mod Solos
 pub mod Stretches
 pub mod Cards
+pub mod Moves
 pub mod Tests

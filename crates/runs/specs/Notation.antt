@@ -15,11 +15,6 @@ queue width depth rows workers = record { kind = 0; width = width; depth = depth
 abbrev pub stack : ℕ → ℕ → ℕ → ℕ → ℕ → Settings
 stack width depth shift rows workers = record { kind = 1; width = width; depth = depth; shift = shift; rows = rows; workers = workers; stride = 0; edition = shipped }
 
--- of another edition
-abbrev pub ofEdition : ℕ → Settings → Settings
-ofEdition e g =
-    record { kind = g .kind; width = g .width; depth = g .depth; shift = g .shift; rows = g .rows; workers = g .workers; stride = g .stride; edition = e }
-
 -- ---- rows
 abbrev pub makes : Settings → ℕ → ℕ → Row
 makes g lent number = record { settings = g; lent = lent; made = number; counted = 0; calls = []; lines = [] }

@@ -1,31 +1,24 @@
 -- No step and no begin stores at a place of the settings, and once the settings are known none reads there. So a store there
--- commutes with what they store, and what they read is the same, whatever stride the settings have.
+-- commutes with what they store, and the words read alike, whatever stride the settings have.
 use Prim.Native.Nat.{ℕ, zero, suc, _+_, _%_, _≤_}
 use mathlib.Core.Path.{_≡_, refl, sym}
 use mathlib.Core.Logic.{_≢_}
 use mathlib.Core.List.{List, [], _∷_}
 use native.Mathlib.Omega.{arith}
-use lib.ListN.{getD, set, length-set}
+use lib.ListN.{getD, set}
 use lib.Seq.{getD-set-other, set-comm, sets}
 use lib.Dec.{ltb}
-use Rattle.laws.specs.Choice.{cond-under, allBelow}
+use Rattle.laws.specs.Choice.{cond-under}
 use Rattle.laws.specs.Wrap.{add32}
-use Rattle.rules.specs.Layout.{headWords, stepsAt, putsAt, topAt, markAt, workerWords, firstOf, secondOf, firstAt, secondAt, workerAt, indexAt, cellAt, stampAt, lostWord, lostAt}
-use Rattle.rules.specs.Worker.{slotAt, wordsOf, putSlot}
-use Rattle.rules.specs.Fit.{Checked, Unfit, Fit, subFit, subsFit, wordFit, workersFit, bodyChecked}
+use Rattle.rules.specs.Layout.{headWords, stepsAt, putsAt, topAt, markAt, workerWords, firstAt, secondAt, workerAt, indexAt, cellAt, stampAt, lostWord, lostAt}
+use Rattle.rules.specs.Worker.{wordsOf, putSlot}
 use Rattle.rules.specs.Make.{indexed}
-use Rattle.rules.specs.Effects.{viewOf}
-use Rattle.rules.specs.Held.{itemAt, itemsAbove, heldSub, heldBelow, countItems, reported, distanceOf}
-use Rattle.rules.specs.Apply.{putItem, putSub, putLanded, putShifted, putWorker, takenOf, countLost}
+use Rattle.rules.specs.Held.{itemAt}
+use Rattle.rules.specs.Apply.{putItem, putSub, putLanded, putShifted, putWorker, countLost}
 use Rattle.rules.specs.Stride.{withStride}
-use Rattle.rules.specs.declared.Answer.the-variants.{Taken}
 use Rattle.rules.proofs.Types.{Settings, Slot, Row, Stamp, Effect}
-use Rattle.rules.proofs.words.Writes.{Still, slot-kept, item-kept}
-
--- what is checked, with another stride
-abbrev pub strided : ℕ → Checked → Checked
-strided y (Unfit n) = Unfit n
-strided y (Fit g) = Fit (withStride g y)
+use Rattle.rules.proofs.words.Writes.{Still, item-kept}
+use Rattle.rules.proofs.Alike.{Alike}
 
 module _ (p : ℕ) (still : Still p) (x : ℕ) where
   beyond : (m : ℕ) → headWords ≤ m → p ≢ m
@@ -105,48 +98,16 @@ module _ (p : ℕ) (still : Still p) (x : ℕ) where
     pub high : (m : ℕ) → headWords ≤ m → getD vs m 0 ≡ getD ws m 0
     high m l = off m (beyond m l)
 
-    first-same : (j : ℕ) → firstOf vs j ≡ firstOf ws j
-    first-same j = high (firstAt j) (omega arith)
+    pub same-items : (j r : ℕ) → itemAt vs h j r ≡ itemAt ws g j r
+    same-items = item-kept g ws vs (λ m l. high m (omega arith))
 
-    second-same : (j : ℕ) → secondOf vs j ≡ secondOf ws j
-    second-same j = high (secondAt j) (omega arith)
-
-    item-same : (j r : ℕ) → itemAt vs h j r ≡ itemAt ws g j r
-    item-same = item-kept g ws vs (λ m l. high m (omega arith))
-
-    items-same : (j t k : ℕ) → itemsAbove vs h j t k ≡ itemsAbove ws g j t k
-    unfolding itemsAbove
-    items-same j t zero = refl
-    items-same j t (suc k) = rw (items-same j t k, item-same j (t + k + 1)) refl
-
-    held-same : (m : ℕ) → heldBelow vs h m ≡ heldBelow ws g m
-    unfolding heldBelow heldSub
-    held-same zero = refl
-    held-same (suc m) = rw (held-same m, first-same m, second-same m, items-same m _ _) refl
-
-    pub taken-same : (j : ℕ) (row : Row) → takenOf vs h j row ≡ takenOf ws g j row
-    unfolding takenOf distanceOf
-    taken-same j row =
-        let item = item-same j (row .0) in
-        λ u. Taken (item u .value) j row (record { 0 = item u .stamp }) (countItems (reported (g .kind) (item u .stamp)) (held-same (g .width) u))
-
-    pub view-same : (at : ℕ) → headWords ≤ at → viewOf vs h at ≡ viewOf ws g at
-    unfolding viewOf
-    view-same at l =
-        let index = high (indexAt at) (omega arith) in
-        let slot : slotAt vs at ≡ slotAt ws at = slot-kept ws vs at (λ k a. high (at + k) (omega arith)) in
-        rw (off topAt (still .top), off markAt (still .mark), off putsAt (still .puts), index, first-same _, second-same _, slot) refl
-
-    -- ---- fitness, of settings within limits
-    subs-same : subsFit vs h ≡ subsFit ws g
-    unfolding subsFit subFit
-    subs-same = λ u. allBelow (g .width) (λ j. subFit g (first-same j u) (second-same j u))
-
-    workers-same : workersFit vs h ≡ workersFit ws g
-    unfolding workersFit wordFit
-    workers-same = λ u. allBelow (g .workers) (λ i. allBelow (workerWords (g .edition)) (λ k. wordFit g k (high (workerAt g i + k) (omega arith) u)))
-
-    pub body-same : bodyChecked vs h ≡ strided y (bodyChecked ws g)
-    unfolding bodyChecked
-    body-same =
-        rw (length-set ws p x, subs-same, workers-same, cond-under (strided y) _ _ _, cond-under (strided y) (subsFit ws g) _ _, cond-under (strided y) (workersFit ws g) _ _) refl
+    pub reads-alike : Alike g y (g .edition) ws vs
+    reads-alike =
+        record {
+          puts = off putsAt (still .puts);
+          top = off topAt (still .top);
+          mark = off markAt (still .mark);
+          first = λ j l. high (firstAt j) (omega arith);
+          second = λ j l. high (secondAt j) (omega arith);
+          word = λ i k l m. high (workerAt g i + k) (omega arith);
+        }

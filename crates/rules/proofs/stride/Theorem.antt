@@ -9,12 +9,13 @@ use native.Mathlib.Decide.{decLe}
 use native.Mathlib.Omega.{arith}
 use lib.ListN.{getD, set, take, length, length-set}
 use lib.Seq.{getD-set-same, getD-set-other, set-comm, set-set, sets}
+use lib.Dec.{eqb}
 use borrow.Author.Tests.{lt-ltb, le-ltb}
 use Rattle.laws.specs.Choice.{cond, cond-under}
-use Rattle.rules.specs.Answers.{out, numberOf}
-use Rattle.rules.specs.Layout.{headWords, kindAt, widthAt, depthAt, shiftAt, rowsAt, workerCountAt, strideAt, editionAt, needed, settingsOf}
+use Rattle.rules.specs.Answers.{notFit, out, numberOf}
+use Rattle.rules.specs.Layout.{headWords, widthAt, strideAt, editionAt, needed, settingsOf}
 use Rattle.rules.specs.Limits.{settingsFit}
-use Rattle.rules.specs.Fit.{Checked, Unfit, Fit, headFit, checkedOf}
+use Rattle.rules.specs.Fit.{Checked, Unfit, Fit, headChecked, checkedBy, checkedOf}
 use Rattle.rules.specs.Make.{zeroed, newHead, indexed, madeWords, makeOf}
 use Rattle.rules.specs.Effects.{hopOf}
 use Rattle.rules.specs.Run.{Call, callOf, run}
@@ -25,8 +26,10 @@ use Rattle.rules.proofs.Types.{Settings}
 use Rattle.rules.proofs.Fitness.{settings-bounds, fit-pool}
 use Rattle.rules.proofs.words.Writes.{Still, still-low, still-high, set-kept}
 use Rattle.rules.proofs.words.Made.{accepted, made-says}
-use Rattle.rules.proofs.stride.Stores.{strided, indexed-commutes, body-same}
-use Rattle.rules.proofs.stride.Calls.{thenSet, checkedCall, call-is, unfit-call, call-commutes, kept}
+use Rattle.rules.proofs.Alike.{settings-alike, inOther, body-same}
+use Rattle.rules.proofs.stride.Stores.{indexed-commutes, reads-alike}
+use Rattle.rules.proofs.Checked.{checkedCall, call-is, unfit-call}
+use Rattle.rules.proofs.stride.Calls.{thenSet, call-commutes, kept}
 
 stride-still : Still strideAt
 stride-still = still-high strideAt (omega arith) (omega arith)
@@ -49,51 +52,51 @@ limits-alike g z n = elim (decLe 2 (g .width)) [
 
 settings-set : (ws : List ℕ) (x : ℕ) → strideAt < length ws → settingsOf (set ws strideAt x) ≡ withStride (settingsOf ws) x
 settings-set ws x l =
-    let low : (m : ℕ) → m < strideAt → getD (set ws strideAt x) m 0 ≡ getD ws m 0 = λ m a. getD-set-other ws strideAt m x 0 (λ u. omega arith) in
-    λ u. record {
-      kind = low kindAt (omega arith) u;
-      width = low widthAt (omega arith) u;
-      depth = low depthAt (omega arith) u;
-      shift = low shiftAt (omega arith) u;
-      rows = low rowsAt (omega arith) u;
-      workers = low workerCountAt (omega arith) u;
-      stride = getD-set-same ws strideAt x 0 l u;
-      edition = getD-set-other ws strideAt editionAt x 0 (λ v. omega arith) u;
-    }
+    let other : (m : ℕ) → m ≢ strideAt → getD (set ws strideAt x) m 0 ≡ getD ws m 0 = λ m n. getD-set-other ws strideAt m x 0 n in
+    settings-alike ws (set ws strideAt x) x (getD ws editionAt 0) (λ m a. other m (λ u. omega arith)) (getD-set-same ws strideAt x 0 l) (other editionAt (λ u. omega arith))
 
 -- ---- a call, and a run
 module _ (ed : ℕ) (ws : List ℕ) (z : getD ws strideAt 0 ≡ 0) (n : getD ws widthAt 0 ≢ 1) where
   abbrev one : List ℕ
   one = set ws strideAt 1
 
-  head-alike : headFit ed (withStride (settingsOf ws) 1) ≡ headFit ed (settingsOf ws)
-  unfolding headFit
-  head-alike = rw (limits-alike (settingsOf ws) z n) refl
+  abbrev inOne : Checked → Checked
+  inOne = inOther (settingsOf ws) 1 (settingsOf ws .edition)
 
-  checked-alike : checkedOf ed one ≡ strided 1 (checkedOf ed ws)
-  unfolding checkedOf cond
+  head-alike : headChecked notFit ed one (withStride (settingsOf ws) 1) ≡ inOne (headChecked notFit ed ws (settingsOf ws))
+  unfolding headChecked
+  head-alike =
+      rw (
+        limits-alike (settingsOf ws) z n,
+        body-same (settingsOf ws) 1 (settingsOf ws .edition) ws one (reads-alike strideAt stride-still 1 (settingsOf ws) 1 ws) (rw (length-set ws strideAt 1) refl),
+        cond-under inOne (settingsFit (settingsOf ws)) _ _,
+        cond-under inOne (eqb (settingsOf ws .edition) ed) _ _,
+      )
+      refl
+
+  checked-alike : checkedOf ed one ≡ inOne (checkedOf ed ws)
+  unfolding checkedBy cond
   checked-alike = elim (decLe headWords (length ws)) [
     | yes l ↦
         rw (
           length-set ws strideAt 1,
           le-ltb (length ws) headWords l,
           settings-set ws 1 (omega arith),
-          head-alike,
-          body-same strideAt stride-still 1 (settingsOf ws) 1 ws,
-          cond-under (strided 1) (headFit ed (settingsOf ws)) _ _,
         )
-        refl
+        head-alike
     | no l ↦ rw (length-set ws strideAt 1, lt-ltb (length ws) headWords (omega arith)) refl
   ]
 
   call-alike : (c : Call) → callOf ed one c ≡ thenSet strideAt 1 (callOf ed ws c)
   call-alike c = rw (call-is ed ws c, call-is ed one c, checked-alike) (go (checkedOf ed ws) refl)
     where
-      go : (k : Checked) → checkedOf ed ws ≡ k → checkedCall one (strided 1 k) c ≡ thenSet strideAt 1 (checkedCall ws k c)
+      go : (k : Checked) → checkedOf ed ws ≡ k → checkedCall one (inOne k) c ≡ thenSet strideAt 1 (checkedCall ws k c)
       go (Unfit n) e = rw (unfit-call ws n c, unfit-call one n c) refl
       go (Fit g) e =
-          let zero-stride : g .stride ≡ 0 = ap (λ (h : Settings). h .stride) (sym (fit-pool ed ws g e .settings)) ∙ z in
-          call-commutes strideAt stride-still 1 g 1 (hops-alike g zero-stride) ws c
+          let is = fit-pool ed ws g e .settings in
+          let zero-stride : g .stride ≡ 0 = ap (λ (h : Settings). h .stride) (sym is) ∙ z in
+          ap (λ (h : Settings). checkedCall one (Fit (withStride h 1)) c) is
+          ∙ call-commutes strideAt stride-still 1 g 1 (hops-alike g zero-stride) ws (fit-pool ed ws g e) c
 
 record Alike (ed : ℕ) (ws : List ℕ) (cs : List Call) : Type 0 where
   answers : run ed (set ws strideAt 1) cs ≡ run ed ws cs

@@ -8,10 +8,11 @@ use lib.ListN.{length, getD}
 use lib.Dec.{eqb}
 use borrow.Author.Tests.{le-ltb, le-leb, lt-ltb, eq-eqb, eqb-true, eqb-false}
 use Rattle.laws.specs.Choice.{cond, cases, allBelow}
+use Rattle.rules.specs.Answers.{notFit}
 use Rattle.rules.specs.Layout.{headWords, workerWords, workerAt, needed}
 use Rattle.rules.specs.Limits.{settingsFit}
 use Rattle.rules.specs.Worker.{slotAt}
-use Rattle.rules.specs.Fit.{Fit, headFit, subFit, subsFit, wordFit, workersFit, bodyChecked, checkedOf, SubFits}
+use Rattle.rules.specs.Fit.{Fit, subFit, subsFit, wordFit, workersFit, bodyChecked, headChecked, checkedBy, checkedOf, SubFits}
 use Rattle.rules.proofs.Types.{Settings}
 use Rattle.rules.proofs.machine.Machine.{State}
 use Rattle.rules.proofs.machine.Turns.{SlotFits, Common}
@@ -62,10 +63,10 @@ module _ (g : Settings) (limits : settingsFit g ≡ true) (kind1 : g .kind ≤ 1
   unfolding bodyChecked cond
   body-fit = rw (le-ltb (length ws) (needed g) (says .long), subs-fit, workers-fit) refl
 
-  head-fit : headFit (g .edition) g ≡ true
-  unfolding headFit
-  head-fit = rw (limits, eq-eqb (g .edition) (g .edition) refl) refl
+  head-fit : headChecked notFit (g .edition) ws g ≡ Fit g
+  unfolding headChecked cond
+  head-fit = rw (limits, eq-eqb (g .edition) (g .edition) refl) body-fit
 
   pub checked-fit : checkedOf (g .edition) ws ≡ Fit g
-  unfolding checkedOf cond
-  checked-fit = rw (le-ltb (length ws) headWords (omega (arith, says .long)), says .settings, head-fit, body-fit) refl
+  unfolding checkedBy cond
+  checked-fit = rw (le-ltb (length ws) headWords (omega (arith, says .long)), says .settings) head-fit

@@ -1,13 +1,13 @@
 -- The words follow the machine: where they say its state, a call answers what the machine answers, and the words that it
 -- leaves say the machine's next state. Both go by the same rule of the same view, so only the view and the stores matter.
 use mathlib.Core.Path.{_≡_, refl, sym, ap, _∙_}
-use mathlib.Core.Bool.{Bool, true, false}
+use mathlib.Core.Bool.{true}
 use mathlib.Core.List.{List}
 use Prim.Native.Nat.{ℕ, _≤_, _<_}
 use lib.ListN.{getD}
 use lib.Dec.{leb, eqb}
 use borrow.Author.Tests.{leb-false}
-use Rattle.laws.specs.Choice.{cond}
+use Rattle.laws.specs.Choice.{cond, cond-both}
 use Rattle.rules.specs.Answers.{Out, refuse, noSuchWorker, workerBusy, workerIdle, stepsSpent}
 use Rattle.rules.specs.Limits.{settingsFit, Bounds, stepLimit}
 use Rattle.rules.specs.Layout.{workerAt, indexAt}
@@ -38,13 +38,6 @@ use Rattle.rules.proofs.words.Landed.{landed-says, landed-cells}
 pub record Follows (g : Settings) (o : Out) (n : Next State) : Type 0 where
   pub answer : o .answer ≡ n .answer
   pub says : Says g (o .words) (n .state)
-
--- by a test that both make
-either : (g : Settings) {x y : Out} {x′ y′ : Next State} (b : Bool) → (b ≡ true → Follows g x x′) → (b ≡ false → Follows g y y′)
-    → Follows g (cond b x y) (cond b x′ y′)
-unfolding cond
-either g true f h = f refl
-either g false f h = h refl
 
 module _ (g : Settings) (limits : settingsFit g ≡ true) (ws : List ℕ) (s : State) (says : Says g ws s) (common : Common g s) (counts : Counts g s) where
   bounds : Bounds g
@@ -110,8 +103,8 @@ module _ (g : Settings) (limits : settingsFit g ≡ true) (ws : List ℕ) (s : S
     unfolding slotStep
     follow-step =
         rw (number-same g ws s says i li, says .steps)
-        (either g (eqb (s .slot i .number) idlePhase) (λ a. refuses workerIdle)
-        (λ a. either g (leb stepLimit (s .steps)) (λ b. refuses stepsSpent) (λ b. follow-rule (leb-false _ _ b))))
+        (cond-both (Follows g) (eqb (s .slot i .number) idlePhase) (λ a. refuses workerIdle)
+        (λ a. cond-both (Follows g) (leb stepLimit (s .steps)) (λ b. refuses stepsSpent) (λ b. follow-rule (leb-false _ _ b))))
 
     -- ---- a begin
     follow-begin : (side : Side) (v : ℕ) → Follows g (slotBegin ws (workerAt g i) side v)
@@ -121,8 +114,8 @@ module _ (g : Settings) (limits : settingsFit g ≡ true) (ws : List ℕ) (s : S
     unfolding slotBegin
     follow-begin side v =
         rw (number-same g ws s says i li, says .steps, index-same g ws s says i li)
-        (either g (eqb (s .slot i .number) idlePhase)
-        (λ a. either g (leb stepLimit (s .steps)) (λ b. refuses stepsSpent) (λ b. record { answer = refl; says = begun-says g ws s says i li _ }))
+        (cond-both (Follows g) (eqb (s .slot i .number) idlePhase)
+        (λ a. cond-both (Follows g) (leb stepLimit (s .steps)) (λ b. refuses stepsSpent) (λ b. record { answer = refl; says = begun-says g ws s says i li _ }))
         (λ a. refuses workerBusy))
 
   -- ---- a call
@@ -131,11 +124,11 @@ module _ (g : Settings) (limits : settingsFit g ≡ true) (ws : List ℕ) (s : S
 
   step-follows : (i : ℕ) → Follows g (stepOf (g .edition) ws i) (stepIn g s i)
   unfolding stepOf checkedStep fitStep stepIn
-  step-follows i = rw checked (either g (leb (g .workers) i) (λ a. refuses noSuchWorker) (λ a. follow-step i (leb-false _ _ a)))
+  step-follows i = rw checked (cond-both (Follows g) (leb (g .workers) i) (λ a. refuses noSuchWorker) (λ a. follow-step i (leb-false _ _ a)))
 
   begin-follows : (i : ℕ) (side : Side) (v : ℕ) → Follows g (beginOf (g .edition) ws i side v) (beginIn g s i side v)
   unfolding beginOf checkedBegin fitBegin beginIn
-  begin-follows i side v = rw checked (either g (leb (g .workers) i) (λ a. refuses noSuchWorker) (λ a. follow-begin i (leb-false _ _ a) side v))
+  begin-follows i side v = rw checked (cond-both (Follows g) (leb (g .workers) i) (λ a. refuses noSuchWorker) (λ a. follow-begin i (leb-false _ _ a) side v))
 
   pub follows : (c : Call) → Follows g (callOf (g .edition) ws c) (nextIn g s c)
   unfolding callOf nextIn

@@ -73,12 +73,13 @@ slot-on ws at x l =
       sum = word sumWord (omega arith) u;
     }
 
--- a worker whose words are as they were
-pub slot-kept : (ws vs : List ℕ) (at : ℕ) → ((k : ℕ) → k < slotWords → getD vs (at + k) 0 ≡ getD ws (at + k) 0) → slotAt vs at ≡ slotAt ws at
+-- a worker whose words are those of another's
+pub slot-same : (ws vs : List ℕ) (at to : ℕ) → ((k : ℕ) → k < slotWords → getD vs (to + k) 0 ≡ getD ws (at + k) 0) → slotAt vs to ≡ slotAt ws at
 unfolding slotAt
-slot-kept ws vs at h =
+slot-same ws vs at to h =
     let e : at + 0 ≡ at = omega arith in
-    let first : getD vs at 0 ≡ getD ws at 0 = rw e at (h 0 (omega arith)) in
+    let f : to + 0 ≡ to = omega arith in
+    let first : getD vs to 0 ≡ getD ws at 0 = rw (e, f) at (h 0 (omega arith)) in
     λ u. record {
       number = first u;
       value = h 1 (omega arith) u;
@@ -89,6 +90,10 @@ slot-kept ws vs at h =
       seen = h 6 (omega arith) u;
       sum = h 7 (omega arith) u;
     }
+
+-- or as they were
+pub slot-kept : (ws vs : List ℕ) (at : ℕ) → ((k : ℕ) → k < slotWords → getD vs (at + k) 0 ≡ getD ws (at + k) 0) → slotAt vs at ≡ slotAt ws at
+slot-kept ws vs at h = slot-same ws vs at at h
 
 -- an item whose cell's words are as they were
 pub item-kept : (g : Settings) (ws vs : List ℕ) → ((m : ℕ) → cellsAt g ≤ m → getD vs m 0 ≡ getD ws m 0) → (j r : ℕ) → itemAt vs g j r ≡ itemAt ws g j r

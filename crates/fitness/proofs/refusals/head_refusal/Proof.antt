@@ -1,0 +1,41 @@
+-- `fitness::refusals::head_refusal` meets its contract: at each return the tests that led there pick the same branch of `headChecked`, and settings that
+-- passed theirs are within the bounds that the rest of the check asks for.
+use borrow.Author.Tests.{eq-eqb, ne-eqb}
+use Prim.Native.Nat.{ℕ}
+use mathlib.Core.Path.{_≡_, sym, _∙_}
+use mathlib.Core.Bool.{true}
+use mathlib.Core.List.{List}
+use borrow.Author.Needs.{needs}
+use Rattle.rules.proofs.Fitness.{settings-bounds}
+use Rattle.rules.specs.Fit.{headChecked, refusalOf}
+use Rattle.rules.specs.Limits.{settingsFit}
+use Rattle.rules.specs.declared.Settings.{Settings}
+use Rattle.laws.specs.Choice.{cond}
+use Rattle.fitness.proofs.refusals.head_refusal.Statement.{statement}
+use Rattle.fitness.proofs.refusals.head_refusal.Tie as tie
+
+-- settings within limits, of another edition than is asked for
+other-edition : (other e : ℕ) (ws : List ℕ) (g : Settings) → settingsFit g ≡ true → ¬ (g .edition ≡ e) → other ≡ refusalOf (headChecked other e ws g)
+unfolding headChecked cond
+other-edition other e ws g fit not = simp (fit, ne-eqb _ _ not)
+
+settings-fit-requires : tie.Need-settings-fit-requires
+settings-fit-requires c κs = search needs
+
+body-refusal-requires : tie.Need-body-refusal-requires
+body-refusal-requires c κs = settings-bounds _ (sym (c .before .before .before .settings-fit .ensures) ∙ c .before .before .if1 .taken)
+
+returns : tie.Need-returns
+unfolding headChecked cond
+returns c = c .body-refusal .ensures ∙ simp (sym (c .before .before .before .before .settings-fit .ensures) ∙ c .before .before .before .if1 .taken, eq-eqb _ _ (c .before .if2 .taken))
+
+returns-2 : tie.Need-returns-2
+returns-2 c = other-edition _ _ _ _ (sym (c .before .before .before .settings-fit .ensures) ∙ c .before .before .if1 .taken) (c .if2 .left)
+
+returns-3 : tie.Need-returns-3
+unfolding headChecked cond
+returns-3 c = simp (sym (c .before .settings-fit .ensures) ∙ c .if1 .left)
+
+pub head-refusal-spec : {M : Type 1} → statement M
+head-refusal-spec =
+    tie.close (tie.spec settings-fit-requires body-refusal-requires returns returns-2 returns-3)

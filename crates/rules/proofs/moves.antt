@@ -1,0 +1,7 @@
+-- Pools that are moved from edition to edition.
+pub mod Stores
+pub mod InStep
+pub mod Dispatches
+pub mod Moved
+pub mod Back
+pub mod Over

@@ -1,0 +1,190 @@
+-- Paper 02, K6, the statements: "Old to new to old gives the needed words exactly, and operations under way go on: edition 0, by the rules before K5,
+-- and edition 1 give the same answers to the same later begins and steps." The move itself is in specs/Move; the rules before K5 are the same
+-- definitions at edition 0.
+use Prim.Native.Nat.{ℕ, zero, suc, _+_, _*_, _≤_, _<_}
+use mathlib.Core.Path.{_≡_}
+use mathlib.Core.Logic.{_≢_}
+use mathlib.Core.Bool.{Bool, true}
+use mathlib.Core.List.{List, [], _∷_, _++_}
+use lib.ListN.{getD, set, length}
+use lib.Seq.{paste}
+use lib.Dec.{eqb}
+use Rattle.laws.specs.Choice.{cond}
+use Rattle.rules.specs.Answers.{Out, out, numberOf}
+use Rattle.rules.specs.Layout.{editionAt, settingsOf, workerWords, slotWords, workersAt, workerAt, lostAt, cellWords, cellsAt, needed}
+use Rattle.rules.specs.Limits.{settingsFit}
+use Rattle.rules.specs.Fit.{Fit, checkedOf}
+use Rattle.rules.specs.Held.{Item, heldItems, countItems}
+use Rattle.rules.specs.Make.{makeOf, inEdition}
+use Rattle.rules.specs.Move.{moveOf}
+use Rattle.rules.specs.Dispatch.{DispatchOut, dispatchOf}
+use Rattle.rules.specs.Untouched.{Beyond}
+use Rattle.rules.specs.Sequential.{Operation, mostPassed}
+use Rattle.rules.specs.Run.{Call, begin, callOf, Event, run}
+use Rattle.rules.specs.Statement.{OneAtATimeWithin}
+use Rattle.rules.specs.Solo.{Begun, Solo, EndsWithin, k3Steps, soloSteps}
+use Rattle.rules.specs.Consequences.{wordsAfter, OfEveryRun, itemsIn}
+use Rattle.rules.specs.declared.Settings.{Settings}
+use Rattle.rules.specs.declared.Answer.the-variants.{Moving}
+
+-- ---- one pool in two areas
+-- the pool of settings g in `ws` is the pool of settings h in `vs`, of another edition or of the same, but for the workers' cards, which no rule
+-- reads: the words of the head but the edition, of the subs, of each worker up to its sum, and of the cells
+pub record SamePool (g : Settings) (ws : List ℕ) (h : Settings) (vs : List ℕ) : Type 0 where
+  pub same : h ≡ inEdition (h .edition) g
+  pub settings-one : settingsOf ws ≡ g
+  pub settings-two : settingsOf vs ≡ h
+  pub enough-one : needed g ≤ length ws
+  pub enough-two : needed h ≤ length vs
+  pub head : (m : ℕ) → m < workersAt g → m ≢ editionAt → getD vs m 0 ≡ getD ws m 0
+  pub worker : (i k : ℕ) → i < g .workers → k < slotWords → getD vs (workerAt h i + k) 0 ≡ getD ws (workerAt g i + k) 0
+  pub cell : (m : ℕ) → m < cellWords * (g .width * g .rows) → getD vs (cellsAt h + m) 0 ≡ getD ws (cellsAt g + m) 0
+
+-- where its settings are within limits, it holds the same items
+abbrev pub SameItems : Type 0
+SameItems = (g : Settings) (ws : List ℕ) (h : Settings) (vs : List ℕ) → SamePool g ws h vs → settingsFit g ≡ true → heldItems vs h ≡ heldItems ws g
+
+-- ---- what a move that answers 0 has done
+pub record Moved (a b : ℕ) (from : List ℕ) (g : Settings) (to vs : List ℕ) : Type 0 where
+  -- it was a fit pool of edition a, and is one of edition b, the same
+  pub fit-before : checkedOf a from ≡ Fit g
+  pub fit-after : checkedOf b vs ≡ Fit (inEdition b g)
+  pub pool : SamePool g from (inEdition b g) vs
+  -- the workers' words that both editions have are kept; "forward, the new words are zero"
+  pub kept : (i k : ℕ) → i < g .workers → k < workerWords a → k < workerWords b → getD vs (workerAt (inEdition b g) i + k) 0 ≡ getD from (workerAt g i + k) 0
+  pub new : (i k : ℕ) → i < g .workers → workerWords a ≤ k → k < workerWords b → getD vs (workerAt (inEdition b g) i + k) 0 ≡ 0
+  -- the target's words beyond the needed ones are as they were
+  pub beyond : Beyond (needed (inEdition b g)) to vs
+
+abbrev pub MoveDoes : Type 0
+MoveDoes =
+    (a b : ℕ) (from to : List ℕ) → numberOf (moveOf a b from to .answer) ≡ 0 → Moved a b from (settingsOf from) to (moveOf a b from to .words)
+
+-- ---- there and back
+-- "Old to new to old gives the needed words exactly": for every source that moves on, and any areas that are long enough, the last one has the
+-- source's needed words at its front, and behind them what it held
+abbrev pub OldToNewToOld : Type 0
+OldToNewToOld =
+    (from middle to : List ℕ) → numberOf (moveOf 0 1 from middle .answer) ≡ 0 → needed (settingsOf from) ≤ length to
+    → moveOf 1 0 (moveOf 0 1 from middle .words) to ≡ out Moving (paste to 0 from (needed (settingsOf from)))
+
+-- the words with the first n workers' cards 0
+unfoldable pub withoutCards : List ℕ → Settings → ℕ → List ℕ
+withoutCards ws g zero = ws
+withoutCards ws g (suc i) = set (withoutCards ws g i) (lostAt (workerAt g i)) 0
+
+-- back and on again gives the needed words of edition 1, but that each worker's card is 0
+abbrev pub NewToOldToNew : Type 0
+NewToOldToNew =
+    (from middle to : List ℕ) → numberOf (moveOf 1 0 from middle .answer) ≡ 0 → needed (settingsOf from) ≤ length to
+    → moveOf 0 1 (moveOf 1 0 from middle .words) to
+    ≡ out Moving (paste to 0 (withoutCards from (settingsOf from) (settingsOf from .workers)) (needed (settingsOf from)))
+
+-- ---- in step
+-- the same calls on one pool in two areas have the same answers, one by one, refusals included, and leave one pool
+pub record InStep (g : Settings) (ws : List ℕ) (h : Settings) (vs : List ℕ) (cs : List Call) : Type 0 where
+  pub answers : run (h .edition) vs cs ≡ run (g .edition) ws cs
+  pub later : SamePool g (wordsAfter (g .edition) ws cs) h (wordsAfter (h .edition) vs cs)
+
+-- of all words, of pools that no make gave as well; and where both are of one edition, no answer depends on a card
+abbrev pub Lockstep : Type 0
+Lockstep = (g : Settings) (ws : List ℕ) (h : Settings) (vs : List ℕ) (cs : List Call) → SamePool g ws h vs → InStep g ws h vs cs
+
+-- "operations under way go on", in whichever phase the move found them: after a move, either way
+abbrev pub OperationsGoOn : Type 0
+OperationsGoOn =
+    (a b : ℕ) (from to : List ℕ) (cs : List Call) → numberOf (moveOf a b from to .answer) ≡ 0
+    → InStep (settingsOf from) from (inEdition b (settingsOf from)) (moveOf a b from to .words) cs
+
+-- so do the dispatcher's turns: whom it names, from whichever worker and with whichever count
+pub record DispatchInStep (g : Settings) (one : DispatchOut) (h : Settings) (two : DispatchOut) : Type 0 where
+  pub result : two .result ≡ one .result
+  pub later : SamePool g (one .words) h (two .words)
+
+abbrev pub DispatchLockstep : Type 0
+DispatchLockstep =
+    (g : Settings) (ws : List ℕ) (h : Settings) (vs : List ℕ) (i steps : ℕ) → SamePool g ws h vs
+    → DispatchInStep g (dispatchOf (g .edition) ws i steps) h (dispatchOf (h .edition) vs i steps)
+
+-- ---- over the years
+-- what a site does with a pool: begins and steps, by the calls of the pool's edition, and moves from an edition to another into an area
+pub data Act : Type 0 where
+  call : Call → Act
+  move : ℕ → ℕ → List ℕ → Act
+
+-- a pool where it lies: its edition and its words
+pub record Place : Type 0 where
+  pub edition : ℕ
+  pub words : List ℕ
+
+abbrev pub here : Settings → List ℕ → Place
+here g ws = record { edition = g .edition; words = ws }
+
+-- a move that is refused leaves it where it was
+abbrev pub movedTo : Place → ℕ → Out → Place
+movedTo p b o = cond (eqb (numberOf (o .answer)) 0) (record { edition = b; words = o .words }) p
+
+abbrev pub placeAfter : Place → Act → Place
+placeAfter p (call c) = record { edition = p .edition; words = callOf (p .edition) (p .words) c .words }
+placeAfter p (move a b area) = movedTo p b (moveOf a b (p .words) area)
+
+unfoldable pub placeOver : Place → List Act → Place
+placeOver p [] = p
+placeOver p (x ∷ xs) = placeOver (placeAfter p x) xs
+
+-- the begins and steps among the acts, and the run of them as one list, wherever the pool lies
+abbrev pub callIn : Act → List Call
+callIn (call c) = c ∷ []
+callIn (move a b area) = []
+
+unfoldable pub callsIn : List Act → List Call
+callsIn [] = []
+callsIn (x ∷ xs) = callIn x ++ callsIn xs
+
+abbrev pub eventIn : Place → Act → List Event
+eventIn p (call c) = record { call = c; answer = callOf (p .edition) (p .words) c .answer } ∷ []
+eventIn p (move a b area) = []
+
+unfoldable pub runOver : Place → List Act → List Event
+runOver p [] = []
+runOver p (x ∷ xs) = eventIn p x ++ runOver (placeAfter p x) xs
+
+-- no call sees a move: the run from a place on, over any number of moves, is that of the pool in `ws`, which never moves, and it ends as that pool
+pub record Unseen (g : Settings) (ws : List ℕ) (p : Place) (xs : List Act) : Type 0 where
+  pub answers : runOver p xs ≡ run (g .edition) ws (callsIn xs)
+  pub ends : SamePool g (wordsAfter (g .edition) ws (callsIn xs)) (inEdition (placeOver p xs .edition) g) (placeOver p xs .words)
+
+abbrev pub MovesUnseen : Type 0
+MovesUnseen = (g : Settings) (ws : List ℕ) (xs : List Act) → checkedOf (g .edition) ws ≡ Fit g → Unseen g ws (here g ws) xs
+
+-- a claim about a new pool of any edition, and any begins, steps and moves of it
+abbrev pub OfEveryTurnaround : (Settings → List ℕ → List Act → Type 0) → Type 0
+OfEveryTurnaround P =
+    (ws : List ℕ) (g : Settings) (xs : List Act) → numberOf (makeOf ws g .answer) ≡ 0 → P g (makeOf ws g .words) xs
+
+-- whatever is so of the run of every list of calls on a new pool is so over any moves
+abbrev pub RunsOverMoves : Type 1
+RunsOverMoves =
+    (P : Settings → List Event → Type 0) → OfEveryRun (λ g ws cs. P g (run (g .edition) ws cs)) → OfEveryTurnaround (λ g ws xs. P g (runOver (here g ws) xs))
+
+-- demand 3: the begins and steps have one order, as one run
+abbrev pub Demand3OverMoves : Type 0
+Demand3OverMoves = OfEveryTurnaround (λ g ws xs. OneAtATimeWithin (mostPassed g) g (runOver (here g ws) xs))
+
+-- and no item is lost or invented: what is held where the pool lies in the end, and what was taken, is what was put
+abbrev pub NothingLostOverMoves : Type 0
+NothingLostOverMoves = OfEveryTurnaround (λ g ws xs.
+    (p : Item → Bool)
+    → countItems p (heldItems (placeOver (here g ws) xs .words) (inEdition (placeOver (here g ws) xs .edition) g)) + countItems p (itemsIn 2 (runOver (here g ws) xs))
+    ≡ countItems p (itemsIn 1 (runOver (here g ws) xs)))
+
+-- K3 with moves before the begin and after it: how soon the operation of a worker ends that alone steps from then on
+abbrev pub SoloFrom : Place → ℕ → Operation → ℕ → List Act → Type 0
+SoloFrom p i o n ys =
+    Begun (p .edition) (p .words) i o n → Solo i (runOver (placeAfter p (call (begin i o))) ys) → EndsWithin i n (runOver (placeAfter p (call (begin i o))) ys)
+
+abbrev pub SoloOverMoves : (Settings → Operation → ℕ) → Type 0
+SoloOverMoves most = OfEveryTurnaround (λ g ws xs. (i : ℕ) (o : Operation) (ys : List Act) → SoloFrom (placeOver (here g ws) xs) i o (most g o) ys)
+
+abbrev pub K3OverMoves : Type 0
+K3OverMoves = SoloOverMoves k3Steps × SoloOverMoves soloSteps
