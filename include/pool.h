@@ -2,23 +2,25 @@
  * The windowed pool: a queue (paper 01's line) or a stack (its pile) spread over several subs, in words that the caller lends.
  *
  * Each call works on the `len` 32-bit words at `words`, whatever they hold, and keeps nothing of its own. It returns the
- * answer's number and writes the answer's five fields (pool_dispatch: six). `words` and `fields` must not be NULL, nor overlap. A refusal
- * (21 or more) leaves all lent words unchanged; where pool_dispatch meets one after some steps, as before the step that was refused.
+ * answer's number and writes the answer's five fields (pool_dispatch: six; the two moves have none, and two areas of words). `words` and `fields`
+ * must not be NULL, nor overlap. A refusal (21 or more) leaves all lent words unchanged; where pool_dispatch meets one after some steps, as before
+ * the step that was refused.
  *
- *   0   moving, made or begun
+ *   0   moving, made, begun or moved
  *   1   put: the value, the sub and row that it lies in, its stamp
  *   2   taken: the value, its sub, row and stamp, and the distance
  *   3   empty: a take that found no item
  *   4   full: a put that found no room
  *   5   pool_dispatch: no worker is busy
  *   6   pool_dispatch: the count of steps ran out
- *   21  fewer words than the pool needs, or fewer than 12
+ *   21  fewer words than the pool needs, or fewer than 12; or too few for it in the target of a move
  *   22  pool_make: a setting off limits
- *   23  the words are not a fit pool of this edition; or a commit that matches finds no free cell or no item
+ *   23  the words are not a fit pool of this edition, or of the one moved from; or a commit that matches finds no free cell or no item
  *   24  the worker's number is not below the number of workers
  *   25  begin: the worker is busy
  *   26  pool_step: the worker is idle
  *   27  begin or a step: the step count is 4,000,000,000 or more
+ *   31  pool_move_0_to_1, pool_move_1_to_0: the source is not of the edition that is moved from
  *
  * 28 to 30 are the run lister's. Nothing here locks: one call at a time on the same words.
  *
@@ -53,6 +55,7 @@ extern "C" {
 #define POOL_BUSY 25u
 #define POOL_IDLE 26u
 #define POOL_STEPS_SPENT 27u
+#define POOL_WRONG_EDITION 31u
 
 /* An answer 1 to 4 ends its operation, one of 21 or more refuses the call; 0, 5 and 6 are neither. */
 #define POOL_FINAL(number) ((number)-1u < 4u)
@@ -82,15 +85,17 @@ extern "C" {
 
 /*
  * The edition of these calls. pool_make writes it to word 11, and words with another number there are not a fit pool, 23. Pools of edition 0, made
- * before there was one, have eight words a worker and 0 there.
+ * before there was one, have eight words a worker and 0 there; pool_move_0_to_1 and pool_move_1_to_0 move pools between the two. POOL_MAX_WORDS are
+ * enough for every pool of either.
  */
 #define POOL_EDITION 1u
 #define POOL_EDITION_AT 11 /* the word that holds the edition */
+#define POOL_WORDS_0(width, rows, workers) (POOL_HEAD_WORDS + 2u * (width) + 8u * (workers) + 2u * (width) * (rows))
 
 /*
- * A worker's card: how many of its commits have failed since pool_make, because another worker's came first at the same sub.
- * A begin and a final answer leave it. It counts modulo 2^32, which no pool from pool_make lives to see. Proved: crates/rules/specs/Collisions.antt.
- * Which stride has the fewest is in docs/STRIDES.md.
+ * A worker's card: how many of its commits have failed since pool_make, because another worker's came first at the same sub. A begin and a final
+ * answer leave it. It counts modulo 2^32, which no pool from pool_make lives to see. A move forward sets it to 0, and each failed commit from then on
+ * adds one. Proved: crates/rules/specs/Collisions.antt, Turnaround.antt. Which stride has the fewest is in docs/STRIDES.md.
  */
 #define POOL_LOST(words, width, worker) (+(words)[POOL_HEAD_WORDS + 2u * (width) + POOL_WORKER_WORDS * ((worker) + 1u) - 1u])
 
@@ -185,6 +190,19 @@ uint32_t pool_step(uint32_t *words, size_t len, uint32_t worker, uint32_t fields
  * with a refusal. The words are checked once, and not at every step.
  */
 uint32_t pool_dispatch(uint32_t *words, size_t len, uint32_t worker, uint32_t steps, uint32_t fields[POOL_DISPATCH_FIELDS]);
+
+/*
+ * At a turnaround: moves the saved pool of edition 0 at `from` into the words at `to`, as one of edition 1; and back. The source is only read, and the two
+ * areas must not be NULL, nor overlap. Where the answer is 0 the pool lies in the target's first words, POOL_WORDS or, moved back, POOL_WORDS_0 of them,
+ * whatever they held, and those behind them are not touched. Forward the workers' cards are 0, backward they are dropped; all else but word 11 is kept.
+ * Back and forth again gives the same words, but for the cards. The refusals come in this order: 21 for fewer than 12 words, 23 for settings off limits,
+ * 31 for the edition, 21 for fewer words than a pool of that edition needs, 23 for one that is not fit, all of the source; then 21 for too short a target.
+ *
+ * Operations under way go on, in whichever phase they are: the calls of either edition answer the same later begins and steps alike. So all that is said
+ * here of a pool from pool_make, but for its cards, is so of one that was moved, any number of times. Proved: crates/rules/specs/Turnaround.antt.
+ */
+uint32_t pool_move_0_to_1(const uint32_t *from, size_t from_len, uint32_t *to, size_t to_len);
+uint32_t pool_move_1_to_0(const uint32_t *from, size_t from_len, uint32_t *to, size_t to_len);
 
 #ifdef __cplusplus
 }

@@ -1,9 +1,10 @@
-// The functions that C calls: the answer's number is returned, and its five fields are written; of a dispatcher's result six.
+// The functions that C calls: the answer's number is returned, and its five fields are written; of a dispatcher's result six, and a move has none.
 use crate::begin::begin_put;
 use crate::begin::begin_take;
 use crate::new::make;
 use dispatcher::dispatch;
 use fitness::refusal;
+use moves::move_pool;
 use rules::Answer;
 use rules::Dispatched;
 use rules::numbers::SHIPPED;
@@ -12,10 +13,12 @@ use step::answers::fields;
 use step::answers::number;
 use step::fit_answer;
 ghost use mathlib.Core.Path.{_≡_};
-ghost use Rattle.rules.specs.Answers.{returned, returnedOf};
+ghost use mathlib.Core.List.{[]};
+ghost use Rattle.rules.specs.Answers.{returned, returnedOf, returnedAlone};
 ghost use Rattle.rules.specs.Begin.{beginPutOf, beginTakeOf};
 ghost use Rattle.rules.specs.Dispatch.{dispatchOf, dispatchReturned, resultNumber, resultFields};
 ghost use Rattle.rules.specs.Make.{shipped, settingsFrom, makeOf};
+ghost use Rattle.rules.specs.Move.{moveOf};
 ghost use Rattle.rules.specs.Step.{stepOf};
 
 #[no_mangle]
@@ -92,6 +95,22 @@ fn came_to(r: Dispatched, six: &mut [u32; 6]) -> u32
             n
         }
     }
+}
+
+// A saved pool of edition 0, moved to edition 1.
+#[no_mangle]
+pub extern "C" fn pool_move_0_to_1(from: &[u32], to: &mut [u32]) -> u32
+    ensures { λ r. ⌜ returned r (now (to .exit)) [] ≡ returnedAlone (moveOf 0 1 (now (from .entry)) (now (to .entry))) ⌝ }
+{
+    number(move_pool(from, 0, to, 1))
+}
+
+// And back.
+#[no_mangle]
+pub extern "C" fn pool_move_1_to_0(from: &[u32], to: &mut [u32]) -> u32
+    ensures { λ r. ⌜ returned r (now (to .exit)) [] ≡ returnedAlone (moveOf 1 0 (now (from .entry)) (now (to .entry))) ⌝ }
+{
+    number(move_pool(from, 1, to, 0))
 }
 
 #[no_mangle]

@@ -1,4 +1,4 @@
-// The pool on lent words: make, begin put, begin take, step and the dispatcher, for all words.
+// The pool on lent words: make, begin put, begin take, step, the dispatcher and the moves between editions, for all words.
 mod begin;
 pub mod export;
 mod new;
@@ -6,5 +6,6 @@ mod new;
 pub use begin::begin_put;
 pub use begin::begin_take;
 pub use dispatcher::dispatch;
+pub use moves::move_pool;
 pub use new::make;
 pub use step::step;
