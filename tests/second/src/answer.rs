@@ -34,6 +34,8 @@ pub const BUSY: u32 = 25;
 pub const IDLE: u32 = 26;
 /// Begin or step: the step count has reached its limit.
 pub const SPENT: u32 = 27;
+/// K6: a move from another edition.
+pub const WRONG_EDITION: u32 = 31;
 
 /// A begin or step with this step count or more is refused with 27.
 pub const STEP_LIMIT: u32 = 4_000_000_000;

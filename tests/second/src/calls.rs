@@ -1,8 +1,9 @@
-//! The pool's calls: make, begin put, begin take and step.
+//! The pool's calls: make, begin put, begin take and step. The edition decides what
+//! make writes, what is fit and where a word stands; the rules are the same in all.
 
 use crate::answer::TOO_SHORT;
 use crate::answer::{Answer, BUSY, IDLE, MOVING, NO_WORKER, OFF_LIMITS, SPENT, STEP_LIMIT};
-use crate::pool::edition::CURRENT_EDITION;
+use crate::pool::edition::Edition;
 use crate::pool::fit::fit;
 use crate::pool::phase::{self, Side, Stage};
 use crate::pool::settings::{Settings, QUEUE};
@@ -12,14 +13,15 @@ use crate::stages;
 /// Paper 01, "Make sets P = T = d, or G = d; worker i has index i mod w; all
 /// other needed words but the settings are zero", and K5's edition. Refusals:
 /// 22, then 21.
-pub fn make(words: &mut [u32], settings: Settings) -> Answer {
+pub fn make(edition: Edition, words: &mut [u32], settings: Settings) -> Answer {
     if !settings.within_limits() {
         return Answer::of(OFF_LIMITS);
     }
-    if words.len() < settings.needed_words() {
+    let needed = settings.needed_words_in(edition);
+    if words.len() < needed {
         return Answer::of(TOO_SHORT);
     }
-    words[..settings.needed_words()].fill(0);
+    words[..needed].fill(0);
     words[layout::KIND] = settings.kind;
     words[layout::WIDTH] = settings.width;
     words[layout::DEPTH] = settings.depth;
@@ -27,14 +29,18 @@ pub fn make(words: &mut [u32], settings: Settings) -> Answer {
     words[layout::ROWS] = settings.rows;
     words[layout::WORKERS] = settings.workers;
     words[layout::STRIDE] = settings.stride;
-    words[layout::EDITION] = CURRENT_EDITION;
+    words[layout::EDITION] = edition.word();
     if settings.kind == QUEUE {
         words[layout::PUT_WINDOW] = settings.depth;
         words[layout::TAKE_WINDOW] = settings.depth;
     } else {
         words[layout::WINDOW] = settings.depth;
     }
-    let mut pool = Pool { words, settings };
+    let mut pool = Pool {
+        words,
+        settings,
+        edition,
+    };
     for i in 0..settings.workers {
         let made = Worker {
             index: i % settings.width,
@@ -45,18 +51,18 @@ pub fn make(words: &mut [u32], settings: Settings) -> Answer {
     Answer::of(MOVING)
 }
 
-pub fn begin_put(words: &mut [u32], number: u32, value: u32) -> Answer {
-    begin(words, number, Side::Put, value)
+pub fn begin_put(edition: Edition, words: &mut [u32], number: u32, value: u32) -> Answer {
+    begin(edition, words, number, (Side::Put, value))
 }
 
-pub fn begin_take(words: &mut [u32], number: u32) -> Answer {
-    begin(words, number, Side::Take, 0)
+pub fn begin_take(edition: Edition, words: &mut [u32], number: u32) -> Answer {
+    begin(edition, words, number, (Side::Take, 0))
 }
 
 /// "Begin sets the value (0 for a take), phase 1 or 9, other words zero, index
 /// kept", and the failed commits. A begin is no step: the step count stays.
-fn begin(words: &mut [u32], number: u32, side: Side, value: u32) -> Answer {
-    let mut pool = match admitted(words, number, false) {
+fn begin(edition: Edition, words: &mut [u32], number: u32, (side, value): (Side, u32)) -> Answer {
+    let mut pool = match admitted(edition, words, number, false) {
         Ok(pool) => pool,
         Err(refusal) => return Answer::of(refusal),
     };
@@ -69,8 +75,8 @@ fn begin(words: &mut [u32], number: u32, side: Side, value: u32) -> Answer {
     Answer::of(MOVING)
 }
 
-pub fn step(words: &mut [u32], number: u32) -> Answer {
-    let mut pool = match admitted(words, number, true) {
+pub fn step(edition: Edition, words: &mut [u32], number: u32) -> Answer {
+    let mut pool = match admitted(edition, words, number, true) {
         Ok(pool) => pool,
         Err(refusal) => return Answer::of(refusal),
     };
@@ -90,8 +96,13 @@ pub fn step(words: &mut [u32], number: u32) -> Answer {
 }
 
 /// Paper 01, Order: fit (21 and 23), then 24, 25 or 26, 27.
-fn admitted(words: &mut [u32], number: u32, busy_wanted: bool) -> Result<Pool<'_>, u32> {
-    let pool = fit(words)?;
+fn admitted(
+    edition: Edition,
+    words: &mut [u32],
+    number: u32,
+    busy_wanted: bool,
+) -> Result<Pool<'_>, u32> {
+    let pool = fit(words, edition)?;
     if number >= pool.settings.workers {
         return Err(NO_WORKER);
     }

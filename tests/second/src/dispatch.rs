@@ -7,6 +7,7 @@
 
 use crate::answer::{Answer, NO_WORKER};
 use crate::calls::step;
+use crate::pool::edition::Edition;
 use crate::pool::fit::fit;
 use crate::pool::phase;
 use crate::pool::settings::Settings;
@@ -52,18 +53,19 @@ impl Dispatched {
     }
 }
 
-pub fn dispatch(words: &mut [u32], named: u32, count: u32) -> Dispatched {
-    dispatch_watched(words, named, count, |_, _| {})
+pub fn dispatch(edition: Edition, words: &mut [u32], named: u32, count: u32) -> Dispatched {
+    dispatch_watched(edition, words, named, count, |_, _| {})
 }
 
 /// The same, with a look at each step's worker and answer, a refused one's too.
 pub fn dispatch_watched(
+    edition: Edition,
     words: &mut [u32],
     named: u32,
     count: u32,
     mut watch: impl FnMut(u32, Answer),
 ) -> Dispatched {
-    let settings = match fit(words) {
+    let settings = match fit(words, edition) {
         Ok(pool) => pool.settings,
         Err(refusal) => return Dispatched::Refused(refusal),
     };
@@ -71,13 +73,13 @@ pub fn dispatch_watched(
         return Dispatched::Refused(NO_WORKER);
     }
     let mut turn = named;
-    if busy_from(words, settings, turn).is_none() {
+    if busy_from(edition, words, turn).is_none() {
         return Dispatched::NoneBusy;
     }
     for _ in 0..count {
         // A step makes no other worker idle, and its own by a final answer only.
-        let worker = busy_from(words, settings, turn).expect("one was busy, and none finished");
-        let answer = step(words, worker);
+        let worker = busy_from(edition, words, turn).expect("one was busy, and none finished");
+        let answer = step(edition, words, worker);
         watch(worker, answer);
         if answer.is_refusal() {
             return Dispatched::Refused(answer.number);
@@ -91,8 +93,13 @@ pub fn dispatch_watched(
 }
 
 /// The first busy worker of a round that begins with this turn.
-fn busy_from(words: &mut [u32], settings: Settings, turn: u32) -> Option<u32> {
-    let pool = Pool { words, settings };
+fn busy_from(edition: Edition, words: &mut [u32], turn: u32) -> Option<u32> {
+    let settings = Settings::of_words(words);
+    let pool = Pool {
+        words,
+        settings,
+        edition,
+    };
     (0..settings.workers)
         .map(|passed| (turn + passed) % settings.workers)
         .find(|worker| pool.worker(*worker).phase != phase::IDLE)

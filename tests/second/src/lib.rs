@@ -7,8 +7,10 @@
 mod answer;
 mod bounds;
 mod calls;
+mod current;
 mod dispatch;
 mod listing;
+mod moves;
 mod one_at_a_time;
 mod pool;
 mod solo;
@@ -17,18 +19,25 @@ mod stages;
 mod stretch;
 
 pub use answer::{Answer, STEP_LIMIT};
-pub use answer::{BUSY, IDLE, NO_WORKER, OFF_LIMITS, SPENT, TOO_SHORT, UNFIT};
+pub use answer::{BUSY, IDLE, NO_WORKER, OFF_LIMITS, SPENT, TOO_SHORT, UNFIT, WRONG_EDITION};
 pub use answer::{EMPTY, FULL, MOVING, PUT, TAKEN};
 pub use bounds::{closer_distance_bound, distance_bound, framework_figure};
 pub use bounds::{full_bound, thesis_figure, worst_distance};
-pub use calls::{begin_put, begin_take, make, step};
-pub use dispatch::{dispatch, dispatch_watched, Dispatched, Returned, NONE_BUSY, RAN_OUT};
+pub use current::{begin_put, begin_take, dispatch, dispatch_watched, make, step};
+pub use dispatch::{Dispatched, Returned, NONE_BUSY, RAN_OUT};
 pub use listing::{list, ABOVE_BOUND, CUT, OUT_OF_PLACE};
+pub use moves::{move_0_to_1, move_1_to_0};
 pub use one_at_a_time::{one_at_a_time, AtLast, Event, Placed, Unchanging};
-pub use pool::edition::CURRENT_EDITION;
+pub use pool::edition::{Edition, CURRENT_EDITION};
 pub use pool::segments::segments;
 pub use pool::settings::{Settings, QUEUE, STACK};
 pub use pool::{layout, phase};
 pub use solo::{solo_steps, solo_steps_bound};
 pub use spacer::SPACER;
 pub use stretch::{longest_stretch, stretch_bound};
+
+/// The same calls on a pool of the edition that the first argument names.
+pub mod in_edition {
+    pub use crate::calls::{begin_put, begin_take, make, step};
+    pub use crate::dispatch::{dispatch, dispatch_watched};
+}

@@ -4,7 +4,7 @@
 mod common;
 
 use common::failed_commits::{commit_fails, failed_commits, phase, set_failed_commits};
-use common::states::{every_state, CALLS, STEP};
+use common::states::{every_state, small_pools, CALLS, STEP};
 use common::{finish, made, put_answer, queue, stack, strided, taken_answer, Numbers};
 use second::phase::{decode, Side, Stage};
 use second::{begin_put, begin_take, dispatch, layout, make, step};
@@ -69,12 +69,7 @@ fn a_put_and_a_take() {
 /// at its worker, and all else counts none. Nothing goes by the ninth words.
 #[test]
 fn each_call_from_every_state() {
-    for settings in [
-        queue(1, 1, 2, 2),
-        queue(2, 1, 2, 2),
-        stack(1, 1, 1, 2, 2),
-        stack(2, 1, 1, 2, 2),
-    ] {
+    for settings in small_pools() {
         let mut met = BTreeSet::new();
         every_state(settings, |words| {
             for worker in 0..settings.workers {

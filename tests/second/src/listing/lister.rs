@@ -6,7 +6,8 @@ use super::reader::Words;
 use super::{Stop, ABOVE_BOUND};
 use crate::answer::{Answer, MOVING, OFF_LIMITS, TAKEN};
 use crate::bounds::distance_bound;
-use crate::calls::{begin_put, begin_take, make, step};
+use crate::current::{begin_put, begin_take, make, step};
+use crate::pool::edition::Edition;
 use crate::pool::settings::Settings;
 use crate::pool::Pool;
 use std::io::{self, BufWriter, Read, Write};
@@ -41,6 +42,7 @@ fn run<R: Read, W: Write>(words: &mut Words<R>, output: &mut W) -> Result<(), St
     let pool = Pool {
         words: &mut lent,
         settings,
+        edition: Edition::CURRENT,
     };
     writeln!(output, "held {} worst {}", pool.held(), worst)?;
     Ok(())

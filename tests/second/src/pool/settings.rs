@@ -1,5 +1,6 @@
 //! Paper 01, The pool's words: settings, their limits, the needed words.
 
+use super::edition::Edition;
 use super::layout;
 
 /// The paper's line.
@@ -51,9 +52,15 @@ impl Settings {
         self.shift == self.depth && self.rows.is_multiple_of(self.depth)
     }
 
-    /// 12 + 2w + 9n + 2wR, of settings within limits.
+    /// Of settings within limits, in the current edition.
     pub fn needed_words(&self) -> usize {
-        self.cells_at() + layout::CELL_WORDS * self.width as usize * self.rows as usize
+        self.needed_words_in(Edition::CURRENT)
+    }
+
+    /// 12 + 2w + 8n + 2wR in edition 0, 12 + 2w + 9n + 2wR in edition 1.
+    pub fn needed_words_in(&self, edition: Edition) -> usize {
+        let cells = self.width as usize * self.rows as usize;
+        self.cells_at_in(edition) + layout::CELL_WORDS * cells
     }
 
     pub fn subs_at(&self) -> usize {
@@ -65,6 +72,10 @@ impl Settings {
     }
 
     pub fn cells_at(&self) -> usize {
-        self.workers_at() + layout::WORKER_WORDS * self.workers as usize
+        self.cells_at_in(Edition::CURRENT)
+    }
+
+    pub fn cells_at_in(&self, edition: Edition) -> usize {
+        self.workers_at() + edition.worker_words() * self.workers as usize
     }
 }

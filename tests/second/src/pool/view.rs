@@ -1,12 +1,15 @@
 //! The lent words of a fit pool, under the paper's names.
 
+use super::edition::Edition;
 use super::layout;
 use super::settings::{Settings, QUEUE};
 use super::worker::Worker;
+use std::ops::Range;
 
 pub(crate) struct Pool<'a> {
     pub words: &'a mut [u32],
     pub settings: Settings,
+    pub edition: Edition,
 }
 
 impl Pool<'_> {
@@ -39,13 +42,12 @@ impl Pool<'_> {
     }
 
     pub fn worker(&self, number: u32) -> Worker {
-        let at = self.worker_word(number);
-        Worker::from_words(&self.words[at..at + layout::WORKER_WORDS])
+        Worker::from_words(&self.words[self.worker_words(number)])
     }
 
     pub fn set_worker(&mut self, number: u32, worker: Worker) {
-        let at = self.worker_word(number);
-        worker.to_words(&mut self.words[at..at + layout::WORKER_WORDS]);
+        let at = self.worker_words(number);
+        worker.to_words(&mut self.words[at]);
     }
 
     /// The word of row `row` of sub j called `which` (value or stamp).
@@ -62,8 +64,16 @@ impl Pool<'_> {
         self.settings.subs_at() + layout::SUB_WORDS * j as usize + which
     }
 
-    fn worker_word(&self, number: u32) -> usize {
-        self.settings.workers_at() + layout::WORKER_WORDS * number as usize
+    fn worker_words(&self, number: u32) -> Range<usize> {
+        let size = self.edition.worker_words();
+        let at = self.settings.workers_at() + size * number as usize;
+        at..at + size
+    }
+
+    /// The cells of all subs.
+    pub fn cells(&self) -> Range<usize> {
+        let settings = &self.settings;
+        settings.cells_at_in(self.edition)..settings.needed_words_in(self.edition)
     }
 
     /// Row r of sub j is cell j x R + (r - 1) mod R. Reading: r - 1 is modulo
@@ -72,6 +82,6 @@ impl Pool<'_> {
     fn cell_word(&self, j: u32, row: u32, which: usize) -> usize {
         let in_sub = row.wrapping_sub(1) % self.settings.rows;
         let cell = (j * self.settings.rows + in_sub) as usize;
-        self.settings.cells_at() + layout::CELL_WORDS * cell + which
+        self.cells().start + layout::CELL_WORDS * cell + which
     }
 }

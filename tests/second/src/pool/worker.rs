@@ -1,4 +1,5 @@
-//! A worker's nine words, read and written as a whole.
+//! A worker's nine words, read and written as a whole. In edition 0 there is no
+//! ninth: it is read as 0, and nowhere written.
 
 use super::layout;
 
@@ -37,7 +38,7 @@ impl Worker {
             scan: words[layout::SCAN],
             seen: words[layout::SEEN],
             sum: words[layout::SUM],
-            failed_commits: words[layout::FAILED_COMMITS],
+            failed_commits: words.get(layout::FAILED_COMMITS).copied().unwrap_or(0),
         }
     }
 
@@ -50,6 +51,8 @@ impl Worker {
         words[layout::SCAN] = self.scan;
         words[layout::SEEN] = self.seen;
         words[layout::SUM] = self.sum;
-        words[layout::FAILED_COMMITS] = self.failed_commits;
+        if let Some(ninth) = words.get_mut(layout::FAILED_COMMITS) {
+            *ninth = self.failed_commits;
+        }
     }
 }

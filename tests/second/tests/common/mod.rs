@@ -2,6 +2,7 @@
 #![allow(dead_code)]
 
 pub mod dispatch;
+pub mod editions;
 pub mod failed_commits;
 pub mod normal;
 pub mod passed;

@@ -1,9 +1,19 @@
 //! Every state that a small pool can come to from make, in runs of any length.
 
-use super::made;
 use super::normal::normal;
+use super::{made, queue, stack};
 use second::{begin_put, begin_take, step, Answer, Settings, BUSY, IDLE};
 use std::collections::HashSet;
+
+/// Of both kinds, with two workers, and with one sub and with two.
+pub fn small_pools() -> [Settings; 4] {
+    [
+        queue(1, 1, 2, 2),
+        queue(2, 1, 2, 2),
+        stack(1, 1, 1, 2, 2),
+        stack(2, 1, 1, 2, 2),
+    ]
+}
 
 /// A worker's calls; a put's value bears on no state.
 pub const CALLS: [fn(&mut [u32], u32) -> Answer; 3] = [
