@@ -37,10 +37,13 @@ extern "C" {
     fn pool_step(words: *mut u32, len: usize, worker: u32, fields: *mut u32) -> u32;
     fn pool_dispatch(words: *mut u32, len: usize, worker: u32, steps: u32, fields: *mut u32)
         -> u32;
+    fn pool_move_0_to_1(from: *const u32, from_len: usize, to: *mut u32, to_len: usize) -> u32;
+    fn pool_move_1_to_0(from: *const u32, from_len: usize, to: *mut u32, to_len: usize) -> u32;
 }
 
 // As C calls them. Safety, of each: the pointer and length are those of a live,
-// unshared slice, and `fields` has five words, or six for a dispatch.
+// unshared slice, and `fields` has five words, or six for a dispatch. A move's
+// source is only read, and its two slices do not overlap, since one is unshared.
 
 #[inline]
 pub fn make_into(words: &mut [u32], settings: Settings, fields: &mut Fields) -> u32 {
@@ -89,6 +92,16 @@ pub fn dispatch_into(
 ) -> u32 {
     let (start, len) = (words.as_mut_ptr(), words.len());
     unsafe { pool_dispatch(start, len, worker, steps, fields.as_mut_ptr()) }
+}
+
+#[inline]
+pub fn move_0_to_1(from: &[u32], to: &mut [u32]) -> u32 {
+    unsafe { pool_move_0_to_1(from.as_ptr(), from.len(), to.as_mut_ptr(), to.len()) }
+}
+
+#[inline]
+pub fn move_1_to_0(from: &[u32], to: &mut [u32]) -> u32 {
+    unsafe { pool_move_1_to_0(from.as_ptr(), from.len(), to.as_mut_ptr(), to.len()) }
 }
 
 // With the second implementation's answer.

@@ -1,7 +1,7 @@
 //! What a failing case prints.
 
 use second::{layout, Settings};
-use std::fmt;
+use std::fmt::{self, Debug};
 
 pub struct Difference {
     /// A call or a dispatch.
@@ -19,6 +19,12 @@ pub enum Failure {
     Broken(&'static str, String),
     /// Anything that is said in words.
     Said(String),
+}
+
+impl Failure {
+    pub fn broken(name: &'static str, call: impl Debug, answer: impl Debug) -> Failure {
+        Failure::Broken(name, format!("{call:?} answered {answer:?}"))
+    }
 }
 
 impl fmt::Display for Failure {

@@ -1,9 +1,11 @@
 //! The compiled library beside the second implementation, call by call.
 
 mod cases;
+mod copy;
 mod coverage;
 mod failure;
 mod make_up;
+mod moved;
 mod options;
 mod rng;
 mod side_by_side;

@@ -1,6 +1,7 @@
 //! One pool in as many copies as there are implementations: a call or a dispatch
 //! is made on each copy, and all words and all numbers must be equal afterwards.
 
+use crate::copy::Copy;
 use crate::coverage::{Coverage, Origin};
 use crate::failure::{Difference, Failure};
 use crate::make_up::values::Values;
@@ -16,39 +17,6 @@ pub struct Checks {
     /// All of OTHERS, or none, to see what runs one at a time find alone.
     pub others: &'static [Implementation],
     pub coverage: Coverage,
-}
-
-/// Words on both sides of the lent ones, to see a write outside of them.
-const GUARD: usize = 8;
-const GUARD_WORD: u32 = 0xa5a5_a5a5;
-
-/// A copy of the words, lent from between its guards.
-struct Copy {
-    guarded: Vec<u32>,
-}
-
-impl Copy {
-    fn of(words: &[u32]) -> Copy {
-        let guard = [GUARD_WORD; GUARD];
-        Copy {
-            guarded: [&guard, words, &guard].concat(),
-        }
-    }
-
-    fn lent(&self) -> &[u32] {
-        &self.guarded[GUARD..self.guarded.len() - GUARD]
-    }
-
-    fn lend(&mut self) -> &mut [u32] {
-        let end = self.guarded.len() - GUARD;
-        &mut self.guarded[GUARD..end]
-    }
-
-    fn guards_stand(&self) -> bool {
-        let (low, rest) = self.guarded.split_at(GUARD);
-        let high = &rest[rest.len() - GUARD..];
-        low.iter().chain(high).all(|word| *word == GUARD_WORD)
-    }
 }
 
 pub struct SideBySide {
@@ -94,7 +62,7 @@ impl SideBySide {
         let answer = SECOND.call(self.second.lend(), call);
         let unchanged = self.before == self.second.lent();
         if answer.is_refusal() && !unchanged {
-            return Err(broken(SECOND.name, call, answer));
+            return Err(Failure::broken(SECOND.name, call, answer));
         }
         self.compare(call, answer, |other, words| other.call(words, call))?;
         self.from_make |= matches!(call, Call::Make(_)) && !answer.is_refusal();
@@ -136,12 +104,12 @@ impl SideBySide {
         make: impl Fn(&Implementation, &mut [u32]) -> A,
     ) -> Result<(), Failure> {
         if !self.second.guards_stand() {
-            return Err(broken(SECOND.name, call, answer));
+            return Err(Failure::broken(SECOND.name, call, answer));
         }
         for (other, copy) in &mut self.others {
             let theirs = make(other, copy.lend());
             if !copy.guards_stand() {
-                return Err(broken(other.name, call, theirs));
+                return Err(Failure::broken(other.name, call, theirs));
             }
             if theirs != answer || copy.lent() != self.second.lent() {
                 return Err(Failure::Different(Box::new(Difference {
@@ -155,8 +123,4 @@ impl SideBySide {
         }
         Ok(())
     }
-}
-
-fn broken(name: &'static str, call: impl Debug, answer: impl Debug) -> Failure {
-    Failure::Broken(name, format!("{call:?} answered {answer:?}"))
 }

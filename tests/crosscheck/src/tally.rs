@@ -2,7 +2,7 @@
 
 use crate::cases::files::Lister;
 use crate::cases::runs::Runs;
-use crate::cases::{collisions, dispatch, images, makes, scripts, segments};
+use crate::cases::{collisions, dispatch, images, makes, moves, scripts, segments};
 use crate::cases::{solo, spacers, stretch, strides};
 use crate::coverage::Coverage;
 use crate::failure::Failure;
@@ -14,15 +14,16 @@ use std::process::ExitCode;
 use std::time::{Duration, Instant};
 
 /// Cases that are run however short the time is. They reach all there is to
-/// reach but for few seeds, which ask for more time (one of the first sixty).
-const LEAST_CASES: u64 = 420;
+/// reach but for few seeds, which ask for more time (none of the first sixty, run files
+/// left out).
+const LEAST_CASES: u64 = 440;
 /// Images, makes and most scripts are short: a case has this many of them.
 const IMAGES: u64 = 160;
 const MAKES: u64 = 40;
 const SCRIPTS: u64 = 6;
 /// Which cases are of which sort goes by their number modulo this: most are
 /// runs, which say the most, and a case of run files takes as long as twenty.
-const SORTS: u64 = 21;
+const SORTS: u64 = 22;
 const RUN_FILES: u64 = 4;
 const OF_SCRIPTS: u64 = 5;
 const SOLO: u64 = 6;
@@ -32,6 +33,7 @@ const STRIDES: u64 = 9;
 const SEGMENTS: u64 = 10;
 const SPACERS: u64 = 11;
 const COLLISIONS: u64 = 12;
+const MOVES: u64 = 13;
 
 pub struct Tally {
     checks: Checks,
@@ -120,6 +122,7 @@ impl Tally {
             SEGMENTS => segments::run(rng, width_in_turn(case), &mut self.checks)?,
             SPACERS => spacers::run(rng, &mut self.checks)?,
             COLLISIONS => collisions::run(rng, &mut self.checks)?,
+            MOVES => moves::run(rng, &mut self.checks)?,
             _ => self.runs.run(rng, &mut self.checks)?,
         }
         Ok(())
@@ -137,13 +140,14 @@ impl Tally {
         self.report_runs();
         println!(
             "crosscheck: {} calls, {} images, {} runs one at a time, {} scripts, {} solo operations, \
-             {} dispatches, {} run files: all equal",
+             {} dispatches, {} moves, {} run files: all equal",
             self.checks.coverage.calls,
             self.images,
             self.runs.runs,
             self.checks.coverage.worst_scripts,
             self.checks.coverage.solo.operations,
             self.checks.coverage.dispatches,
+            self.checks.coverage.moves.made,
             self.lister.as_ref().map_or(0, |lister| lister.files),
         );
         ExitCode::SUCCESS

@@ -1,7 +1,8 @@
 //! A call of the pool or of its dispatcher, and the implementations that can be
-//! asked to make it: one table for the cross-check and the benchmark.
+//! asked to make it: one table for the cross-check and the benchmark. And a move
+//! between editions, which `fast` does not have.
 
-use second::{Answer, Returned, Settings};
+use second::{in_edition, Answer, Edition, Returned, Settings};
 
 #[derive(Clone, Copy, Debug, PartialEq, Eq)]
 pub enum Call {
@@ -52,6 +53,18 @@ pub const SECOND: Implementation = Implementation {
     dispatch: |words, worker, steps| second::dispatch(words, worker, steps).returned(),
 };
 
+/// The same in edition 0, which no other one has.
+pub const SECOND_IN_EDITION_0: Implementation = Implementation {
+    name: "second in edition 0",
+    make: |words, settings| in_edition::make(Edition::Zero, words, settings),
+    begin_put: |words, worker, value| in_edition::begin_put(Edition::Zero, words, worker, value),
+    begin_take: |words, worker| in_edition::begin_take(Edition::Zero, words, worker),
+    step: |words, worker| in_edition::step(Edition::Zero, words, worker),
+    dispatch: |words, worker, steps| {
+        in_edition::dispatch(Edition::Zero, words, worker, steps).returned()
+    },
+};
+
 /// The library under test.
 pub const COMPILED: Implementation = Implementation {
     name: "compiled",
@@ -70,4 +83,50 @@ pub const FAST: Implementation = Implementation {
     begin_take: fast::begin_take,
     step: fast::step,
     dispatch: |words, worker, steps| fast::dispatch(words, worker, steps).returned(),
+};
+
+#[derive(Clone, Copy, Debug, PartialEq, Eq, PartialOrd, Ord)]
+pub enum Move {
+    From0To1,
+    From1To0,
+}
+
+pub const MOVES: [Move; 2] = [Move::From0To1, Move::From1To0];
+
+impl Move {
+    /// The source's and the target's.
+    pub fn editions(self) -> [Edition; 2] {
+        match self {
+            Move::From0To1 => [Edition::Zero, Edition::One],
+            Move::From1To0 => [Edition::One, Edition::Zero],
+        }
+    }
+}
+
+pub struct Mover {
+    pub name: &'static str,
+    move_0_to_1: fn(&[u32], &mut [u32]) -> u32,
+    move_1_to_0: fn(&[u32], &mut [u32]) -> u32,
+}
+
+impl Mover {
+    /// Moves the pool, and gives the answer's number.
+    pub fn answer(&self, which: Move, from: &[u32], to: &mut [u32]) -> u32 {
+        match which {
+            Move::From0To1 => (self.move_0_to_1)(from, to),
+            Move::From1To0 => (self.move_1_to_0)(from, to),
+        }
+    }
+}
+
+pub const SECOND_MOVER: Mover = Mover {
+    name: SECOND.name,
+    move_0_to_1: second::move_0_to_1,
+    move_1_to_0: second::move_1_to_0,
+};
+
+pub const COMPILED_MOVER: Mover = Mover {
+    name: COMPILED.name,
+    move_0_to_1: compiled::move_0_to_1,
+    move_1_to_0: compiled::move_1_to_0,
 };

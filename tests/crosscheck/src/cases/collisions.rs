@@ -3,13 +3,13 @@
 
 use super::from_make::FromMake;
 use crate::failure::Failure;
-use crate::make_up::editions::{self, EDITIONS};
+use crate::make_up::editions::{self, ABOUT_HEADER, EDITIONS};
 use crate::make_up::schedule::{Numbers, Schedule};
 use crate::make_up::settings::{of_kind, Size};
 use crate::make_up::{dispatches, junk};
 use crate::rng::Rng;
 use crate::side_by_side::{Checks, SideBySide};
-use second::{layout, Settings, QUEUE, STACK};
+use second::{Edition, Settings, QUEUE, STACK};
 use sides::Call;
 
 pub fn run(rng: &mut Rng, checks: &mut Checks) -> Result<(), Failure> {
@@ -24,9 +24,8 @@ pub fn run(rng: &mut Rng, checks: &mut Checks) -> Result<(), Failure> {
 
 fn of_edition(rng: &mut Rng, kind: u32, edition: u32, checks: &mut Checks) -> Result<(), Failure> {
     let settings = of_kind(rng, kind, Size::Small);
-    let about_header = [layout::HEADER_WORDS - 1, layout::HEADER_WORDS];
-    for len in about_header.into_iter().chain(editions::lengths(&settings)) {
-        let words = editions::image(rng, &settings, edition, len);
+    for len in ABOUT_HEADER.into_iter().chain(editions::lengths(&settings)) {
+        let words = editions::image(rng, (&settings, Edition::CURRENT), edition, len);
         each_call(rng, &words, settings.workers, checks)?;
     }
     Ok(())

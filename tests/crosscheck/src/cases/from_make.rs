@@ -6,6 +6,7 @@ use super::failed_commits::FailedCommits;
 use crate::failure::Failure;
 use crate::make_up::junk;
 use crate::make_up::values::Values;
+use crate::make_up::workers::set_failed_commits;
 use crate::rng::Rng;
 use crate::side_by_side::{Checks, SideBySide};
 use crate::take::Take;
@@ -135,12 +136,14 @@ impl FromMake {
     /// As after a longer one than there is: with failed commits near 2^32.
     pub fn leave_failed_commits(&mut self, rng: &mut Rng, checks: &Checks) {
         let mut words = self.words().to_vec();
-        let workers = &mut words[self.settings.workers_at()..self.settings.cells_at()];
-        for worker in workers.chunks_mut(layout::WORKER_WORDS) {
-            worker[layout::FAILED_COMMITS] = junk::near_the_top(rng);
-        }
-        self.pools = SideBySide::with_values(&words, self.values, checks);
-        self.failed_commits = FailedCommits::of(&words);
+        set_failed_commits(&mut words, || junk::near_the_top(rng));
+        self.go_on_in(&words, checks);
+    }
+
+    /// The same pool in these words, with other failed commits (K5, K6).
+    pub fn go_on_in(&mut self, words: &[u32], checks: &Checks) {
+        self.pools = SideBySide::with_values(words, self.values, checks);
+        self.failed_commits = FailedCommits::of(words);
     }
 
     /// With the worst distance in the place of demand 3's bound, which is a

@@ -17,18 +17,24 @@ pub fn calls_on(rng: &mut Rng, words: &[u32], checks: &mut Checks) -> Result<(),
     let mut pools = SideBySide::new(words, checks);
     let mut worker = junk::worker(rng, workers);
     for _ in 0..rng.between(1, 16) {
-        if rng.chance(40) {
-            worker = junk::worker(rng, workers);
-        }
-        let call = match rng.below(10) {
-            0 => Call::BeginPut {
-                worker,
-                value: junk::word(rng),
-            },
-            1 => Call::BeginTake { worker },
-            _ => Call::Step { worker },
-        };
+        let call = next_call(rng, workers, &mut worker);
         pools.call(call, checks)?;
     }
     Ok(())
+}
+
+/// Mostly a step, and mostly of the worker that had the last call.
+pub fn next_call(rng: &mut Rng, workers: u32, worker: &mut u32) -> Call {
+    if rng.chance(40) {
+        *worker = junk::worker(rng, workers);
+    }
+    let worker = *worker;
+    match rng.below(10) {
+        0 => Call::BeginPut {
+            worker,
+            value: junk::word(rng),
+        },
+        1 => Call::BeginTake { worker },
+        _ => Call::Step { worker },
+    }
 }

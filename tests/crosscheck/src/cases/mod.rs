@@ -8,6 +8,7 @@ pub mod files;
 mod from_make;
 pub mod images;
 pub mod makes;
+pub mod moves;
 mod play;
 pub mod runs;
 pub mod scripts;

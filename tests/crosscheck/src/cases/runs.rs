@@ -84,3 +84,13 @@ fn size(rng: &mut Rng) -> (Size, u32) {
         _ => (Size::Small, rng.between(20, 800)),
     }
 }
+
+/// Many short ones, where what a dispatch or a move meets is what counts.
+pub fn short(rng: &mut Rng) -> (Size, u32) {
+    match rng.below(40) {
+        0 => (Size::Large, rng.between(200, 2_000)),
+        1..=9 => (Size::Medium, rng.between(50, 1_000)),
+        10..=15 => (Size::Deep, rng.between(100, 1_000)),
+        _ => (Size::Small, rng.between(10, 300)),
+    }
+}

@@ -6,15 +6,17 @@
 //! dispatch, and the most steps of a stretch; a lost commit with each stride of
 //! each width, and the refusals for the stride alone; each corner of the segments
 //! that a distance goes through; each corner of the spacers that it does not count;
-//! each corner of the failed commits, and each edition and length that decides; and
-//! an empty of each kind that cannot stand at its last step.
+//! each corner of the failed commits, and each edition and length that decides; each
+//! corner of a move, two faults at once, and a moved pool that goes on in each phase;
+//! and an empty of each kind that cannot stand at its last step.
 
 mod by_origin;
 mod collisions;
 mod corners;
 mod counts;
 mod dispatch;
-mod numbers;
+mod moves;
+pub mod numbers;
 mod phases;
 mod places;
 mod scripts;
@@ -24,19 +26,21 @@ mod spacers;
 mod stretch;
 mod strides;
 
+use crate::moved::Trip;
 use crate::take::Take;
 use collisions::Collisions;
 use corners::CORNERS;
 use counts::Counts;
 use dispatch::DISPATCHES;
-use numbers::Numbers;
+use moves::{move_name, Moves};
+use numbers::{Numbers, DISPATCH, NUMBERS};
 use phases::Phases;
 use places::Places;
 use scripts::SCRIPTS;
 use second::phase::{self, Side, Stage};
-use second::{layout, Answer, Dispatched, Settings, MOVING, TAKEN, UNFIT};
+use second::{in_edition, layout, Answer, Dispatched, Edition, Settings, MOVING, TAKEN, UNFIT};
 use segments::Segments;
-use sides::{Call, Dispatch, SECOND};
+use sides::{Call, Dispatch};
 use solo::Solo;
 use spacers::Spacers;
 use stretch::Stretch;
@@ -94,6 +98,7 @@ pub struct Coverage {
     segments: Segments,
     pub spacers: Spacers,
     collisions: Collisions,
+    pub moves: Moves,
     pub places: Places,
 }
 
@@ -107,19 +112,17 @@ impl Coverage {
         origin: Origin,
     ) {
         self.calls += 1;
-        let (name, worker) = match call {
+        let name = numbers::name(call);
+        self.numbers.record(name, answer.number);
+        let worker = match call {
             Call::Make(settings) => {
                 self.strides.record_make(&settings, answer.number);
                 self.collisions.record_make(settings, before, answer.number);
-                ("make", None)
+                return;
             }
-            Call::BeginPut { worker, .. } => ("begin put", Some(worker)),
-            Call::BeginTake { worker } => ("begin take", Some(worker)),
-            Call::Step { worker } => ("step", Some(worker)),
-        };
-        self.numbers.record(name, answer.number);
-        let Some(worker) = worker else {
-            return;
+            Call::BeginPut { worker, .. } | Call::BeginTake { worker } | Call::Step { worker } => {
+                worker
+            }
         };
         self.collisions.record_call(name, before, answer.number);
         if answer.number == UNFIT && fitness(before) == UNFIT {
@@ -159,8 +162,8 @@ impl Coverage {
     ) {
         self.dispatches += 1;
         let (number, _) = dispatched.returned();
-        self.numbers.record("dispatch", number);
-        self.collisions.record_call("dispatch", before, number);
+        self.numbers.record(DISPATCH, number);
+        self.collisions.record_call(DISPATCH, before, number);
         let seen = dispatch::Seen {
             dispatch,
             dispatched,
@@ -171,6 +174,12 @@ impl Coverage {
         self.dispatch.add(reached);
     }
 
+    /// The target's words are those before it.
+    pub fn record_move(&mut self, trip: Trip, from: &[u32], to: &[u32], number: u32) {
+        self.numbers.record(move_name(trip.which), number);
+        self.moves.record(trip, from, to, number);
+    }
+
     /// A script that came to its end.
     pub fn record_script(&mut self, settings: &Settings) {
         self.scripts.add(SCRIPTS.map(|(_, has)| has(settings)));
@@ -179,7 +188,7 @@ impl Coverage {
     /// Prints the counts; what is missing comes back.
     pub fn report(&self) -> Vec<String> {
         let mut missing = self.phases.report();
-        missing.extend(self.numbers.report());
+        missing.extend(self.numbers.report(&NUMBERS));
         missing.extend(self.corners.report(CORNERS));
         missing.extend(self.scripts.report(SCRIPTS));
         missing.extend(self.solo.report());
@@ -189,6 +198,7 @@ impl Coverage {
         missing.extend(self.segments.report());
         missing.extend(self.spacers.report());
         missing.extend(self.collisions.report());
+        missing.extend(self.moves.report());
         missing.extend(self.places.report());
         missing
     }
@@ -196,6 +206,9 @@ impl Coverage {
 
 /// 21 or 23; 24 for a fit pool, which has no worker of this number.
 fn fitness(words: &[u32]) -> u32 {
-    let no_worker = Call::Step { worker: u32::MAX };
-    SECOND.call(&mut words.to_vec(), no_worker).number
+    fitness_in(Edition::CURRENT, words)
+}
+
+fn fitness_in(edition: Edition, words: &[u32]) -> u32 {
+    in_edition::step(edition, &mut words.to_vec(), u32::MAX).number
 }

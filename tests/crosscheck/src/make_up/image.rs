@@ -7,41 +7,51 @@ use super::settings::{within, Size};
 use super::values::Values;
 use crate::rng::Rng;
 use second::phase;
-use second::{layout, Settings, CURRENT_EDITION, QUEUE};
+use second::{layout, Edition, Settings, QUEUE};
 
 /// A fit one more often than not.
 pub fn any(rng: &mut Rng) -> Vec<u32> {
+    any_of_edition(rng, Edition::CURRENT)
+}
+
+pub fn any_of_edition(rng: &mut Rng, edition: Edition) -> Vec<u32> {
     match rng.below(10) {
         0 => random(rng),
-        1 => short(rng),
-        2 | 3 => damaged(rng),
-        _ => fit(rng),
+        1 => short(rng, edition),
+        2 | 3 => damaged(rng, edition),
+        _ => fit(rng, edition),
     }
 }
 
-fn fit(rng: &mut Rng) -> Vec<u32> {
+fn fit(rng: &mut Rng, edition: Edition) -> Vec<u32> {
     let size = rng.pick(&[Size::Small, Size::Small, Size::Small, Size::Medium]);
     let settings = within(rng, size);
-    of(rng, &settings)
+    of_edition(rng, &settings, edition)
 }
 
 /// Fit but for the stride, which may be off limits.
 pub fn of(rng: &mut Rng, settings: &Settings) -> Vec<u32> {
+    of_edition(rng, settings, Edition::CURRENT)
+}
+
+pub fn of_edition(rng: &mut Rng, settings: &Settings, edition: Edition) -> Vec<u32> {
     let beyond = rng.below(4) as usize;
-    let mut words = junk::words(rng, settings.needed_words() + beyond);
+    let needed = settings.needed_words_in(edition);
+    let mut words = junk::words(rng, needed + beyond);
     header(rng, settings, &mut words);
+    words[layout::EDITION] = edition.word();
     for j in 0..settings.width as usize {
         let at = settings.subs_at() + layout::SUB_WORDS * j;
         sub(rng, settings, &mut words, at);
     }
     for i in 0..settings.workers as usize {
-        let at = settings.workers_at() + layout::WORKER_WORDS * i;
+        let at = settings.workers_at() + edition.worker_words() * i;
         worker(rng, settings, &mut words, at);
+        if edition == Edition::One && rng.chance(40) {
+            words[at + layout::FAILED_COMMITS] = junk::near_the_top(rng);
+        }
     }
-    cells(
-        rng,
-        &mut words[settings.cells_at()..settings.needed_words()],
-    );
+    cells(rng, &mut words[settings.cells_at_in(edition)..needed]);
     words
 }
 
@@ -58,11 +68,11 @@ fn cells(rng: &mut Rng, words: &mut [u32]) {
 }
 
 /// A fit image with one word changed, mostly one that the check reads.
-fn damaged(rng: &mut Rng) -> Vec<u32> {
-    let mut words = fit(rng);
+fn damaged(rng: &mut Rng, edition: Edition) -> Vec<u32> {
+    let mut words = fit(rng, edition);
     let settings = Settings::of_words(&words);
     let in_worker = settings.workers_at()
-        + layout::WORKER_WORDS * rng.below(settings.workers) as usize
+        + edition.worker_words() * rng.below(settings.workers) as usize
         + rng.pick(&[layout::PHASE, layout::INDEX, layout::SCAN]);
     let at = match rng.below(4) {
         0 => rng.below(layout::HEADER_WORDS as u32) as usize,
@@ -80,11 +90,11 @@ fn damaged(rng: &mut Rng) -> Vec<u32> {
 }
 
 /// A fit or damaged image, cut near 12 words or near the needed ones.
-fn short(rng: &mut Rng) -> Vec<u32> {
+fn short(rng: &mut Rng, edition: Edition) -> Vec<u32> {
     let mut words = if rng.chance(80) {
-        fit(rng)
+        fit(rng, edition)
     } else {
-        damaged(rng)
+        damaged(rng, edition)
     };
     let needed = words.len();
     let len = match rng.below(3) {
@@ -103,16 +113,19 @@ fn random(rng: &mut Rng) -> Vec<u32> {
 }
 
 fn header(rng: &mut Rng, settings: &Settings, words: &mut [u32]) {
+    set_settings(settings, words);
+    words[layout::STEPS_COUNTED] = junk::step_count(rng);
+    windows(rng, settings, words);
+}
+
+pub fn set_settings(settings: &Settings, words: &mut [u32]) {
     words[layout::KIND] = settings.kind;
     words[layout::WIDTH] = settings.width;
     words[layout::DEPTH] = settings.depth;
     words[layout::SHIFT] = settings.shift;
     words[layout::ROWS] = settings.rows;
     words[layout::WORKERS] = settings.workers;
-    words[layout::STEPS_COUNTED] = junk::step_count(rng);
     words[layout::STRIDE] = settings.stride;
-    words[layout::EDITION] = CURRENT_EDITION;
-    windows(rng, settings, words);
 }
 
 /// P near T, or G within the rows; now and then near 2^32, or left as junk.
@@ -193,9 +206,6 @@ fn worker(rng: &mut Rng, settings: &Settings, words: &mut [u32], at: usize) {
     }
     if rng.chance(40) {
         words[at + layout::SUM] = sum_to_come(settings, words, at);
-    }
-    if rng.chance(40) {
-        words[at + layout::FAILED_COMMITS] = junk::near_the_top(rng);
     }
 }
 

@@ -10,6 +10,7 @@ pub mod junk;
 pub mod longest_stretch;
 pub mod lost_commit;
 pub mod most_steps;
+pub mod move_faults;
 pub mod run_file;
 pub mod schedule;
 pub mod script;

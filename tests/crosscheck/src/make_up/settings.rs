@@ -163,18 +163,35 @@ pub fn any(rng: &mut Rng) -> Settings {
     let size = rng.pick(&[Size::Small, Size::Medium, Size::Large]);
     let mut settings = within(rng, size);
     for _ in 0..rng.below(3) {
-        let field = match rng.below(7) {
-            0 => &mut settings.kind,
-            1 => &mut settings.width,
-            2 => &mut settings.depth,
-            3 => &mut settings.shift,
-            4 => &mut settings.rows,
-            5 => &mut settings.workers,
-            _ => &mut settings.stride,
-        };
-        *field = near_a_limit(rng, *field);
+        let field = rng.below(7);
+        spoil(rng, &mut settings, field);
     }
     settings
+}
+
+/// One of them off limits, the stride not for itself.
+pub fn off_limits(rng: &mut Rng, settings: &Settings) -> Settings {
+    loop {
+        let mut off = *settings;
+        let field = rng.below(6);
+        spoil(rng, &mut off, field);
+        if !(Settings { stride: 0, ..off }).within_limits() {
+            return off;
+        }
+    }
+}
+
+fn spoil(rng: &mut Rng, settings: &mut Settings, field: u32) {
+    let field = match field {
+        0 => &mut settings.kind,
+        1 => &mut settings.width,
+        2 => &mut settings.depth,
+        3 => &mut settings.shift,
+        4 => &mut settings.rows,
+        5 => &mut settings.workers,
+        _ => &mut settings.stride,
+    };
+    *field = near_a_limit(rng, *field);
 }
 
 fn near_a_limit(rng: &mut Rng, now: u32) -> u32 {

@@ -93,3 +93,12 @@ impl Workers<'_> {
         self.words[self.settings.workers_at() + layout::WORKER_WORDS * worker as usize + which]
     }
 }
+
+/// The ninth words of a pool of the current edition, worker by worker.
+pub fn set_failed_commits(words: &mut [u32], mut word: impl FnMut() -> u32) {
+    let settings = Settings::of_words(words);
+    let workers = &mut words[settings.workers_at()..settings.cells_at()];
+    for worker in workers.chunks_mut(layout::WORKER_WORDS) {
+        worker[layout::FAILED_COMMITS] = word();
+    }
+}

@@ -2,17 +2,18 @@
 
 use super::from_each_worker;
 use crate::cases::from_make::FromMake;
+use crate::cases::runs::short;
 use crate::failure::Failure;
 use crate::make_up::dispatches;
 use crate::make_up::schedule::{Numbers, Schedule};
-use crate::make_up::settings::{of_kind, Size};
+use crate::make_up::settings::of_kind;
 use crate::rng::Rng;
 use crate::side_by_side::{Checks, SideBySide};
 use second::{layout, longest_stretch, Dispatched, QUEUE, STEP_LIMIT};
 use sides::Dispatch;
 
 pub fn run(rng: &mut Rng, kind: u32, checks: &mut Checks) -> Result<(), Failure> {
-    let (size, calls) = size(rng);
+    let (size, calls) = short(rng);
     let settings = of_kind(rng, kind, size);
     let mut run = FromMake::new("run with dispatches", rng, settings, checks)?;
     let mut schedule = Schedule::new(rng, settings, Numbers::Any, run.values);
@@ -72,14 +73,4 @@ fn with_steps_left(run: &FromMake, left: u32) -> Vec<u32> {
     let mut words = run.words().to_vec();
     words[layout::STEPS_COUNTED] = STEP_LIMIT - left;
     words
-}
-
-/// Many short ones: what a dispatch meets is what counts.
-fn size(rng: &mut Rng) -> (Size, u32) {
-    match rng.below(40) {
-        0 => (Size::Large, rng.between(200, 2_000)),
-        1..=9 => (Size::Medium, rng.between(50, 1_000)),
-        10..=15 => (Size::Deep, rng.between(100, 1_000)),
-        _ => (Size::Small, rng.between(10, 300)),
-    }
 }

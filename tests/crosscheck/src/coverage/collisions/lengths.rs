@@ -2,8 +2,7 @@
 //! and without (K5): which of them a call goes by, in the order of the refusals.
 
 use crate::coverage::fitness;
-use crate::make_up::editions::with_eight_each;
-use second::{layout, Settings, CURRENT_EDITION, NO_WORKER, TOO_SHORT, UNFIT};
+use second::{layout, Edition, Settings, CURRENT_EDITION, NO_WORKER, TOO_SHORT, UNFIT};
 
 /// What a call got, and its answer's number.
 pub struct Given<'a> {
@@ -17,13 +16,13 @@ pub type Corner = (&'static str, fn(&Given) -> bool);
 /// Settings and edition come first: with 21 they are as they should be.
 pub const BY_LENGTH: [Corner; 6] = [
     ("21 a word short of eight for a worker", |given| {
-        is_short(given) && given.words.len() + 1 == with_eight_each(&given.settings)
+        is_short(given) && given.words.len() + 1 == with_eight_each(given)
     }),
     ("21 with eight words for a worker", |given| {
-        is_short(given) && given.words.len() == with_eight_each(&given.settings)
+        is_short(given) && given.words.len() == with_eight_each(given)
     }),
     ("21 a word above eight for a worker", |given| {
-        is_short(given) && given.words.len() == with_eight_each(&given.settings) + 1
+        is_short(given) && given.words.len() == with_eight_each(given) + 1
     }),
     ("21 a word short of nine for a worker", |given| {
         is_short(given) && given.words.len() + 1 == given.settings.needed_words()
@@ -56,7 +55,7 @@ pub const BY_EDITION: [Corner; 10] = [
         is_before_short(given, u32::MAX)
     }),
     ("23 for edition 0 with eight words for a worker", |given| {
-        is_before_short(given, 0) && given.words.len() == with_eight_each(&given.settings)
+        is_before_short(given, 0) && given.words.len() == with_eight_each(given)
     }),
     ("23 for edition 0 in 12 words", |given| {
         is_before_short(given, 0) && given.words.len() == layout::HEADER_WORDS
@@ -65,6 +64,10 @@ pub const BY_EDITION: [Corner; 10] = [
         is_short(given) && given.words.len() == layout::HEADER_WORDS
     }),
 ];
+
+fn with_eight_each(given: &Given) -> usize {
+    given.settings.needed_words_in(Edition::Zero)
+}
 
 fn is_short(given: &Given) -> bool {
     given.number == TOO_SHORT
