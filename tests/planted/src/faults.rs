@@ -55,7 +55,7 @@ const fn lister_fault(
     }
 }
 
-pub const FAULTS: [Fault; 54] = [
+pub const FAULTS: [Fault; 67] = [
     trap(
         "empty after one pass, without confirm",
         "stages/read.rs",
@@ -113,14 +113,14 @@ pub const FAULTS: [Fault; 54] = [
     fault(
         "a count of 0 that ran out where nobody is busy",
         "dispatch.rs",
-        "if busy_from(words, settings, turn).is_none() {",
-        "if count > 0 && busy_from(words, settings, turn).is_none() {",
+        "if busy_from(edition, words, turn).is_none() {",
+        "if count > 0 && busy_from(edition, words, turn).is_none() {",
     ),
     fault(
         "a next turn that passes over idle workers",
         "dispatch.rs",
         "Dispatched::RanOut { next: turn }",
-        "Dispatched::RanOut { next: busy_from(words, settings, turn).unwrap_or(turn) }",
+        "Dispatched::RanOut { next: busy_from(edition, words, turn).unwrap_or(turn) }",
     ),
     fault(
         "the longest stretch, one step less",
@@ -287,32 +287,110 @@ pub const FAULTS: [Fault; 54] = [
     fault(
         "eight words for each worker enough",
         "pool/fit.rs",
-        "words.len() < settings.needed_words()",
-        "words.len() + (settings.workers as usize) < settings.needed_words()",
+        "words.len() < settings.needed_words_in(edition)",
+        "words.len() + (settings.workers as usize) < settings.needed_words_in(edition)",
     ),
     fault(
         "a make that leaves the edition at 0",
         "calls.rs",
-        "    words[layout::EDITION] = CURRENT_EDITION;\n",
+        "    words[layout::EDITION] = edition.word();\n",
         "",
     ),
     fault(
         "edition 0 fit too",
         "pool/fit.rs",
-        "words[layout::EDITION] != CURRENT_EDITION",
-        "words[layout::EDITION] > CURRENT_EDITION",
+        "words[layout::EDITION] != edition.word()",
+        "words[layout::EDITION] > edition.word()",
     ),
     fault(
         "every later edition fit too",
         "pool/fit.rs",
-        "words[layout::EDITION] != CURRENT_EDITION",
-        "words[layout::EDITION] < CURRENT_EDITION",
+        "words[layout::EDITION] != edition.word()",
+        "words[layout::EDITION] < edition.word()",
     ),
     fault(
         "the edition looked at after the needed words",
         "pool/fit.rs",
-        "words[layout::EDITION] != CURRENT_EDITION",
-        "words.len() >= settings.needed_words() && words[layout::EDITION] != CURRENT_EDITION",
+        "words[layout::EDITION] != edition.word()",
+        "words.len() >= settings.needed_words_in(edition) && words[layout::EDITION] != edition.word()",
+    ),
+    fault(
+        "a move that looks at the needed words before the edition",
+        "pool/fit.rs",
+        "words[layout::EDITION] != edition.word()",
+        "words[layout::EDITION] != edition.word()\n        && (if_another == UNFIT || words.len() >= settings.needed_words_in(edition))",
+    ),
+    fault(
+        "a move that looks at the edition before the settings",
+        "pool/fit.rs",
+        "    if !settings.within_limits() {\n",
+        "    if if_another != UNFIT && words[layout::EDITION] != edition.word() {\n        return Err(if_another);\n    }\n    if !settings.within_limits() {\n",
+    ),
+    fault(
+        "a move of edition 7 refused with 23",
+        "pool/fit.rs",
+        "return Err(if_another);",
+        "return Err(if words[layout::EDITION] == 7 { UNFIT } else { if_another });",
+    ),
+    fault(
+        "a move that looks at the target before subs and workers",
+        "moves.rs",
+        "    let source = match fit_to_move",
+        "    if from.len() >= layout::HEADER_WORDS {\n        let settings = crate::pool::settings::Settings::of_words(from);\n        let head_fits = settings.within_limits() && from[layout::EDITION] == old.word();\n        if head_fits && to.len() < settings.needed_words_in(new) {\n            return TOO_SHORT;\n        }\n    }\n    let source = match fit_to_move",
+    ),
+    fault(
+        "a move that looks at the target before all else",
+        "moves.rs",
+        "    let source = match fit_to_move",
+        "    if from.len() >= layout::HEADER_WORDS {\n        let settings = crate::pool::settings::Settings::of_words(from);\n        if to.len() < settings.needed_words_in(new) {\n            return TOO_SHORT;\n        }\n    }\n    let source = match fit_to_move",
+    ),
+    fault(
+        "a move back that asks for nine words for each worker",
+        "moves.rs",
+        "needed_words_in(new)",
+        "needed_words_in(Edition::One)",
+    ),
+    fault(
+        "a move that keeps the source's edition",
+        "moves.rs",
+        "target.edition.word()",
+        "source.edition.word()",
+    ),
+    fault(
+        "a move on that leaves the target's old ninth words",
+        "moves.rs",
+        "target.set_worker(number, source.worker(number));",
+        "let moved = crate::pool::Worker {\n            failed_commits: target.worker(number).failed_commits,\n            ..source.worker(number)\n        };\n        target.set_worker(number, moved);",
+    ),
+    fault(
+        "a move back whose cells begin with the last ninth word",
+        "moves.rs",
+        "    target.words[cells].copy_from_slice(&source.words[source.cells()]);\n",
+        "    let early = usize::from(source.edition == Edition::One);\n    let from = source.cells().start - early..source.cells().end - early;\n    target.words[cells].copy_from_slice(&source.words[from]);\n",
+    ),
+    fault(
+        "a move that clears the words beyond the needed ones",
+        "moves.rs",
+        "    copy_pool(&source, &mut target);\n",
+        "    copy_pool(&source, &mut target);\n    let needed = target.cells().end;\n    target.words[needed..].fill(0);\n",
+    ),
+    fault(
+        "a move that ends the operations under way",
+        "moves.rs",
+        "target.set_worker(number, source.worker(number));",
+        "target.set_worker(number, source.worker(number).idle());",
+    ),
+    fault(
+        "a failed commit in edition 0 that hops by 1",
+        "stages/commit.rs",
+        "pool.settings.stride.max(1)",
+        "match pool.edition {\n        crate::pool::edition::Edition::Zero => 1,\n        crate::pool::edition::Edition::One => pool.settings.stride.max(1),\n    }",
+    ),
+    fault(
+        "spacers counted in edition 0's distance",
+        "stages/distance.rs",
+        "is_ahead && value != SPACER",
+        "is_ahead && (value != SPACER || pool.edition == crate::pool::edition::Edition::Zero)",
     ),
     fault(
         "a stack take that reads >= for >",
