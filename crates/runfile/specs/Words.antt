@@ -1,5 +1,5 @@
 -- The words of a run file's bytes: 32 bits each, low byte first.
-use Prim.Native.Nat.{ℕ, _+_, _*_, _^_}
+use Prim.Native.Nat.{ℕ, _+_, _*_, _/_, _%_, _^_}
 use mathlib.Core.List.{List, [], _∷_}
 use lib.ListN.{getD}
 use Rattle.runfile.specs.declared.word.Read.{Read}
@@ -16,6 +16,13 @@ byteBit k = 8 * k
 -- the word of its bytes
 abbrev pub wordOf : ℕ → ℕ → ℕ → ℕ → ℕ
 wordOf a b c d = a + 2 ^ byteBit 1 * b + 2 ^ byteBit 2 * c + 2 ^ byteBit 3 * d
+
+-- and back: the low byte, and the bytes
+abbrev pub lowByte : ℕ → ℕ
+lowByte x = x % 2 ^ byteBit 1
+
+abbrev pub bytesOf : ℕ → List ℕ
+bytesOf word = lowByte word ∷ lowByte (word / 2 ^ byteBit 1) ∷ lowByte (word / 2 ^ byteBit 2) ∷ lowByte (word / 2 ^ byteBit 3) ∷ []
 
 -- what a reader finds, word after word: the whole words, and a cut one where one to three bytes are left
 unfoldable pub readsOf : List ℕ → List Read

@@ -1,7 +1,7 @@
 // The words of a run file's bytes.
 ghost use mathlib.Core.Path.{_≡_};
 ghost use Prim.Native.Nat.{_<_};
-ghost use Rattle.runfile.specs.Words.{readAt};
+ghost use Rattle.runfile.specs.Words.{lowByte, bytesOf, readAt};
 
 // The bytes of a word.
 pub const WORD_BYTES: usize = 4;
@@ -47,4 +47,22 @@ pub fn word_at(bytes: &[u8], at: usize) -> Read
         return Read::End;
     }
     Read::Cut
+}
+
+fn low_byte(x: u32) -> u8
+    ensures { λ r. ⌜ r ≡ lowByte x ⌝ }
+{
+    (x % BYTE_1_BIT) as u8
+}
+
+// The bytes of a word, as they stand in a file.
+pub fn word_bytes(word: u32) -> [u8; WORD_BYTES]
+    ensures { λ r. ⌜ r ≡ bytesOf word ⌝ }
+{
+    [
+        low_byte(word),
+        low_byte(word / BYTE_1_BIT),
+        low_byte(word / BYTE_2_BIT),
+        low_byte(word / BYTE_3_BIT),
+    ]
 }

@@ -1,0 +1,89 @@
+// The mover: reads a saved pool from standard input, moves it from an edition to another and writes it to standard output.
+// Its arguments are the two editions. Where the move is refused it writes the refusal's number to standard error, and no byte to standard output.
+use libc::STDERR_FILENO;
+use libc::STDIN_FILENO;
+use libc::STDOUT_FILENO;
+use saved::MOST_BYTES;
+use saved::move_file;
+ghost use Prim.Native.Nat.{_≤_};
+ghost use lib.ListN.{length};
+
+// What is read: where the input's bytes end, and whether a read failed.
+struct Input {
+    end: usize,
+    failed: bool,
+}
+
+// The byte of an argument that has one; 0, which none has, for any other.
+fn one_byte(i: usize) -> u8 {
+    let mut byte = [0u8; 1];
+    if os::arg(i, &mut byte) == 1 {
+        byte[0]
+    } else {
+        0
+    }
+}
+
+// Reads until the input ends, the lent bytes are full or a read fails.
+fn read_all(src: &mut [u8]) -> Input
+    ensures { λ r. ⌜ r .end ≤ length (now (src .entry)) ⌝ }
+{
+    let mut end: usize = 0;
+    while end < src.len() {
+        let got = libc::read(STDIN_FILENO, &mut src[end..]);
+        let n = io::count(got, &src[end..]);
+        if n == 0 {
+            return Input {
+                end,
+                failed: got < 0,
+            };
+        }
+        end += n;
+    }
+    Input { end, failed: false }
+}
+
+// Reads a saved pool, and moves it. At most 65,536 bytes are read, more than the largest pool has; what follows is not looked at.
+fn move_input(old: u32, new: u32) {
+    let mut src = io::large_buffer();
+    let input = read_all(&mut src);
+    if input.failed {
+        io::write_all(STDERR_FILENO, b"mover: cannot read standard input\n");
+        return;
+    }
+    let end = input.end;
+    let mut out = [0u8; MOST_BYTES];
+    let moved = move_file(&src[..end], old, &mut out, new);
+    if moved.number != 0 {
+        io::print_decimal(STDERR_FILENO, moved.number as u64);
+        io::write_all(STDERR_FILENO, b"\n");
+        return;
+    }
+    let used = moved.used;
+    if !io::write_all(STDOUT_FILENO, &out[..used]) {
+        io::write_all(STDERR_FILENO, b"mover: cannot write standard output\n");
+    }
+}
+
+fn main() {
+    let old = one_byte(1);
+    let new = one_byte(2);
+    if os::arg_count() == 3 {
+        if old == b'0' {
+            if new == b'1' {
+                move_input(0, 1);
+                return;
+            }
+        }
+        if old == b'1' {
+            if new == b'0' {
+                move_input(1, 0);
+                return;
+            }
+        }
+    }
+    io::write_all(
+        STDERR_FILENO,
+        b"mover: call it as 'mover 0 1 <OLD >NEW' or 'mover 1 0 <NEW >OLD'\n",
+    );
+}

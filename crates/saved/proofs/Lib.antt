@@ -1,0 +1,3 @@
+pub mod Words
+pub mod Largest
+pub mod Moving
