@@ -199,7 +199,8 @@ uint32_t pool_dispatch(uint32_t *words, size_t len, uint32_t worker, uint32_t st
  * 31 for the edition, 21 for fewer words than a pool of that edition needs, 23 for one that is not fit, all of the source; then 21 for too short a target.
  *
  * Operations under way go on, in whichever phase they are: the calls of either edition answer the same later begins and steps alike. So all that is said
- * here of a pool from pool_make, but for its cards, is so of one that was moved, any number of times. Proved: crates/rules/specs/Turnaround.antt.
+ * here of a pool from pool_make, but for its cards, is so of one that was moved, any number of times. Proved: crates/rules/specs/Turnaround.antt, and
+ * of a dispatch crates/stretch/specs/Stretch.antt.
  */
 uint32_t pool_move_0_to_1(const uint32_t *from, size_t from_len, uint32_t *to, size_t to_len);
 uint32_t pool_move_1_to_0(const uint32_t *from, size_t from_len, uint32_t *to, size_t to_len);

@@ -13,3 +13,4 @@ pub mod Parts
 pub mod Within
 pub mod Theorem
 pub mod Dispatch
+pub mod Moves

@@ -13,6 +13,8 @@ use Rattle.rules.specs.Limits.{stepLimit}
 use Rattle.rules.specs.Run.{Call, beginPut, beginTake, step, Event, run, at, Final, StepOf}
 use Rattle.rules.specs.Consequences.{wordsAfter, OfEveryRun}
 use Rattle.rules.specs.Dispatch.{DispatchOut, Busy, dispatchOf}
+use Rattle.rules.specs.Make.{inEdition}
+use Rattle.rules.specs.Turnaround.{here, placeOver, runOver, OfEveryTurnaround}
 use Rattle.rules.specs.declared.Settings.{Settings}
 use Rattle.rules.specs.declared.Answer.{Answer}
 use Rattle.rules.specs.declared.Dispatched.the-variants.{Finished}
@@ -51,9 +53,11 @@ pub record Finishes (es : List Event) : Type 0 where
   pub final : Final (at es position .answer)
 
 -- ---- the claim: every stretch of the run of any list of calls on a new queue
+abbrev pub StretchesWithin : Settings → ℕ → List Event → Type 0
+StretchesWithin g n es = g .kind ≡ 0 → (p m : ℕ) → n < countedSteps (stretch p m es) → Finishes (stretch p m es)
+
 abbrev pub StretchWithin : (Settings → ℕ) → Type 0
-StretchWithin most = OfEveryRun (λ g ws cs.
-    g .kind ≡ 0 → (p m : ℕ) → most g < countedSteps (stretch p m (run (g .edition) ws cs)) → Finishes (stretch p m (run (g .edition) ws cs)))
+StretchWithin most = OfEveryRun (λ g ws cs. StretchesWithin g (most g) (run (g .edition) ws cs))
 
 abbrev pub K7 : Type 0
 K7 = StretchWithin k7Stretch
@@ -70,14 +74,25 @@ pub record FinishesIn (g : Settings) (o : DispatchOut) : Type 0 where
   pub result : o .result ≡ Finished worker answer
   pub final : Final answer
 
+abbrev pub DispatchesWithin : Settings → ℕ → List ℕ → Type 0
+DispatchesWithin g n ws =
+    g .kind ≡ 0 → (i steps : ℕ) → i < g .workers → Busy g ws → n < steps → getD ws stepsAt 0 + n < stepLimit
+    → FinishesIn g (dispatchOf (g .edition) ws i steps)
+
 abbrev pub DispatchWithin : (Settings → ℕ) → Type 0
-DispatchWithin most = OfEveryRun (λ g ws cs.
-    g .kind ≡ 0 → (i steps : ℕ) → i < g .workers → Busy g (wordsAfter (g .edition) ws cs)
-    → most g < steps → getD (wordsAfter (g .edition) ws cs) stepsAt 0 + most g < stepLimit
-    → FinishesIn g (dispatchOf (g .edition) (wordsAfter (g .edition) ws cs) i steps))
+DispatchWithin most = OfEveryRun (λ g ws cs. DispatchesWithin g (most g) (wordsAfter (g .edition) ws cs))
 
 abbrev pub DispatchFinishes : Type 0
 DispatchFinishes = DispatchWithin exactStretch
 
 abbrev pub DispatchK7 : Type 0
 DispatchK7 = DispatchWithin k7Stretch
+
+-- ---- both over any moves between editions (K6): of the run, and of a dispatcher where the pool lies then
+pub record OverMoves (most : Settings → ℕ) : Type 0 where
+  pub stretches : OfEveryTurnaround (λ g ws xs. StretchesWithin g (most g) (runOver (here g ws) xs))
+  pub dispatches : OfEveryTurnaround (λ g ws xs.
+      DispatchesWithin (inEdition (placeOver (here g ws) xs .edition) g) (most g) (placeOver (here g ws) xs .words))
+
+abbrev pub K7OverMoves : Type 0
+K7OverMoves = OverMoves k7Stretch × OverMoves exactStretch

@@ -55,7 +55,7 @@ pub moves-unseen : MovesUnseen
 moves-unseen g ws xs fit = let pool = fit-pool (g .edition) ws g fit in follows g ws (here g ws) xs (itself g (pool .settings) (pool .enough))
 
 -- ---- from make on
-from-make : (ws : List ℕ) (g : Settings) (xs : List Act) → numberOf (makeOf ws g .answer) ≡ 0 → Unseen g (makeOf ws g .words) (here g (makeOf ws g .words)) xs
+pub from-make : (ws : List ℕ) (g : Settings) (xs : List Act) → numberOf (makeOf ws g .answer) ≡ 0 → Unseen g (makeOf ws g .words) (here g (makeOf ws g .words)) xs
 from-make ws g xs made =
     let a = accepted ws g made in
     let says = made-says ws g (a .enough) in
