@@ -83,6 +83,16 @@ pub fn out_of_steps(words: &[u32]) -> bool
     STEP_LIMIT <= words[STEPS]
 }
 
+// The steps counted; none by words that have no count.
+pub fn steps_counted(words: &[u32]) -> u32
+    ensures { λ r. ⌜ r ≡ getD (now (words .entry)) stepsAt 0 ⌝ }
+{
+    if words.len() <= STEPS {
+        return 0;
+    }
+    words[STEPS]
+}
+
 // Adds 1 to the step count.
 pub fn count_step(words: &mut [u32])
     requires { ⌜ stepsAt < length (now words) ⌝ }

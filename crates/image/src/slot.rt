@@ -20,7 +20,7 @@ ghost use Prim.Native.Nat.{_+_, _<_, _≤_};
 ghost use lib.ListN.{length, getD, set};
 ghost use Rattle.rules.specs.Apply.{countLost, putWorker};
 ghost use Rattle.rules.specs.Begin.{idleAt};
-ghost use Rattle.rules.specs.Layout.{workerWords, slotWords, indexAt};
+ghost use Rattle.rules.specs.Layout.{workerWords, slotWords, indexAt, lostAt};
 ghost use Rattle.rules.specs.Worker.{slotAt, putSlot};
 
 // Word `k` of the worker.
@@ -93,6 +93,14 @@ pub fn store(words: &mut [u32], at: usize, s: Slot)
     put_word(words, at, SCAN, s.scan);
     put_word(words, at, SEEN, s.seen);
     put_word(words, at, SUM, s.sum);
+}
+
+// The failed commits of the worker, in an edition that counts them.
+pub fn lost_of(words: &[u32], at: usize) -> u32
+    requires { ⌜ lostAt at < length (now words) ⌝ }
+    ensures { λ r. ⌜ r ≡ getD (now (words .entry)) (lostAt at) 0 ⌝ }
+{
+    words[at + LOST]
 }
 
 // Counts a failed commit of the worker, in an edition that does.

@@ -10,7 +10,7 @@ use borrow.Author.Tests.{ltb-false}
 use lib.Dec.{ltb}
 use Rattle.laws.specs.Choice.{cond, cases}
 use lib.Seq.{take-all, drop-length, length-take-le, take-append-le, take-take, drop-at, set-split}
-use Rattle.lines.specs.Area.{Written, written, putBefore, lineBytes, putLast, usedPart}
+use Rattle.lines.specs.Area.{Written, written, putBefore, putLast, usedPart}
 
 module _ (area : List ℕ) (end : ℕ) (text : List ℕ) (room : length text ≤ end) (inside : end ≤ length area) where
   front-length : length (take (end - length text) area) ≡ end - length text
@@ -68,29 +68,29 @@ put-on area end text after at piece e fits inside =
     ap (λ (w : Written). putBefore (w .area) (w .start) piece) e ∙ put-put area end text (omega arith) inside piece fits
 
 -- ---- a text at the end of an area
-module _ (area text : List ℕ) where
-  last-start : (putLast area text) .start ≤ length area
+module _ (most : ℕ) (area text : List ℕ) where
+  last-start : (putLast most area text) .start ≤ length area
   unfolding putLast putBefore
-  last-start = cases (λ (w : Written). w .start ≤ length area) (ltb (length area) lineBytes) _ _ (λ _. omega arith) (λ _. omega arith)
+  last-start = cases (λ (w : Written). w .start ≤ length area) (ltb (length area) most) _ _ (λ _. omega arith) (λ _. omega arith)
 
-  -- a text that fits a line is the used part
-  used-last : length text ≤ lineBytes → drop ((putLast area text) .start) ((putLast area text) .area) ≡ usedPart area text
+  -- a text that fits is the used part
+  used-last : length text ≤ most → drop ((putLast most area text) .start) ((putLast most area text) .area) ≡ usedPart most area text
   unfolding putLast usedPart cond
-  used-last fits = go (ltb (length area) lineBytes) refl
+  used-last fits = go (ltb (length area) most) refl
     where
-      go : (b : Bool) → ltb (length area) lineBytes ≡ b
+      go : (b : Bool) → ltb (length area) most ≡ b
           → drop ((cond b (written area (length area)) (putBefore area (length area) text)) .start) ((cond b (written area (length area)) (putBefore area (length area) text)) .area)
           ≡ cond b [] text
       go true e = drop-length area
       go false e =
-          let room = ltb-false (length area) lineBytes e in
+          let room = ltb-false (length area) most e in
           used-part area (length area) text (omega arith) (omega arith) ∙ rw (drop-length area) (append-nil text)
 
   -- what was put starts within the area
-  pub text-inside : (last : List ℕ) (at : ℕ) → written last at ≡ putLast area text → length last ≡ length area → at ≤ length last
+  pub text-inside : (last : List ℕ) (at : ℕ) → written last at ≡ putLast most area text → length last ≡ length area → at ≤ length last
   text-inside last at e kept = let start = ap (λ (w : Written). w .start) e in omega (arith, last-start)
 
   -- and from there on the area is the text
-  pub text-used : (last : List ℕ) (at : ℕ) → written last at ≡ putLast area text → length text ≤ lineBytes → take (length last - at) (drop at last) ≡ usedPart area text
+  pub text-used : (last : List ℕ) (at : ℕ) → written last at ≡ putLast most area text → length text ≤ most → take (length last - at) (drop at last) ≡ usedPart most area text
   text-used last at e fits =
       take-all (length last - at) (drop at last) (simp length-drop (omega arith)) ∙ (ap (λ (w : Written). drop (w .start) (w .area)) e ∙ used-last fits)

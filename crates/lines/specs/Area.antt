@@ -21,10 +21,10 @@ putBefore area end text = written (take (end - length text) area ++ (text ++ dro
 abbrev pub lineBytes : ℕ
 lineBytes = 96
 
--- the text at the end of an area, and nothing where the area is too short for a line
-unfoldable pub putLast : List ℕ → List ℕ → Written
-putLast area text = cond (ltb (length area) lineBytes) (written area (length area)) (putBefore area (length area) text)
+-- a text at the end of an area, and nothing where the area has fewer bytes than the text may need
+unfoldable pub putLast : ℕ → List ℕ → List ℕ → Written
+putLast most area text = cond (ltb (length area) most) (written area (length area)) (putBefore area (length area) text)
 
 -- what is then handed back of the area: the used part alone
-unfoldable pub usedPart : List ℕ → List ℕ → List ℕ
-usedPart area text = cond (ltb (length area) lineBytes) [] text
+unfoldable pub usedPart : ℕ → List ℕ → List ℕ → List ℕ
+usedPart most area text = cond (ltb (length area) most) [] text

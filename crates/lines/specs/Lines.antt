@@ -3,6 +3,7 @@ use Prim.Native.Nat.{ℕ, zero, suc, _+_, _/_, _%_}
 use mathlib.Core.List.{List, [], _∷_, _++_}
 use lib.Dec.{eqb}
 use Rattle.laws.specs.Choice.{cond}
+use Rattle.lines.specs.Text.{ascii}
 use Rattle.lines.specs.declared.line.Entry.{Entry}
 
 abbrev pub space : ℕ
@@ -45,12 +46,11 @@ abbrev pub numbersOf : Entry → List ℕ
 numbersOf e =
     e .position ∷ e .number ∷ e .worker ∷ e .value ∷ e .sub ∷ e .row .0 ∷ e .stamp .0 ∷ e .distance ∷ []
 
--- "held " and " worst "
 abbrev pub heldText : List ℕ
-heldText = 104 ∷ 101 ∷ 108 ∷ 100 ∷ space ∷ []
+heldText = ascii "held "
 
 abbrev pub worstText : List ℕ
-worstText = space ∷ 119 ∷ 111 ∷ 114 ∷ 115 ∷ 116 ∷ space ∷ []
+worstText = ascii " worst "
 
 -- "held" H "worst" D: items held and the greatest distance
 unfoldable pub closingOf : ℕ → ℕ → List ℕ

@@ -6,7 +6,7 @@ ghost use mathlib.Core.List.{_++_, _∷_, []};
 ghost use Prim.Native.Nat.{_<_, _≤_};
 ghost use lib.ListN.{length};
 ghost use Rattle.lines.specs.Lines.{decimal, lineOf, numbersOf, closingOf};
-ghost use Rattle.lines.specs.Area.{written, putBefore, putLast, usedPart};
+ghost use Rattle.lines.specs.Area.{written, putBefore, lineBytes, putLast, usedPart};
 
 // A line's area. The longest line has 91 bytes: 20 digits of the position, 3 of the worker, 10 of each other number, and a byte after each.
 pub const LINE_BYTES: usize = 96;
@@ -24,7 +24,7 @@ pub struct Entry {
 }
 
 // Puts the decimal digits of `x` before `end`; where they start.
-fn put_digits(area: &mut [u8], end: usize, x: u64) -> usize
+pub fn put_digits(area: &mut [u8], end: usize, x: u64) -> usize
     requires { ⌜ (length (decimal x) ≤ end) × (end ≤ length (now area)) ⌝ }
     ensures { λ r. ⌜ written (now (area .exit)) r ≡ putBefore (now (area .entry)) end (decimal x) ⌝ }
 {
@@ -50,7 +50,7 @@ fn put_number(area: &mut [u8], end: usize, x: u64, after: u8) -> usize
 }
 
 // Puts a text before `end`; where it starts.
-fn put_text(area: &mut [u8], end: usize, text: &[u8]) -> usize
+pub fn put_text(area: &mut [u8], end: usize, text: &[u8]) -> usize
     requires { ⌜ (length (now text) ≤ end) × (end ≤ length (now area)) ⌝ }
     ensures { λ r. ⌜ written (now (area .exit)) r ≡ putBefore (now (area .entry)) end (now (text .entry)) ⌝ }
 {
@@ -82,7 +82,7 @@ fn put_line(area: &mut [u8], numbers: &[u64]) -> usize
 
 // Puts the line of an entry at the end of the area; where it starts.
 fn put_entry(area: &mut [u8], e: Entry) -> usize
-    ensures { λ r. ⌜ written (now (area .exit)) r ≡ putLast (now (area .entry)) (lineOf (numbersOf e)) ⌝ }
+    ensures { λ r. ⌜ written (now (area .exit)) r ≡ putLast lineBytes (now (area .entry)) (lineOf (numbersOf e)) ⌝ }
 {
     let end = area.len();
     if end < LINE_BYTES {
@@ -103,7 +103,7 @@ fn put_entry(area: &mut [u8], e: Entry) -> usize
 
 // Puts the closing line at the end of the area; where it starts.
 fn put_closing(area: &mut [u8], held: u32, worst: u32) -> usize
-    ensures { λ r. ⌜ written (now (area .exit)) r ≡ putLast (now (area .entry)) (closingOf held worst) ⌝ }
+    ensures { λ r. ⌜ written (now (area .exit)) r ≡ putLast lineBytes (now (area .entry)) (closingOf held worst) ⌝ }
 {
     let end = area.len();
     if end < LINE_BYTES {
@@ -118,7 +118,7 @@ fn put_closing(area: &mut [u8], held: u32, worst: u32) -> usize
 
 // The line of an entry, as the used part of the area; nothing of an area of fewer than 96 bytes.
 pub fn entry_text<'a>(area: &'a mut [u8], e: Entry) -> &'a [u8]
-    ensures { λ r. ⌜ now r ≡ usedPart (now (area .entry)) (lineOf (numbersOf e)) ⌝ }
+    ensures { λ r. ⌜ now r ≡ usedPart lineBytes (now (area .entry)) (lineOf (numbersOf e)) ⌝ }
 {
     let at = put_entry(area, e);
     let t = &area[..];
@@ -127,7 +127,7 @@ pub fn entry_text<'a>(area: &'a mut [u8], e: Entry) -> &'a [u8]
 
 // The closing line, likewise.
 pub fn closing_text<'a>(area: &'a mut [u8], held: u32, worst: u32) -> &'a [u8]
-    ensures { λ r. ⌜ now r ≡ usedPart (now (area .entry)) (closingOf held worst) ⌝ }
+    ensures { λ r. ⌜ now r ≡ usedPart lineBytes (now (area .entry)) (closingOf held worst) ⌝ }
 {
     let at = put_closing(area, held, worst);
     let t = &area[..];

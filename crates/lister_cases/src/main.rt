@@ -3,18 +3,24 @@
 // passes over more than the bound).
 // The files are those of examples/, packed.
 use libc::STDOUT_FILENO;
-use replay::begin;
+use pieces::begin;
+use pieces::print_words;
+use printing::Mode;
 use replay::lent_words;
-use replay::list_words;
 
-// Writes the listing of a file, and an empty line.
-fn show(file: &[u8]) {
+// Writes what a program prints of a file, and an empty line.
+fn print(mode: Mode, file: &[u8]) {
     let mut words = lent_words();
     let mut out = io::buffer();
-    let s = list_words(&mut words, begin(), file, true, &mut out);
+    let s = print_words(&mut words, mode, begin(), file, true, &mut out);
     let used = s.used;
     io::write_all(STDOUT_FILENO, &out[..used]);
     io::write_all(STDOUT_FILENO, b"\n");
+}
+
+fn show(file: &[u8]) {
+    print(Mode::Listing, file);
+    print(Mode::Summing, file);
 }
 
 fn main() {

@@ -1,36 +1,20 @@
--- A stretch of the listing: the words of lent bytes, a turn for each, and what the turns print as text in lent output.
+-- A stretch of what a program prints: the words of lent bytes, a turn for each, and what the turns print as text in lent output.
 use Prim.Native.Nat.{ℕ, zero, suc, _+_, _-_, _/_}
 use mathlib.Core.Bool.{Bool, true, false}
-use mathlib.Core.List.{List, []}
+use mathlib.Core.List.{List}
 use lib.Dec.{leb}
 use lib.ListN.{length}
 use lib.Seq.{paste}
 use Rattle.laws.specs.Choice.{cond}
 use Rattle.runfile.specs.Words.{wordBytes, readAt}
-use Rattle.lines.specs.Lines.{lineOf, numbersOf, closingOf}
-use Rattle.lines.specs.Area.{lineBytes}
-use Rattle.listing.specs.Turn.{Turned, newLister, turnOf}
-use Rattle.listing.specs.declared.answer.Listed.{Listed}
-use Rattle.listing.specs.declared.answer.Listed.the-variants.{Nothing, Line, Last, Closing}
+use Rattle.printing.specs.Printings.{endsWith, printedText}
+use Rattle.printing.specs.Turn.{Turned, newPrinter, turnOf}
+use Rattle.printing.specs.declared.printed.Mode.{Mode}
 use Rattle.pieces.specs.declared.stretch.Stretch.{Stretch}
 
 -- before a file's first word
 abbrev pub newStretch : Stretch
-newStretch = record { lister = newLister; at = 0; used = 0; complete = false }
-
--- what a turn prints, as text
-abbrev pub listedText : Listed → List ℕ
-listedText Nothing = []
-listedText (Line e) = lineOf (numbersOf e)
-listedText (Last e) = lineOf (numbersOf e)
-listedText (Closing held worst) = closingOf held worst
-
--- whether the listing ends with it
-abbrev pub endsWith : Listed → Bool
-endsWith Nothing = false
-endsWith (Line e) = false
-endsWith (Last e) = true
-endsWith (Closing held worst) = true
+newStretch = record { printer = newPrinter; at = 0; used = 0; complete = false }
 
 -- a text in an output at `used`
 abbrev pub putAt : List ℕ → ℕ → List ℕ → List ℕ
@@ -51,30 +35,34 @@ turnPut s t =
     record {
       stretch =
           record {
-            lister = t .turn .lister;
+            printer = t .turn .printer;
             at = s .stretch .at + 1;
-            used = s .stretch .used + length (listedText (t .turn .listed));
-            complete = endsWith (t .turn .listed);
+            used = s .stretch .used + length (printedText (t .turn .printed));
+            complete = endsWith (t .turn .printed);
           };
       words = t .words;
-      out = putAt (s .out) (s .stretch .used) (listedText (t .turn .listed));
+      out = putAt (s .out) (s .stretch .used) (printedText (t .turn .printed));
     }
 
-unfoldable pub stretchTurn : List ℕ → Stretched → Stretched
-stretchTurn src s = turnPut s (turnOf (s .words) (s .stretch .lister) (readAt src (s .stretch .at)))
+unfoldable pub stretchTurn : Mode → List ℕ → Stretched → Stretched
+stretchTurn m src s = turnPut s (turnOf m (s .words) (s .stretch .printer) (readAt src (s .stretch .at)))
 
--- a listing goes on until it is complete, and while the output has room for a line
+-- what one turn prints has at most so many bytes
+abbrev pub turnBytes : ℕ
+turnBytes = 512
+
+-- a stretch goes on until it is complete, and while the output has room for a turn
 unfoldable pub goesOn : Stretch → ℕ → Bool
-goesOn s room = cond (s .complete) false (leb (s .used + lineBytes) room)
+goesOn s room = cond (s .complete) false (leb (s .used + turnBytes) room)
 
 -- at most n turns
-unfoldable pub stretchFrom : ℕ → List ℕ → Stretched → Stretched
-stretchFrom zero src s = s
-stretchFrom (suc n) src s = cond (goesOn (s .stretch) (length (s .out))) (stretchFrom n src (stretchTurn src s)) s
+unfoldable pub stretchFrom : Mode → ℕ → List ℕ → Stretched → Stretched
+stretchFrom m zero src s = s
+stretchFrom m (suc n) src s = cond (goesOn (s .stretch) (length (s .out))) (stretchFrom m n src (stretchTurn m src s)) s
 
 -- the turns of lent bytes: one for each whole word, and one for the end of the file where they are its last
 abbrev pub turnsIn : List ℕ → Bool → ℕ
 turnsIn src last = cond last (length src / wordBytes + 1) (length src / wordBytes)
 
-unfoldable pub stretchOf : List ℕ → Bool → Stretched → Stretched
-stretchOf src last s = stretchFrom (turnsIn src last - s .stretch .at) src s
+unfoldable pub stretchOf : Mode → List ℕ → Bool → Stretched → Stretched
+stretchOf m src last s = stretchFrom m (turnsIn src last - s .stretch .at) src s

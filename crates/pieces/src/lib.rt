@@ -1,8 +1,9 @@
-// A file in pieces: how far its listing is, and whether it goes on.
+// A file in pieces: what a program prints of each, as text in lent output.
 mod stretch;
+mod words;
 
 pub use stretch::Stretch;
+pub use stretch::TURN_BYTES;
 pub use stretch::begin;
-pub use stretch::ends;
-pub use stretch::goes_on;
 pub use stretch::turns_in;
+pub use words::print_words;

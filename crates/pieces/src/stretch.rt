@@ -1,18 +1,18 @@
-// A stretch of the listing: how far it is, and whether it goes on.
-use lines::LINE_BYTES;
-use listing::Listed;
-use listing::Lister;
-use listing::start;
+// A stretch of what a program prints: how far it is, and whether it goes on.
+use printing::Printer;
+use printing::start;
 use runfile::word::WORD_BYTES;
 ghost use mathlib.Core.Path.{_≡_};
 ghost use Prim.Native.Nat.{_<_, _^_};
 ghost use lib.ListN.{length};
-ghost use Rattle.pieces.specs.Stretch.{newStretch, endsWith, goesOn, turnsIn};
+ghost use Rattle.pieces.specs.Stretch.{newStretch, goesOn, turnsIn};
 
-// How far a listing is: the lister, the position of the next word in the lent bytes, the bytes of output used, and whether the
-// listing is complete.
+// What one turn prints has at most so many bytes: a line, or a summary.
+pub const TURN_BYTES: usize = 512;
+
+// How far a program is: its printer, the position of the next word in the lent bytes, the bytes of output used, and whether all is printed.
 pub struct Stretch {
-    pub lister: Lister,
+    pub printer: Printer,
     pub at: usize,
     pub used: usize,
     pub complete: bool,
@@ -22,37 +22,26 @@ pub struct Stretch {
 pub fn begin() -> Stretch
     ensures { λ r. ⌜ r ≡ newStretch ⌝ }
 {
+    let printer = start();
     Stretch {
-        lister: start(),
+        printer,
         at: 0,
         used: 0,
         complete: false,
     }
 }
 
-// Whether the listing ends with what a turn prints.
-pub fn ends(listed: Listed) -> bool
-    ensures { λ r. ⌜ r ≡ endsWith listed ⌝ }
-{
-    match listed {
-        Listed::Nothing => false,
-        Listed::Line(_) => false,
-        Listed::Last(_) => true,
-        Listed::Closing { held: _, worst: _ } => true,
-    }
-}
-
-// Whether the listing goes on: it is not complete, and the output has room for a line.
+// Whether a stretch goes on: it is not complete, and the output has room for a turn.
 pub fn goes_on(out: &[u8], s: Stretch) -> bool
     ensures { λ r. ⌜ r ≡ goesOn s (length (now (out .entry))) ⌝ }
 {
     if s.complete {
         return false;
     }
-    if out.len() < LINE_BYTES {
+    if out.len() < TURN_BYTES {
         return false;
     }
-    if out.len() - LINE_BYTES < s.used {
+    if out.len() - TURN_BYTES < s.used {
         return false;
     }
     true

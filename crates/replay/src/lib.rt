@@ -1,13 +1,9 @@
-// A run file replayed on a pool, one word of it at a time, and what its words print as text in lent output.
-mod stretch;
-mod turn;
+// A run file replayed on a pool, one word at a time.
+mod event;
+mod word;
 
-pub use listing::Listed;
-pub use listing::Lister;
-pub use listing::Turn;
-pub use listing::start;
-pub use pieces::Stretch;
-pub use pieces::begin;
-pub use stretch::list_words;
-pub use turn::lent_words;
-pub use turn::list_next;
+pub use event::Event;
+pub use event::Next;
+pub use word::lent_words;
+pub use word::next;
+pub use word::place_after;

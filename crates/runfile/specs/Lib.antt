@@ -1,3 +1,3 @@
 pub mod Words
 pub mod Items
-pub mod File
+pub mod Faults

@@ -6,7 +6,7 @@ use rules::numbers::FILE_CUT;
 use rules::numbers::SHIPPED;
 ghost use mathlib.Core.Path.{_≡_};
 ghost use Rattle.runfile.specs.Items.{firstOf, secondOf, laterOf, itemOf};
-ghost use Rattle.runfile.specs.File.{faultOf};
+ghost use Rattle.runfile.specs.Faults.{faultOf};
 
 // The kinds of words, in the top four bits.
 const OPEN: u32 = 1;

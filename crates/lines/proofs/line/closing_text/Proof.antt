@@ -3,6 +3,7 @@ use Prim.Native.Nat.{_≤_}
 use native.Mathlib.Omega.{arith}
 use lib.ListN.{length}
 use Rattle.lines.specs.Lines.{closingOf}
+use Rattle.lines.specs.Area.{lineBytes}
 use Rattle.lines.proofs.Area.{text-inside, text-used}
 use Rattle.lines.proofs.Lines.{closing-fits}
 use borrow.Author.Needs.{needs}
@@ -16,7 +17,7 @@ in-area : (c : tie.After-area2) → c .before .before .before .put-closing .resu
 in-area c =
     let a = c .before .before .before .before .before .before .args in
     let p = c .before .before .before .put-closing in
-    text-inside (a .area .now) (closingOf (a .held) (a .worst)) (p .last .0) (p .result) (p .ensures) (p .kept .0)
+    text-inside lineBytes (a .area .now) (closingOf (a .held) (a .worst)) (p .last .0) (p .result) (p .ensures) (p .kept .0)
 
 sub-result : tie.Need-sub-result
 sub-result c = in-area c
@@ -31,7 +32,7 @@ returns : tie.Need-returns
 returns c =
     let a = c .before .before .before .before .before .before .before .args in
     let p = c .before .before .before .before .put-closing in
-    text-used (a .area .now) (closingOf (a .held) (a .worst)) (p .last .0) (p .result) (p .ensures) (closing-fits (a .held) (a .worst) (omega arith) (omega arith))
+    text-used lineBytes (a .area .now) (closingOf (a .held) (a .worst)) (p .last .0) (p .result) (p .ensures) (closing-fits (a .held) (a .worst) (omega arith) (omega arith))
 
 pub closing-text-spec : {M : Type 1} → statement M
 closing-text-spec =

@@ -3,6 +3,7 @@ use Prim.Native.Nat.{_≤_}
 use native.Mathlib.Omega.{arith}
 use lib.ListN.{length}
 use Rattle.lines.specs.Lines.{lineOf, numbersOf}
+use Rattle.lines.specs.Area.{lineBytes}
 use Rattle.lines.proofs.Area.{text-inside, text-used}
 use Rattle.lines.proofs.Lines.{entry-fits}
 use borrow.Author.Needs.{needs}
@@ -16,7 +17,7 @@ in-area : (c : tie.After-area2) → c .before .before .before .put-entry .result
 in-area c =
     let a = c .before .before .before .before .before .before .args in
     let p = c .before .before .before .put-entry in
-    text-inside (a .area .now) (lineOf (numbersOf (a .e))) (p .last .0) (p .result) (p .ensures) (p .kept .0)
+    text-inside lineBytes (a .area .now) (lineOf (numbersOf (a .e))) (p .last .0) (p .result) (p .ensures) (p .kept .0)
 
 sub-result : tie.Need-sub-result
 sub-result c = in-area c
@@ -31,7 +32,7 @@ returns : tie.Need-returns
 returns c =
     let a = c .before .before .before .before .before .before .before .args in
     let p = c .before .before .before .before .put-entry in
-    text-used (a .area .now) (lineOf (numbersOf (a .e))) (p .last .0) (p .result) (p .ensures) (entry-fits (a .e) (omega (arith, c .before .before .before .before .before .before .before .good)))
+    text-used lineBytes (a .area .now) (lineOf (numbersOf (a .e))) (p .last .0) (p .result) (p .ensures) (entry-fits (a .e) (omega (arith, c .before .before .before .before .before .before .before .good)))
 
 pub entry-text-spec : {M : Type 1} → statement M
 entry-text-spec =

@@ -1,7 +1,7 @@
 -- `pieces::stretch::goes_on` meets its contract: room is compared by a difference, since the sum may pass a usize. Assumes nothing.
 use Prim.Native.Nat.{_+_, _<_, _≤_}
 use lib.ListN.{length}
-use Rattle.lines.specs.Area.{lineBytes}
+use Rattle.pieces.specs.Stretch.{turnBytes}
 use native.Mathlib.Omega.{arith}
 use borrow.Author.Tests.{le-leb, lt-leb}
 use Rattle.laws.specs.Choice.{cond}
@@ -17,7 +17,7 @@ returns c = simp (c .if1 .taken)
 returns-2 : tie.Need-returns-2
 unfolding goesOn cond
 returns-2 c =
-    let few : length (c .before .before .args .out .now) < c .before .before .args .s .used + lineBytes = omega arith in
+    let few : length (c .before .before .args .out .now) < c .before .before .args .s .used + turnBytes = omega arith in
     simp (c .before .if1 .left, lt-leb _ _ few)
 
 sub-if3 : tie.Need-sub-if3
@@ -26,13 +26,13 @@ sub-if3 c = search needs
 returns-3 : tie.Need-returns-3
 unfolding goesOn cond
 returns-3 c =
-    let few : length (c .before .before .before .before .args .out .now) < c .before .before .before .before .args .s .used + lineBytes = omega arith in
+    let few : length (c .before .before .before .before .args .out .now) < c .before .before .before .before .args .s .used + turnBytes = omega arith in
     simp (c .before .before .before .if1 .left, lt-leb _ _ few)
 
 returns-4 : tie.Need-returns-4
 unfolding goesOn cond
 returns-4 c =
-    let room : c .before .before .before .before .args .s .used + lineBytes ≤ length (c .before .before .before .before .args .out .now) = omega arith in
+    let room : c .before .before .before .before .args .s .used + turnBytes ≤ length (c .before .before .before .before .args .out .now) = omega arith in
     simp (c .before .before .before .if1 .left, le-leb _ _ room)
 
 pub goes-on-spec : {M : Type 1} → statement M

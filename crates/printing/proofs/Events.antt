@@ -1,0 +1,474 @@
+-- A FILE'S EVENTS, what the quotes of its listing stand on (`known-file`): its calls are a run on its pool, so what holds of every run holds of them.
+-- The first word opens and leaves the words lent, the second makes the pool, and none after it does (`Begun`), since a word's place says which kinds may stand
+-- there. So the tally's bound is the pool's from that word on; and what is no call is answered 0, so it has no distance and no item.
+use Prim.Native.Nat.{ℕ, _+_, suc, _≤_}
+use mathlib.Core.List.{List, [], _∷_, append-nil}
+use mathlib.Core.Path.{_≡_, refl, sym, subst, _∙_}
+use mathlib.Core.Bool.{Bool, true}
+use mathlib.Core.Logic.{_≢_}
+use mathlib.Core.Option.{Option, none, some}
+use native.Mathlib.Decide.{ℕ-discrete}
+use native.Mathlib.Omega.{arith}
+use borrow.Author.Tests.{eqb-true}
+use lib.ListN.{length}
+use Rattle.laws.specs.Choice.{cond, cases}
+use Rattle.rules.specs.Answers.{numberOf, Out, badWord}
+use Rattle.rules.specs.Make.{shippedFrom, makeOf, shipped}
+use Rattle.rules.specs.Statement.{All}
+use Rattle.rules.specs.Begin.{slotBegin, fitBegin, checkedBegin, beginOf}
+use Rattle.rules.specs.Consequences.{wordsAfter, itemsIn, hasStamp}
+use Rattle.rules.specs.Fit.{Checked, Unfit, Fit, headChecked, checkedBy, checkedOf}
+use Rattle.rules.specs.Held.{Item, heldItems, heldBy, heldOf, countItems}
+use Rattle.rules.specs.Layout.{workerWords}
+use Rattle.rules.specs.Limits.{settingsFit}
+use Rattle.rules.specs.Run.{Call, beginPut, beginTake, step, callOf, Event, run, at, distanceIn}
+use Rattle.rules.specs.Sequential.{mostPassed}
+use Rattle.rules.specs.declared.Settings.{Settings}
+use Rattle.rules.specs.declared.Answer.{Answer}
+use Rattle.rules.specs.declared.Side.{Side}
+use Rattle.rules.specs.declared.Side.the-variants.{Putting, Taking}
+use Rattle.rules.specs.declared.Answer.the-variants.{Moving, Put, Taken, Empty, Full, Refused}
+use Rattle.rules.proofs.Corollaries.{within-bound, nothing-lost, stamps-once}
+use Rattle.rules.proofs.Fitness.{settings-bounds}
+use Rattle.rules.proofs.Theorem.{kindOf}
+use Rattle.rules.proofs.Transfer.{made-related, related-after}
+use Rattle.rules.proofs.counts.Held.{count-none, count-all}
+use Rattle.rules.proofs.words.Fit.{checked-fit}
+use Rattle.rules.proofs.words.Made.{accepted}
+use Rattle.runfile.specs.Words.{readsOf}
+use Rattle.runfile.specs.Items.{firstOf, secondOf, laterOf, itemOf}
+use Rattle.runfile.specs.Faults.{faultOf}
+use Rattle.runfile.specs.declared.word.Read.{Read}
+use Rattle.runfile.specs.declared.word.Read.the-variants.{Word, Cut, End as NoMore}
+use Rattle.runfile.specs.declared.item.Opening.{Opening}
+use Rattle.runfile.specs.declared.item.Place.the-variants.{First, Second, Later, Past}
+use Rattle.runfile.specs.declared.item.Item.{Item as Said}
+use Rattle.runfile.specs.declared.item.Item.the-variants.{Open, Make, BeginPut, BeginTake, Step, End, Bad}
+use Rattle.runfile.specs.declared.item.Place.{Place}
+use Rattle.replay.specs.Replay.{Asked, nothing, making, calling, askedOf, outOf, itemNext, nextOf, Happened, goesOn, nextPlace, replayFrom, replayOf, lent, faultIn}
+use Rattle.replay.specs.Files.{poolIn, withCall, eventsIn, callsIn, wordsIn, RunsOn, RunsOnPool}
+use Rattle.replay.specs.declared.event.Next.{Next}
+use Rattle.replay.proofs.Files.{files-are-runs}
+use Rattle.printing.specs.Tally.{noTally, boundIn, boundAfter, tallyAfter}
+use Rattle.printing.specs.Quotes.{tallyOver}
+use Rattle.printing.specs.declared.tally.Tally.{Tally}
+
+-- ---- how a file begins
+-- after the pool is made: a call, or a word that asks for nothing, which is answered 0
+abbrev Late : Asked → Answer → Type 0
+Late nothing a = numberOf a ≡ 0
+Late (making g) a = ⊥
+Late (calling c) a = Unit {0}
+
+abbrev AllLate : List Happened → Type 0
+AllLate xs = All (λ (x : Happened). Late (askedOf (x .event .item)) (x .event .answer)) xs
+
+-- the word that makes it, and those after it
+record Makes (x : Happened) : Type 0 where
+  settings : Settings
+  item : x .event .item ≡ Make settings
+  number : numberOf (x .event .answer) ≡ 0
+
+abbrev Making : List Happened → Type 0
+Making [] = Unit {0}
+Making (x ∷ xs) = Makes x × AllLate xs
+
+-- the first word, and those after it
+record Opens (x : Happened) : Type 0 where
+  opening : Opening
+  item : x .event .item ≡ Open opening
+  number : numberOf (x .event .answer) ≡ 0
+  words : x .words ≡ lent
+
+abbrev Begun : List Happened → Type 0
+Begun [] = Unit {0}
+Begun (x ∷ xs) = Opens x × Making xs
+
+-- what an item does, and the rest of the file from the place after it
+abbrev onward : ℕ → List ℕ → List Read → Said → List Happened
+onward position ws reads item =
+    let r = itemNext ws position item in
+    goesOn position (r .next) (r .words) (replayFrom (nextPlace (r .next)) (position + 1) (r .words) reads) .events
+
+-- after the end word nothing happens
+past-none : (position : ℕ) (ws : List ℕ) (reads : List Read) → replayFrom Past position ws reads .events ≡ []
+unfolding replayFrom nextOf itemNext itemOf outOf cond
+past-none position ws [] = refl
+past-none position ws (Cut ∷ reads) = refl
+past-none position ws (NoMore ∷ reads) = refl
+past-none position ws (Word word ∷ reads) = refl
+
+module _ (position : ℕ) (ws : List ℕ) (reads : List Read) where
+  -- a word that is a fault
+  bad-none : (P : List Happened → Type 0) → P [] → P (onward position ws reads Bad)
+  unfolding itemNext outOf cond
+  bad-none P h = h
+
+  end-late : AllLate (onward position ws reads End)
+  unfolding itemNext outOf cond
+  end-late = (refl, rw (past-none (position + 1) ws reads) tt)
+
+  module _ (rest : (ws′ : List ℕ) → AllLate (replayFrom Later (position + 1) ws′ reads .events)) where
+    -- a call
+    put-late : (worker value : ℕ) → AllLate (onward position ws reads (BeginPut worker value))
+    unfolding itemNext outOf cond
+    put-late worker value = (tt, rest _)
+
+    take-late : (worker : ℕ) → AllLate (onward position ws reads (BeginTake worker))
+    unfolding itemNext outOf cond
+    take-late worker = (tt, rest _)
+
+    step-late : (worker : ℕ) → AllLate (onward position ws reads (Step worker))
+    unfolding itemNext outOf cond
+    step-late worker = (tt, rest _)
+
+    word-late : (word : ℕ) → AllLate (onward position ws reads (laterOf word))
+    unfolding laterOf
+    word-late word =
+        let P : Said → Type 0 = λ item. AllLate (onward position ws reads item) in
+        let bad : P Bad = bad-none AllLate tt in
+        cases P _ _ _ (λ _. put-late _ _)
+        (λ _. cases P _ _ _ (λ _. cases P _ _ _ (λ _. take-late _) (λ _. bad))
+        (λ _. cases P _ _ _ (λ _. cases P _ _ _ (λ _. step-late _) (λ _. bad))
+        (λ _. cases P _ _ _ (λ _. cases P _ _ _ (λ _. end-late) (λ _. bad)) (λ _. bad))))
+
+later-late : (position : ℕ) (ws : List ℕ) (reads : List Read) → AllLate (replayFrom Later position ws reads .events)
+unfolding replayFrom nextOf itemOf
+later-late position ws [] = tt
+later-late position ws (Cut ∷ reads) = tt
+later-late position ws (NoMore ∷ reads) = tt
+later-late position ws (Word word ∷ reads) = word-late position ws reads (λ ws′. later-late (position + 1) ws′ reads) word
+
+module _ (position : ℕ) (ws : List ℕ) (reads : List Read) where
+  -- a make that is refused is the file's fault
+  make-making : (g : Settings) → Making (onward position ws reads (Make g))
+  unfolding itemNext outOf
+  make-making g =
+      let o = makeOf ws (shippedFrom g) in
+      cases (λ (n : Next). Making (goesOn position n (o .words) (replayFrom (nextPlace n) (position + 1) (o .words) reads) .events)) _ _ _
+      (λ e. (record { settings = g; item = refl; number = eqb-true _ _ e }, later-late (position + 1) (o .words) reads)) (λ _. tt)
+
+  word-making : (opening : Opening) (word : ℕ) → Making (onward position ws reads (secondOf opening word))
+  unfolding secondOf
+  word-making opening word =
+      let P : Said → Type 0 = λ item. Making (onward position ws reads item) in
+      let bad : P Bad = bad-none position ws reads Making tt in
+      cases P _ _ _ (λ _. cases P _ _ _ (λ _. make-making _) (λ _. bad)) (λ _. bad)
+
+second-making : (opening : Opening) (position : ℕ) (ws : List ℕ) (reads : List Read) → Making (replayFrom (Second opening) position ws reads .events)
+unfolding replayFrom nextOf itemOf
+second-making opening position ws [] = tt
+second-making opening position ws (Cut ∷ reads) = tt
+second-making opening position ws (NoMore ∷ reads) = tt
+second-making opening position ws (Word word ∷ reads) = word-making position ws reads opening word
+
+open-begun : (reads : List Read) (opening : Opening) → Begun (onward 0 lent reads (Open opening))
+unfolding itemNext outOf cond
+open-begun reads opening = (record { opening = opening; item = refl; number = refl; words = refl }, second-making opening 1 lent reads)
+
+word-begun : (reads : List Read) (word : ℕ) → Begun (onward 0 lent reads (firstOf word))
+unfolding firstOf
+word-begun reads word =
+    let P : Said → Type 0 = λ item. Begun (onward 0 lent reads item) in
+    let bad : P Bad = bad-none 0 lent reads Begun tt in
+    cases P _ _ _ (λ _. cases P _ _ _ (λ _. open-begun reads _) (λ _. bad)) (λ _. bad)
+
+first-begun : (reads : List Read) → Begun (replayFrom First 0 lent reads .events)
+unfolding replayFrom nextOf itemOf
+first-begun [] = tt
+first-begun (Cut ∷ reads) = tt
+first-begun (NoMore ∷ reads) = tt
+first-begun (Word word ∷ reads) = word-begun reads word
+
+file-begins : (bytes : List ℕ) → Begun (replayOf bytes .events)
+unfolding replayOf
+file-begins bytes = first-begun (readsOf bytes)
+
+-- ---- the calls among the events
+-- what is no call is answered 0
+abbrev pub Quiet : Asked → Answer → Type 0
+Quiet nothing a = numberOf a ≡ 0
+Quiet (making g) a = numberOf a ≡ 0
+Quiet (calling c) a = Unit {0}
+
+abbrev pub AllQuiet : List Happened → Type 0
+AllQuiet xs = All (λ (x : Happened). Quiet (askedOf (x .event .item)) (x .event .answer)) xs
+
+late-quiet : (xs : List Happened) → AllLate xs → AllQuiet xs
+late-quiet [] h = tt
+late-quiet (x ∷ xs) h = (by (askedOf (x .event .item)) (h .0), late-quiet xs (h .1))
+  where
+    by : (a : Asked) → Late a (x .event .answer) → Quiet a (x .event .answer)
+    by nothing q = q
+    by (making g) q = absurd q
+    by (calling c) q = tt
+
+-- ---- distances
+-- only a take has a distance
+pub no-distance : (a : Answer) → numberOf a ≢ 2 → distanceIn a ≡ 0
+no-distance Moving ne = refl
+no-distance (Put value sub row stamp) ne = refl
+no-distance (Taken value sub row stamp distance) ne = absurd (ne refl)
+no-distance Empty ne = refl
+no-distance Full ne = refl
+no-distance (Refused k) ne = refl
+
+-- events none of which has a distance above a number
+abbrev pub Close : ℕ → List Happened → Type 0
+Close most xs = All (λ (x : Happened). distanceIn (x .event .answer) ≤ most) xs
+
+-- events each within the bound that the tally has after it
+abbrev pub Within : Tally → List Happened → Type 0
+Within t [] = Unit {0}
+Within t (x ∷ xs) = (distanceIn (x .event .answer) ≤ tallyAfter t (x .event) .bound) × Within (tallyAfter t (x .event)) xs
+
+-- so have they where none of the calls has
+abbrev CloseCalls : ℕ → List Event → Type 0
+CloseCalls most es = All (λ (e : Event). distanceIn (e .answer) ≤ most) es
+
+close-more : (most : ℕ) (a : Answer) (q : Asked) (rest : List Event) → Quiet q a → CloseCalls most (withCall q a rest) → (distanceIn a ≤ most) × CloseCalls most rest
+close-more most a nothing rest h c = (omega (arith, no-distance a (λ u. omega arith)), c)
+close-more most a (making g) rest h c = (omega (arith, no-distance a (λ u. omega arith)), c)
+close-more most a (calling k) rest h c = c
+
+close-all : (most : ℕ) (xs : List Happened) → AllQuiet xs → CloseCalls most (eventsIn xs) → Close most xs
+unfolding eventsIn
+close-all most [] h c = tt
+close-all most (x ∷ xs) h c =
+    let t = close-more most (x .event .answer) (askedOf (x .event .item)) (eventsIn xs) (h .0) c in
+    (t .0, close-all most xs (h .1) (t .1))
+
+-- ---- a run's distances
+begin-no-distance : (e : ℕ) (ws : List ℕ) (i : ℕ) (side : Side) (value : ℕ) → distanceIn (beginOf e ws i side value .answer) ≡ 0
+unfolding beginOf checkedBegin fitBegin slotBegin
+begin-no-distance e ws i side value = by (checkedOf e ws)
+  where
+    None : Out → Type 0
+    None o = distanceIn (o .answer) ≡ 0
+
+    by : (c : Checked) → None (checkedBegin ws c i side value)
+    by (Unfit n) = refl
+    by (Fit g) = cases None _ _ _ (λ _. refl) (λ _. cases None _ _ _ (λ _. cases None _ _ _ (λ _. refl) (λ _. refl)) (λ _. refl))
+
+call-close : (most e : ℕ) (ws : List ℕ) (c : Call) → ((i : ℕ) → c ≡ step i → numberOf (callOf e ws c .answer) ≡ 2 → distanceIn (callOf e ws c .answer) ≤ most)
+    → distanceIn (callOf e ws c .answer) ≤ most
+unfolding callOf
+call-close most e ws (beginPut i v) h = omega (arith, begin-no-distance e ws i Putting v)
+call-close most e ws (beginTake i) h = omega (arith, begin-no-distance e ws i Taking 0)
+call-close most e ws (step i) h = elim (ℕ-discrete (numberOf (callOf e ws (step i) .answer)) 2) [
+  | yes two ↦ h i refl two
+  | no ne ↦ omega (arith, no-distance (callOf e ws (step i) .answer) ne)
+]
+
+run-close : (most e : ℕ) (ws : List ℕ) (cs : List Call)
+    → ((i f : ℕ) → at (run e ws cs) f .call ≡ step i → numberOf (at (run e ws cs) f .answer) ≡ 2 → distanceIn (at (run e ws cs) f .answer) ≤ most)
+    → CloseCalls most (run e ws cs)
+unfolding run
+run-close most e ws [] h = tt
+run-close most e ws (c ∷ cs) h =
+    (call-close most e ws c (λ i. h i 0), run-close most e (callOf e ws c .words) cs (λ i f. h i (suc f)))
+
+-- ---- the bound
+-- no word after the pool's changes it
+bound-late : (bound : ℕ) (item : Said) (a : Answer) → Late (askedOf item) a → boundAfter bound item ≡ bound
+bound-late bound (Open opening) a h = refl
+bound-late bound (Make g) a h = absurd h
+bound-late bound (BeginPut worker value) a h = refl
+bound-late bound (BeginTake worker) a h = refl
+bound-late bound (Step worker) a h = refl
+bound-late bound End a h = refl
+bound-late bound Bad a h = refl
+
+late-bound : (t : Tally) (xs : List Happened) → AllLate xs → tallyOver t xs .bound ≡ t .bound
+unfolding tallyOver tallyAfter
+late-bound t [] h = refl
+late-bound t (x ∷ xs) h = late-bound (tallyAfter t (x .event)) xs (h .1) ∙ bound-late (t .bound) (x .event .item) (x .event .answer) (h .0)
+
+late-within : (t : Tally) (xs : List Happened) → AllLate xs → Close (t .bound) xs → Within t xs
+unfolding tallyAfter
+late-within t [] h c = tt
+late-within t (x ∷ xs) h c =
+    let t′ = tallyAfter t (x .event) in
+    let same : t′ .bound ≡ t .bound = bound-late (t .bound) (x .event .item) (x .event .answer) (h .0) in
+    (omega (arith, c .0), late-within t′ xs (h .1) (rw same (c .1)))
+
+-- a file's edition of the settings has their bound
+made-bound : (g : Settings) → settingsFit (shippedFrom g) ≡ true → boundIn g ≡ mostPassed (shippedFrom g)
+unfolding boundIn settingsFit mostPassed cond
+made-bound g e = rw e
+
+-- ---- what is held
+-- the pool of a run is fit
+fit-after : (g : Settings) (cs : List Call) → numberOf (makeOf lent g .answer) ≡ 0
+    → checkedOf (g .edition) (wordsAfter (g .edition) (makeOf lent g .words) cs) ≡ Fit g
+fit-after g cs made =
+    let a = accepted lent g made in
+    let k = kindOf g (a .limits) in
+    let after = related-after g (a .limits) k (made-related g (a .limits) k lent a) cs in
+    let r = after .related in
+    checked-fit g (a .limits) (settings-bounds g (a .limits) .kind1) _ (after .state) (r .says) (r .whole .common) (k .counts (after .state) (r .list) (r .whole .inv) .sub)
+
+fit-held : (e : ℕ) (ws : List ℕ) (g : Settings) → checkedOf e ws ≡ Fit g → heldOf e ws ≡ length (heldItems ws g)
+unfolding heldOf heldBy
+fit-held e ws g h = rw h
+
+-- before there is a pool, nothing
+none-held : heldOf shipped lent ≡ 0
+unfolding heldOf heldBy checkedBy headChecked settingsFit workerWords cond
+none-held = refl
+
+-- ---- what is known of a file's events
+pub record Known (xs : List Happened) : Type 0 where
+  -- what is no call is answered 0
+  pub quiet : AllQuiet xs
+  -- distances
+  pub within : Within noTally xs
+  pub close : Close (tallyOver noTally xs .bound) xs
+  pub pool : (g : Settings) → poolIn xs ≡ some g → Close (mostPassed g) xs × (tallyOver noTally xs .bound ≡ mostPassed g)
+  -- items
+  pub held : heldOf shipped (wordsIn lent xs) + length (itemsIn 2 (eventsIn xs)) ≡ length (itemsIn 1 (eventsIn xs))
+  pub taken : (p : Item → Bool) → countItems p (itemsIn 2 (eventsIn xs)) ≤ countItems p (itemsIn 1 (eventsIn xs))
+  pub once : (stamp : ℕ) → (countItems (hasStamp stamp) (itemsIn 1 (eventsIn xs)) ≤ 1) × (countItems (hasStamp stamp) (itemsIn 2 (eventsIn xs)) ≤ 1)
+
+-- without a pool there is no call
+no-distances : (t : Tally) (xs : List Happened) → Close 0 xs → Within t xs
+no-distances t [] c = tt
+no-distances t (x ∷ xs) c = let z = c .0 in (omega arith, no-distances (tallyAfter t (x .event)) xs (c .1))
+
+no-items : (n : ℕ) → itemsIn n [] ≡ []
+unfolding itemsIn
+no-items n = refl
+
+known-none : (xs : List Happened) → AllQuiet xs → eventsIn xs ≡ [] → poolIn xs ≡ none → wordsIn lent xs ≡ lent → Known xs
+known-none xs quiet calls pool words =
+    let close : (most : ℕ) → Close most xs = λ most. close-all most xs quiet (rw calls tt) in
+    record {
+      quiet = quiet;
+      within = no-distances noTally xs (close 0);
+      held = rw (calls, words, no-items 1, no-items 2, none-held) refl;
+      taken = λ p. rw (calls, no-items 1, no-items 2) (omega arith);
+      once = λ stamp. rw (calls, no-items 1, no-items 2) (omega (arith, count-none (hasStamp stamp)), omega (arith, count-none (hasStamp stamp)));
+      close = close _;
+      pool = λ g e. let z : _≡_ {A = ℕ} 0 1 = cc in absurd (omega arith);
+    }
+
+-- with one the calls are a run on it
+pool-is : (x y : Happened) (xs : List Happened) → Opens x → (makes : Makes y) → poolIn (x ∷ y ∷ xs) ≡ some (shippedFrom (makes .settings))
+unfolding poolIn
+pool-is x y xs opens makes = rw (opens .item, makes .item)
+
+module _ (x y : Happened) (xs : List Happened) (opens : Opens x) (makes : Makes y) (late : AllLate xs)
+    (runs : RunsOn (shippedFrom (makes .settings)) (x ∷ y ∷ xs)) where
+  abbrev g : Settings
+  g = shippedFrom (makes .settings)
+
+  abbrev whole : List Happened
+  whole = x ∷ y ∷ xs
+
+  whole-quiet : AllQuiet whole
+  whole-quiet = (rw (opens .item) (opens .number), (rw (makes .item) (makes .number), late-quiet xs late))
+
+  whole-close : Close (mostPassed g) whole
+  whole-close =
+      close-all (mostPassed g) whole whole-quiet
+      (rw (runs .answers) (run-close (mostPassed g) (g .edition) (makeOf lent g .words) (callsIn whole) (within-bound lent g (callsIn whole) (runs .made))))
+
+  abbrev opened : Tally
+  opened = tallyAfter (tallyAfter noTally (x .event)) (y .event)
+
+  opened-bound : opened .bound ≡ mostPassed g
+  unfolding tallyAfter
+  opened-bound = rw (makes .item) (made-bound (makes .settings) (accepted lent g (runs .made) .limits))
+
+  whole-bound : tallyOver noTally whole .bound ≡ mostPassed g
+  unfolding tallyOver
+  whole-bound = late-bound opened xs late ∙ opened-bound
+
+  whole-within : Within noTally whole
+  whole-within = (
+    omega (arith, no-distance (x .event .answer) (λ u. omega (arith, opens .number))),
+    (
+      omega (arith, no-distance (y .event .answer) (λ u. omega (arith, makes .number))),
+      late-within opened xs late (rw opened-bound (whole-close .1 .1)),
+    ),
+  )
+
+  account : (p : Item → Bool) → countItems p (heldItems (wordsIn lent whole) g) + countItems p (itemsIn 2 (eventsIn whole)) ≡ countItems p (itemsIn 1 (eventsIn whole))
+  account p = rw (runs .answers, runs .words) (nothing-lost lent g (callsIn whole) (runs .made) p)
+
+  known-pool : Known whole
+  known-pool =
+      let held : heldOf shipped (wordsIn lent whole) ≡ length (heldItems (wordsIn lent whole) g) =
+      fit-held shipped (wordsIn lent whole) g (rw (runs .words) (fit-after g (callsIn whole) (runs .made))) in
+      record {
+        quiet = whole-quiet;
+        within = whole-within;
+        held = omega (
+          arith,
+          held,
+          account (λ z. true),
+          count-all (heldItems (wordsIn lent whole) g),
+          count-all (itemsIn 1 (eventsIn whole)),
+          count-all (itemsIn 2 (eventsIn whole)),
+        );
+        taken = λ p. omega (arith, account p);
+        once = λ stamp. rw (runs .answers) (stamps-once lent g (callsIn whole) (runs .made) stamp);
+        close = rw whole-bound whole-close;
+        pool = λ h e.
+            let same : g ≡ h = cc (pool-is x y xs opens makes) in
+            subst (λ (k : Settings). Close (mostPassed k) whole × (tallyOver noTally whole .bound ≡ mostPassed k)) same (whole-close, whole-bound);
+      }
+
+known : (xs : List Happened) → Begun xs → RunsOnPool (poolIn xs) xs → Known xs
+unfolding eventsIn poolIn wordsIn
+known [] b r = known-none [] tt refl refl refl
+known (x ∷ []) b r =
+    let opens = b .0 in
+    known-none (x ∷ []) (rw (opens .item) (opens .number), tt) (rw (opens .item)) (rw (opens .item)) (opens .words)
+known (x ∷ y ∷ xs) b r =
+    let opens = b .0 in
+    let makes = b .1 .0 in
+    known-pool x y xs opens makes (b .1 .1) (subst (λ (p : Option Settings). RunsOnPool p (x ∷ y ∷ xs)) (pool-is x y xs opens makes) r)
+
+pub known-file : (bytes : List ℕ) → Known (replayOf bytes .events)
+known-file bytes =
+    let xs = replayOf bytes .events in
+    known xs (file-begins bytes) (files-are-runs bytes xs ([], sym (append-nil xs)))
+
+-- ---- the fault that ends a file: none has a number above that of a bad word
+fault-of : (place : Place) (read : Read) → faultOf place read ≤ badWord
+fault-of place (Word word) = omega arith
+fault-of First Cut = omega arith
+fault-of (Second opening) Cut = omega arith
+fault-of Later Cut = omega arith
+fault-of Past Cut = omega arith
+fault-of First NoMore = omega arith
+fault-of (Second opening) NoMore = omega arith
+fault-of Later NoMore = omega arith
+fault-of Past NoMore = omega arith
+
+make-number : (ws : List ℕ) (g : Settings) → numberOf (makeOf ws g .answer) ≤ badWord
+unfolding makeOf
+make-number ws g =
+    let Low : Out → Type 0 = λ o. numberOf (o .answer) ≤ badWord in
+    cases Low _ _ _ (λ _. cases Low _ _ _ (λ _. omega arith) (λ _. omega arith)) (λ _. omega arith)
+
+fault-in : (ws : List ℕ) (item : Said) → faultIn item (outOf ws (askedOf item) .answer) ≤ badWord
+unfolding outOf
+fault-in ws (Open opening) = omega arith
+fault-in ws (Make g) = make-number ws (shippedFrom g)
+fault-in ws (BeginPut worker value) = omega arith
+fault-in ws (BeginTake worker) = omega arith
+fault-in ws (Step worker) = omega arith
+fault-in ws End = omega arith
+fault-in ws Bad = omega arith
+
+pub faults : (place : Place) (position : ℕ) (ws : List ℕ) (reads : List Read) → replayFrom place position ws reads .end .fault ≤ badWord
+unfolding replayFrom nextOf itemNext
+faults place position ws [] = fault-of place NoMore
+faults place position ws (Cut ∷ reads) = fault-of place Cut
+faults place position ws (NoMore ∷ reads) = fault-of place NoMore
+faults place position ws (Word word ∷ reads) =
+    let o = outOf ws (askedOf (itemOf place word)) in
+    cases (λ (n : Next). goesOn position n (o .words) (replayFrom (nextPlace n) (position + 1) (o .words) reads) .end .fault ≤ badWord) _ _ _
+    (λ _. faults _ (position + 1) (o .words) reads) (λ _. fault-in ws (itemOf place word))

@@ -1,0 +1,25 @@
+-- `printing::tally::bound_in` meets its contract: settings within limits have the bounds that `most_passed` asks for. Assumes nothing.
+use Rattle.laws.specs.Choice.{cond}
+use mathlib.Core.Path.{sym, _∙_}
+use Rattle.rules.proofs.Fitness.{settings-bounds}
+use Rattle.printing.specs.Tally.{boundIn}
+use borrow.Author.Needs.{needs}
+use Rattle.printing.proofs.tally.bound_in.Statement.{statement}
+use Rattle.printing.proofs.tally.bound_in.Tie as tie
+
+settings-fit-requires : tie.Need-settings-fit-requires
+settings-fit-requires c κs = search needs
+
+most-passed-requires : tie.Need-most-passed-requires
+most-passed-requires c κs = settings-bounds _ (sym (c .before .settings-fit .ensures) ∙ c .if1 .taken)
+
+returns : tie.Need-returns
+unfolding boundIn cond
+returns c = c .most-passed .ensures ∙ simp (← c .before .before .settings-fit .ensures, c .before .if1 .taken)
+
+returns-2 : tie.Need-returns-2
+unfolding boundIn cond
+returns-2 c = simp (← c .before .settings-fit .ensures, c .if1 .left)
+
+pub bound-in-spec : {M : Type 1} → statement M
+bound-in-spec = tie.close (tie.spec settings-fit-requires most-passed-requires returns returns-2)

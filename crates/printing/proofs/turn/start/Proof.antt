@@ -1,0 +1,14 @@
+-- `printing::turn::start` meets its contract. Assumes nothing.
+use borrow.Author.Needs.{needs}
+use Rattle.printing.proofs.turn.start.Statement.{statement}
+use Rattle.printing.proofs.turn.start.Tie as tie
+use Rattle.printing.proofs.tally.no_tally.Reads as no-tally-reads
+
+no-tally-requires : tie.Need-no-tally-requires
+no-tally-requires c κs = search needs
+
+returns : tie.Need-returns
+returns c = rw (c .no-tally .ensures)
+
+pub start-spec : {M : Type 1} → statement M
+start-spec = tie.close (tie.spec no-tally-requires returns)

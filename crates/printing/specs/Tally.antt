@@ -1,0 +1,63 @@
+-- What is counted over the events of a file: operations finished by kind, calls refused, the greatest distance, and the bound on one.
+use Prim.Native.Nat.{ℕ, _+_, _%_, _^_, max}
+use mathlib.Core.Bool.{Bool}
+use lib.Dec.{eqb, ltb}
+use Rattle.laws.specs.Choice.{cond}
+use Rattle.rules.specs.Answers.{numberOf}
+use Rattle.rules.specs.Limits.{settingsFit}
+use Rattle.rules.specs.Run.{distanceIn}
+use Rattle.rules.specs.Sequential.{mostPassed}
+use Rattle.rules.specs.declared.Settings.{Settings}
+use Rattle.rules.specs.declared.Answer.{Answer}
+use Rattle.runfile.specs.declared.item.Item.{Item}
+use Rattle.runfile.specs.declared.item.Item.the-variants.{Open, Make, BeginPut, BeginTake, Step, End, Bad}
+use Rattle.replay.specs.declared.event.Event.{Event}
+use Rattle.printing.specs.declared.tally.Tally.{Tally}
+
+abbrev pub noTally : Tally
+noTally = record { puts = 0; takes = 0; empties = 0; fulls = 0; refused = 0; worst = 0; bound = 0 }
+
+-- demand 3's bound, in a pool of some settings; none is made of settings off limits
+unfoldable pub boundIn : Settings → ℕ
+boundIn g = cond (settingsFit g) (mostPassed g) 0
+
+-- from the word that makes the pool on
+abbrev pub boundAfter : ℕ → Item → ℕ
+boundAfter bound (Open opening) = bound
+boundAfter bound (Make g) = boundIn g
+boundAfter bound (BeginPut worker value) = bound
+boundAfter bound (BeginTake worker) = bound
+boundAfter bound (Step worker) = bound
+boundAfter bound End = bound
+boundAfter bound Bad = bound
+
+-- 1 put, 2 taken, 3 empty, 4 full; above these are the refusals
+abbrev pub isRefused : Answer → Bool
+isRefused a = ltb 4 (numberOf a)
+
+-- a tally with an event, by a way of counting on where something is so
+abbrev pub tallyBy : (ℕ → Bool → ℕ) → Tally → Event → Tally
+tallyBy on t e =
+    let n = numberOf (e .answer) in
+    record {
+      puts = on (t .puts) (eqb n 1);
+      takes = on (t .takes) (eqb n 2);
+      empties = on (t .empties) (eqb n 3);
+      fulls = on (t .fulls) (eqb n 4);
+      refused = on (t .refused) (isRefused (e .answer));
+      worst = max (t .worst) (distanceIn (e .answer));
+      bound = boundAfter (t .bound) (e .item);
+    }
+
+abbrev pub countOn : ℕ → Bool → ℕ
+countOn x b = x + cond b 1 0
+
+unfoldable pub tallyAfter : Tally → Event → Tally
+tallyAfter t e = tallyBy countOn t e
+
+-- modulo 2^64, as the code counts
+abbrev pub wrapOn : ℕ → Bool → ℕ
+wrapOn x b = (x + cond b 1 0) % 2 ^ 64
+
+unfoldable pub tallied : Tally → Event → Tally
+tallied t e = tallyBy wrapOn t e

@@ -1,0 +1,21 @@
+-- `program::piece::print_on` meets its contract: a stretch over the piece, and nothing else. Assumes nothing.
+use mathlib.Core.Path.{refl}
+use borrow.Author.Needs.{needs}
+use Rattle.program.proofs.piece.print_on.Statement.{statement}
+use Rattle.program.proofs.piece.print_on.Tie as tie
+use Rattle.pieces.proofs.print_words.Reads as print-words-reads
+
+print-words-requires : tie.Need-print-words-requires
+print-words-requires c κs = search needs
+
+same-length : tie.Need-same-length
+same-length c = search needs
+
+same-length-2 : tie.Need-same-length-2
+same-length-2 c = search needs
+
+returns : tie.Need-returns
+returns c = (c .before .before .before .before .print-words .ensures .0, ((refl, refl, refl), c .before .before .before .before .print-words .ensures .1 (c .before .before .before .before .before .before .before .before .before .before .before .pre)))
+
+pub print-on-spec : {M : Type 1} → statement M
+print-on-spec = tie.close (tie.spec print-words-requires same-length same-length-2 returns)

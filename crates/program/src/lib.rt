@@ -1,0 +1,8 @@
+// The one loop of all programs that print a run file: it reads the file from standard input in pieces, and writes what is printed to standard output.
+mod piece;
+mod run;
+
+pub use printing::Mode;
+pub use run::Run;
+pub use run::complain;
+pub use run::print_file;

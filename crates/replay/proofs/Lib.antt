@@ -1,0 +1,2 @@
+-- `Files` has the theorem.
+pub mod Files
