@@ -1,14 +1,9 @@
 //! The run lister: the paper's example byte for byte, and where 22, 28 and 29
 //! stand.
 
-const EXAMPLE: [u32; 11] = [
-    0x10001021, 0x20000802, 0x30000007, 0x50000000, 0x50000000, 0x50000000, 0x40000000, 0x50000000,
-    0x50000000, 0x50000000, 0x60000000,
-];
+mod common;
 
-fn bytes(words: &[u32]) -> Vec<u8> {
-    words.iter().flat_map(|word| word.to_le_bytes()).collect()
-}
+use common::run_file::{a_lost_commit, a_take_at_the_bound, bytes, EXAMPLE, REFUSED_CALLS};
 
 fn listing(file: &[u8]) -> String {
     let mut output = Vec::new();
@@ -141,57 +136,19 @@ fn every_value_of_the_first_words_top_bits() {
     }
 }
 
-/// Two puts at commit in sub 0 of three: the second one's fails, and it lands in
-/// the sub that is the stride further on.
 #[test]
 fn a_lost_commit_by_the_stride() {
     for (stride, sub) in [(0, 1), (1, 1), (2, 2)] {
-        let mut words = vec![
-            0x10001023 | stride << 20,
-            0x20002002,
-            0x30000014,
-            0x30c00017,
-        ];
-        let [zero, three] = [0x50000000, 0x50c00000];
-        words.extend([zero, zero, three, three, zero]);
-        words.extend([three; 4]);
-        words.push(0x60000000);
         let expected = format!("8 1 0 20 0 1 1 0\n12 1 3 23 {sub} 1 2 0\nheld 2 worst 0\n");
-        assert_eq!(listing(&bytes(&words)), expected);
+        assert_eq!(listing(&bytes(&a_lost_commit(stride))), expected);
     }
 }
 
 #[test]
 fn refused_calls_are_listed_and_the_run_goes_on() {
-    let words = [
-        0x10001021, 0x20000802, // queue w 1, d 1, R 2, n 1
-        0x50000000, // step on an idle worker
-        0x30400007, // begin put, worker 1 of 1
-        0x30000007, // begin put, worker 0
-        0x40000000, // begin take, busy
-        0x5fc00000, // step, worker 63
-        0x60000000,
-    ];
     let expected = "2 26 0 0 0 0 0 0\n3 24 1 0 0 0 0 0\n5 25 0 0 0 0 0 0\n\
                     6 24 63 0 0 0 0 0\nheld 0 worst 0\n";
-    assert_eq!(listing(&bytes(&words)), expected);
-}
-
-/// Worker 0 puts twice, worker 1 puts and takes: "a take at the bound".
-fn a_take_at_the_bound(values: [u32; 3]) -> Vec<u32> {
-    let mut words = vec![0x10002042, 0x20001004];
-    let [first, second, third] = values;
-    for (worker, begin) in [
-        (0, 0x30000000 | first),
-        (0, 0x30000000 | second),
-        (1, 0x30400000 | third),
-        (1, 0x40400000),
-    ] {
-        words.push(begin);
-        words.extend([0x50000000 | worker << 22; 3]);
-    }
-    words.push(0x60000000);
-    words
+    assert_eq!(listing(&bytes(&REFUSED_CALLS)), expected);
 }
 
 #[test]

@@ -1,10 +1,14 @@
-//! Paper 01, The run file and its listing.
+//! Paper 01, The run file and its listing. The lister and the summary are two
+//! printings of one replay.
 
 mod decode;
 mod lister;
 mod reader;
+mod replay;
+mod summary;
 
 pub use lister::list;
+pub use summary::{summarize, Summary};
 
 /// Cut in a word or before its end word.
 pub const CUT: u32 = 28;
@@ -13,12 +17,16 @@ pub const OUT_OF_PLACE: u32 = 29;
 /// A take's distance above demand 3's bound.
 pub const ABOVE_BOUND: u32 = 30;
 
-/// What ends a listing before its last line.
+/// A refusal of the file, 22, 28 or 29, and the position that is printed with it.
+#[derive(Debug)]
+pub struct Fault {
+    pub position: u64,
+    pub number: u32,
+}
+
+/// What ends a replay before the file's end.
 enum Stop {
-    /// A refusal of the file, at a position of the file.
-    At { position: u64, number: u32 },
-    /// A 30, printed already in place of its take.
-    AboveBound,
+    At(Fault),
     /// The paper has no such case: the bytes could not be read or written.
     Io(std::io::Error),
 }

@@ -1,7 +1,7 @@
 //! The run file as words: "either the reader yields a word, or the lister
 //! prints the refusal".
 
-use super::{Stop, CUT, OUT_OF_PLACE};
+use super::{Fault, Stop, CUT, OUT_OF_PLACE};
 use std::io::{BufReader, ErrorKind, Read, Result};
 
 const WORD_BYTES: usize = 4;
@@ -31,11 +31,11 @@ impl<R: Read> Words<R> {
         let mut word = [0; WORD_BYTES];
         if self.fill(&mut word)? < WORD_BYTES {
             let number = CUT;
-            return Err(Stop::At { position, number });
+            return Err(Stop::At(Fault { position, number }));
         }
         self.position += 1;
         let number = OUT_OF_PLACE;
-        meaning(u32::from_le_bytes(word)).ok_or(Stop::At { position, number })
+        meaning(u32::from_le_bytes(word)).ok_or(Stop::At(Fault { position, number }))
     }
 
     /// After the end word: any byte, even one, is refused at the position
@@ -44,7 +44,7 @@ impl<R: Read> Words<R> {
         let position = self.position;
         if self.fill(&mut [0])? > 0 {
             let number = OUT_OF_PLACE;
-            return Err(Stop::At { position, number });
+            return Err(Stop::At(Fault { position, number }));
         }
         Ok(())
     }

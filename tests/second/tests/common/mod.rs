@@ -6,6 +6,7 @@ pub mod editions;
 pub mod failed_commits;
 pub mod normal;
 pub mod passed;
+pub mod run_file;
 pub mod solo;
 pub mod states;
 pub mod stretch;

@@ -1,0 +1,7 @@
+//! The second implementation's summary: standard input to standard output.
+
+use std::io::{stdin, stdout, Result};
+
+fn main() -> Result<()> {
+    second::summarize(stdin().lock(), stdout().lock())
+}
