@@ -7,6 +7,7 @@ mod failure;
 mod make_up;
 mod moved;
 mod options;
+mod printings;
 mod rng;
 mod side_by_side;
 mod take;

@@ -1,21 +1,24 @@
 //! The command line.
 
+use crate::printings::{Printing, PRINTINGS};
 use std::path::PathBuf;
 
 pub const USAGE: &str =
-    "crosscheck [--seed N] [--seconds N] [--lister PROGRAM] [--case N] [--alone]
+    "crosscheck [--seed N] [--seconds N] [--lister PROGRAM] [--summary PROGRAM] [--case N] [--alone]
 
-  --seed N          where the random cases start (1)
-  --seconds N       how long to go on; a least number of cases is always run (10)
-  --lister PROGRAM  compare this run lister too
-  --case N          run one case again, as a failure named it
-  --alone           compare with no other implementation, to see what the runs
-                    one at a time find by themselves";
+  --seed N           where the random cases start (1)
+  --seconds N        how long to go on; a least number of cases is always run (10)
+  --lister PROGRAM   compare this run lister too
+  --summary PROGRAM  compare this summary of a run file too
+  --case N           run one case again, as a failure named it
+  --alone            compare with no other implementation, to see what the runs
+                     one at a time find by themselves";
 
 pub struct Options {
     pub seed: u64,
     pub seconds: u64,
-    pub lister: Option<PathBuf>,
+    /// Those that print something of a run file.
+    pub programs: Vec<(&'static Printing, PathBuf)>,
     pub case: Option<u64>,
     pub alone: bool,
 }
@@ -25,7 +28,7 @@ impl Options {
         let mut options = Options {
             seed: 1,
             seconds: 10,
-            lister: None,
+            programs: Vec::new(),
             case: None,
             alone: false,
         };
@@ -38,9 +41,11 @@ impl Options {
             match option.as_str() {
                 "--seed" => options.seed = number(&value)?,
                 "--seconds" => options.seconds = number(&value)?,
-                "--lister" => options.lister = Some(PathBuf::from(value)),
                 "--case" => options.case = Some(number(&value)?),
-                _ => return Err(format!("no option {option}")),
+                _ => {
+                    let printing = printing(&option).ok_or(format!("no option {option}"))?;
+                    options.programs.push((printing, PathBuf::from(value)));
+                }
             }
         }
         Ok(options)
@@ -49,14 +54,20 @@ impl Options {
     /// The options that run this case again.
     pub fn again(&self, case: u64) -> String {
         let mut again = format!("--seed {} --case {case}", self.seed);
-        if let Some(lister) = &self.lister {
-            again += &format!(" --lister {}", lister.display());
+        for (printing, path) in &self.programs {
+            again += &format!(" --{} {}", printing.program, path.display());
         }
         if self.alone {
             again += " --alone";
         }
         again
     }
+}
+
+/// Whose program the option names.
+fn printing(option: &str) -> Option<&'static Printing> {
+    let program = option.strip_prefix("--")?;
+    PRINTINGS.iter().find(|of| of.program == program)
 }
 
 fn number(word: &str) -> Result<u64, String> {

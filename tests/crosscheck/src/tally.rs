@@ -1,12 +1,13 @@
 //! All cases of a cross-check, and what they add up to.
 
-use crate::cases::files::Lister;
+use crate::cases::files::RunFiles;
 use crate::cases::runs::Runs;
 use crate::cases::{collisions, dispatch, images, makes, moves, scripts, segments};
 use crate::cases::{solo, spacers, stretch, strides};
 use crate::coverage::Coverage;
 use crate::failure::Failure;
 use crate::options::Options;
+use crate::printings::PRINTINGS;
 use crate::rng::Rng;
 use crate::side_by_side::{Checks, OTHERS};
 use std::panic::{self, AssertUnwindSafe};
@@ -15,7 +16,7 @@ use std::time::{Duration, Instant};
 
 /// Cases that are run however short the time is. They reach all there is to
 /// reach but for few seeds, which ask for more time (none of the first sixty, run files
-/// left out).
+/// left out, nor of the first forty with them).
 const LEAST_CASES: u64 = 440;
 /// Images, makes and most scripts are short: a case has this many of them.
 const IMAGES: u64 = 160;
@@ -37,22 +38,27 @@ const MOVES: u64 = 13;
 
 pub struct Tally {
     checks: Checks,
-    lister: Option<Lister>,
+    /// None without a program that prints something of them.
+    files: Option<RunFiles>,
     images: u64,
     runs: Runs,
 }
 
 impl Tally {
     pub fn new(options: &Options) -> Tally {
-        if options.lister.is_none() {
-            println!("no --lister: run files are not compared");
+        let programs = &options.programs;
+        for printing in &PRINTINGS {
+            let (program, plural) = (printing.program, printing.plural);
+            if !programs.iter().any(|(of, _)| of.program == program) {
+                println!("no --{program}: {plural} of run files are not compared");
+            }
         }
         Tally {
             checks: Checks {
                 others: if options.alone { &[] } else { &OTHERS },
                 coverage: Coverage::default(),
             },
-            lister: options.lister.clone().map(Lister::new),
+            files: (!programs.is_empty()).then(|| RunFiles::new(programs)),
             images: 0,
             runs: Runs::default(),
         }
@@ -60,9 +66,9 @@ impl Tally {
 
     /// A failure comes with the number of its case.
     pub fn run(&mut self, options: &Options) -> Result<(), (u64, Failure)> {
-        if let (Some(case), None) = (options.case, &self.lister) {
+        if let (Some(case), None) = (options.case, &self.files) {
             if case % SORTS == RUN_FILES && !options.alone {
-                let needs = "this case compares run files, it needs --lister";
+                let needs = "this case compares run files, it needs --lister or --summary";
                 return Err((case, Failure::Said(needs.to_string())));
             }
         }
@@ -105,9 +111,9 @@ impl Tally {
                 }
             }
             RUN_FILES => {
-                if let Some(lister) = &mut self.lister {
+                if let Some(files) = &mut self.files {
                     let coverage = &mut self.checks.coverage;
-                    lister.run(rng, width_in_turn(case), coverage)?;
+                    files.run(rng, width_in_turn(case), coverage)?;
                 }
             }
             OF_SCRIPTS => {
@@ -148,7 +154,7 @@ impl Tally {
             self.checks.coverage.solo.operations,
             self.checks.coverage.dispatches,
             self.checks.coverage.moves.made,
-            self.lister.as_ref().map_or(0, |lister| lister.files),
+            self.files.as_ref().map_or(0, |files| files.files),
         );
         ExitCode::SUCCESS
     }

@@ -8,13 +8,15 @@
 //! that a distance goes through; each corner of the spacers that it does not count;
 //! each corner of the failed commits, and each edition and length that decides; each
 //! corner of a move, two faults at once, and a moved pool that goes on in each phase;
-//! and an empty of each kind that cannot stand at its last step.
+//! by each program, run files of each end in pieces of each size, and each sort of
+//! summary; and an empty of each kind that cannot stand at its last step.
 
 mod by_origin;
 mod collisions;
 mod corners;
 mod counts;
 mod dispatch;
+pub mod files;
 mod moves;
 pub mod numbers;
 mod phases;
@@ -32,6 +34,7 @@ use collisions::Collisions;
 use corners::CORNERS;
 use counts::Counts;
 use dispatch::DISPATCHES;
+use files::Files;
 use moves::{move_name, Moves};
 use numbers::{Numbers, DISPATCH, NUMBERS};
 use phases::Phases;
@@ -99,6 +102,7 @@ pub struct Coverage {
     pub spacers: Spacers,
     collisions: Collisions,
     pub moves: Moves,
+    pub files: Files,
     pub places: Places,
 }
 
@@ -199,6 +203,7 @@ impl Coverage {
         missing.extend(self.spacers.report());
         missing.extend(self.collisions.report());
         missing.extend(self.moves.report());
+        missing.extend(self.files.report());
         missing.extend(self.places.report());
         missing
     }

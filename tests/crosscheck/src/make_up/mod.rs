@@ -11,6 +11,7 @@ pub mod longest_stretch;
 pub mod lost_commit;
 pub mod most_steps;
 pub mod move_faults;
+pub mod pieces;
 pub mod run_file;
 pub mod schedule;
 pub mod script;

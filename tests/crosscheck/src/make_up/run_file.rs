@@ -8,6 +8,7 @@ use crate::rng::Rng;
 use second::phase::Side;
 use second::{Answer, Settings, QUEUE, STACK};
 use sides::{Call, SECOND};
+use std::ops::Range;
 
 /// Mostly a run under a schedule; some have no call, some play a script.
 pub fn whole(rng: &mut Rng) -> Vec<u8> {
@@ -39,12 +40,45 @@ fn scheduled_file(rng: &mut Rng) -> Vec<u8> {
         7..=12 => (Size::Small, rng.between(30, 400)),
         _ => (Size::Small, rng.between(1, 27)),
     };
+    scheduled(rng, size, calls)
+}
+
+fn scheduled(rng: &mut Rng, size: Size, calls: u32) -> Vec<u8> {
     let settings = within(rng, size);
     let values = Values::new(rng);
     let mut schedule = Schedule::new(rng, settings, Numbers::OfRunFile, values);
     let mut left = 0..calls;
     let next = |words: &[u32]| left.next().map(|_| schedule.next(rng, words));
     of_run(settings, next).0
+}
+
+/// A run of 50 to 150 bytes.
+pub fn short(rng: &mut Rng) -> Vec<u8> {
+    let calls = rng.between(10, 34);
+    scheduled(rng, Size::Small, calls)
+}
+
+/// A run of more than 131,072 bytes, twice what a buffer or a pipe holds; mostly so
+/// is its listing.
+pub fn long(rng: &mut Rng) -> Vec<u8> {
+    let calls = rng.between(35_000, 40_000);
+    scheduled(rng, Size::Small, calls)
+}
+
+/// Cut at a byte of this range.
+pub fn cut(rng: &mut Rng, file: &[u8], range: Range<usize>) -> Vec<u8> {
+    file[..at(rng, range)].to_vec()
+}
+
+/// The word of a byte of this range has a kind that there is not.
+pub fn out_of_place(rng: &mut Rng, file: &[u8], range: Range<usize>) -> Vec<u8> {
+    let mut damaged = file.to_vec();
+    damaged[at(rng, range) | 3] |= 0x80;
+    damaged
+}
+
+fn at(rng: &mut Rng, range: Range<usize>) -> usize {
+    range.start + rng.below(range.len() as u32) as usize
 }
 
 /// A run of a pool of this width in which a commit fails, with values of the first
