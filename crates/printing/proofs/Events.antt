@@ -9,7 +9,6 @@ use mathlib.Core.Logic.{_≢_}
 use mathlib.Core.Option.{Option, none, some}
 use native.Mathlib.Decide.{ℕ-discrete}
 use native.Mathlib.Omega.{arith}
-use borrow.Author.Tests.{eqb-true}
 use lib.ListN.{length}
 use Rattle.laws.specs.Choice.{cond, cases}
 use Rattle.rules.specs.Answers.{numberOf, Out, badWord}
@@ -35,12 +34,10 @@ use Rattle.rules.proofs.Transfer.{made-related, related-after}
 use Rattle.rules.proofs.counts.Held.{count-none, count-all}
 use Rattle.rules.proofs.words.Fit.{checked-fit}
 use Rattle.rules.proofs.words.Made.{accepted}
-use Rattle.runfile.specs.Words.{readsOf}
-use Rattle.runfile.specs.Items.{firstOf, secondOf, laterOf, itemOf}
+use Rattle.runfile.specs.Items.{itemOf}
 use Rattle.runfile.specs.Faults.{faultOf}
 use Rattle.runfile.specs.declared.word.Read.{Read}
 use Rattle.runfile.specs.declared.word.Read.the-variants.{Word, Cut, End as NoMore}
-use Rattle.runfile.specs.declared.item.Opening.{Opening}
 use Rattle.runfile.specs.declared.item.Place.the-variants.{First, Second, Later, Past}
 use Rattle.runfile.specs.declared.item.Item.{Item as Said}
 use Rattle.runfile.specs.declared.item.Item.the-variants.{Open, Make, BeginPut, BeginTake, Step, End, Bad}
@@ -52,137 +49,7 @@ use Rattle.replay.proofs.Files.{files-are-runs}
 use Rattle.printing.specs.Tally.{noTally, boundIn, boundAfter, tallyAfter}
 use Rattle.printing.specs.Quotes.{tallyOver}
 use Rattle.printing.specs.declared.tally.Tally.{Tally}
-
--- ---- how a file begins
--- after the pool is made: a call, or a word that asks for nothing, which is answered 0
-abbrev Late : Asked → Answer → Type 0
-Late nothing a = numberOf a ≡ 0
-Late (making g) a = ⊥
-Late (calling c) a = Unit {0}
-
-abbrev AllLate : List Happened → Type 0
-AllLate xs = All (λ (x : Happened). Late (askedOf (x .event .item)) (x .event .answer)) xs
-
--- the word that makes it, and those after it
-record Makes (x : Happened) : Type 0 where
-  settings : Settings
-  item : x .event .item ≡ Make settings
-  number : numberOf (x .event .answer) ≡ 0
-
-abbrev Making : List Happened → Type 0
-Making [] = Unit {0}
-Making (x ∷ xs) = Makes x × AllLate xs
-
--- the first word, and those after it
-record Opens (x : Happened) : Type 0 where
-  opening : Opening
-  item : x .event .item ≡ Open opening
-  number : numberOf (x .event .answer) ≡ 0
-  words : x .words ≡ lent
-
-abbrev Begun : List Happened → Type 0
-Begun [] = Unit {0}
-Begun (x ∷ xs) = Opens x × Making xs
-
--- what an item does, and the rest of the file from the place after it
-abbrev onward : ℕ → List ℕ → List Read → Said → List Happened
-onward position ws reads item =
-    let r = itemNext ws position item in
-    goesOn position (r .next) (r .words) (replayFrom (nextPlace (r .next)) (position + 1) (r .words) reads) .events
-
--- after the end word nothing happens
-past-none : (position : ℕ) (ws : List ℕ) (reads : List Read) → replayFrom Past position ws reads .events ≡ []
-unfolding replayFrom nextOf itemNext itemOf outOf cond
-past-none position ws [] = refl
-past-none position ws (Cut ∷ reads) = refl
-past-none position ws (NoMore ∷ reads) = refl
-past-none position ws (Word word ∷ reads) = refl
-
-module _ (position : ℕ) (ws : List ℕ) (reads : List Read) where
-  -- a word that is a fault
-  bad-none : (P : List Happened → Type 0) → P [] → P (onward position ws reads Bad)
-  unfolding itemNext outOf cond
-  bad-none P h = h
-
-  end-late : AllLate (onward position ws reads End)
-  unfolding itemNext outOf cond
-  end-late = (refl, rw (past-none (position + 1) ws reads) tt)
-
-  module _ (rest : (ws′ : List ℕ) → AllLate (replayFrom Later (position + 1) ws′ reads .events)) where
-    -- a call
-    put-late : (worker value : ℕ) → AllLate (onward position ws reads (BeginPut worker value))
-    unfolding itemNext outOf cond
-    put-late worker value = (tt, rest _)
-
-    take-late : (worker : ℕ) → AllLate (onward position ws reads (BeginTake worker))
-    unfolding itemNext outOf cond
-    take-late worker = (tt, rest _)
-
-    step-late : (worker : ℕ) → AllLate (onward position ws reads (Step worker))
-    unfolding itemNext outOf cond
-    step-late worker = (tt, rest _)
-
-    word-late : (word : ℕ) → AllLate (onward position ws reads (laterOf word))
-    unfolding laterOf
-    word-late word =
-        let P : Said → Type 0 = λ item. AllLate (onward position ws reads item) in
-        let bad : P Bad = bad-none AllLate tt in
-        cases P _ _ _ (λ _. put-late _ _)
-        (λ _. cases P _ _ _ (λ _. cases P _ _ _ (λ _. take-late _) (λ _. bad))
-        (λ _. cases P _ _ _ (λ _. cases P _ _ _ (λ _. step-late _) (λ _. bad))
-        (λ _. cases P _ _ _ (λ _. cases P _ _ _ (λ _. end-late) (λ _. bad)) (λ _. bad))))
-
-later-late : (position : ℕ) (ws : List ℕ) (reads : List Read) → AllLate (replayFrom Later position ws reads .events)
-unfolding replayFrom nextOf itemOf
-later-late position ws [] = tt
-later-late position ws (Cut ∷ reads) = tt
-later-late position ws (NoMore ∷ reads) = tt
-later-late position ws (Word word ∷ reads) = word-late position ws reads (λ ws′. later-late (position + 1) ws′ reads) word
-
-module _ (position : ℕ) (ws : List ℕ) (reads : List Read) where
-  -- a make that is refused is the file's fault
-  make-making : (g : Settings) → Making (onward position ws reads (Make g))
-  unfolding itemNext outOf
-  make-making g =
-      let o = makeOf ws (shippedFrom g) in
-      cases (λ (n : Next). Making (goesOn position n (o .words) (replayFrom (nextPlace n) (position + 1) (o .words) reads) .events)) _ _ _
-      (λ e. (record { settings = g; item = refl; number = eqb-true _ _ e }, later-late (position + 1) (o .words) reads)) (λ _. tt)
-
-  word-making : (opening : Opening) (word : ℕ) → Making (onward position ws reads (secondOf opening word))
-  unfolding secondOf
-  word-making opening word =
-      let P : Said → Type 0 = λ item. Making (onward position ws reads item) in
-      let bad : P Bad = bad-none position ws reads Making tt in
-      cases P _ _ _ (λ _. cases P _ _ _ (λ _. make-making _) (λ _. bad)) (λ _. bad)
-
-second-making : (opening : Opening) (position : ℕ) (ws : List ℕ) (reads : List Read) → Making (replayFrom (Second opening) position ws reads .events)
-unfolding replayFrom nextOf itemOf
-second-making opening position ws [] = tt
-second-making opening position ws (Cut ∷ reads) = tt
-second-making opening position ws (NoMore ∷ reads) = tt
-second-making opening position ws (Word word ∷ reads) = word-making position ws reads opening word
-
-open-begun : (reads : List Read) (opening : Opening) → Begun (onward 0 lent reads (Open opening))
-unfolding itemNext outOf cond
-open-begun reads opening = (record { opening = opening; item = refl; number = refl; words = refl }, second-making opening 1 lent reads)
-
-word-begun : (reads : List Read) (word : ℕ) → Begun (onward 0 lent reads (firstOf word))
-unfolding firstOf
-word-begun reads word =
-    let P : Said → Type 0 = λ item. Begun (onward 0 lent reads item) in
-    let bad : P Bad = bad-none 0 lent reads Begun tt in
-    cases P _ _ _ (λ _. cases P _ _ _ (λ _. open-begun reads _) (λ _. bad)) (λ _. bad)
-
-first-begun : (reads : List Read) → Begun (replayFrom First 0 lent reads .events)
-unfolding replayFrom nextOf itemOf
-first-begun [] = tt
-first-begun (Cut ∷ reads) = tt
-first-begun (NoMore ∷ reads) = tt
-first-begun (Word word ∷ reads) = word-begun reads word
-
-file-begins : (bytes : List ℕ) → Begun (replayOf bytes .events)
-unfolding replayOf
-file-begins bytes = first-begun (readsOf bytes)
+use Rattle.replay.proofs.Begins.{Late, AllLate, Makes, Making, Opens, Begun, file-begins}
 
 -- ---- the calls among the events
 -- what is no call is answered 0

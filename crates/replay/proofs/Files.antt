@@ -1,40 +1,37 @@
 -- FILES ARE RUNS: the calls of a file are a list of calls on a new pool, and their answers are `run`'s (`files-are-runs`); each event stands at its
 -- word's position (`positions-count`).
 -- A file's words follow each other as `outOf` says (`Chain`), by induction on what the reader yields. The first of them opens, the second makes the pool,
--- and none after it does (`Opened`), since a word's place says which kinds may stand there. What follows each other without a make is a run.
-use Prim.Native.Nat.{ℕ, suc, _+_}
+-- and none after it does (`Begins`). What follows each other without a make is a run.
+use Prim.Native.Nat.{ℕ, _+_}
 use mathlib.Core.Bool.{Bool, true, false, false≢true}
 use mathlib.Core.List.{List, [], _∷_, _++_, map}
 use mathlib.Core.Option.{none, some}
 use mathlib.Core.Path.{_≡_, refl, sym, ap, subst, _∙_}
 use native.Mathlib.Nat.{zero-add}
 use native.Mathlib.Omega.{arith}
-use borrow.Author.Tests.{eqb-true}
 use lib.Dec.{eqb}
 use lib.ListN.{length}
 use Rattle.laws.specs.Choice.{cond, cases}
 use Rattle.rules.specs.Answers.{Out, numberOf}
-use Rattle.rules.specs.Consequences.{wordsAfter, OfEveryRun}
+use Rattle.rules.specs.Consequences.{wordsAfter}
 use Rattle.rules.specs.Limits.{settingsFit}
 use Rattle.rules.specs.Make.{shipped, shippedFrom, makeOf}
-use Rattle.rules.specs.Run.{Call, Event, callOf, run}
+use Rattle.rules.specs.Run.{Event, callOf, run}
 use Rattle.rules.specs.Statement.{All}
 use Rattle.rules.specs.declared.Settings.{Settings}
 use Rattle.rules.specs.declared.Answer.{Answer}
 use Rattle.runfile.specs.Words.{readsOf}
-use Rattle.runfile.specs.Items.{ofKind, spare, firstOf, secondOf, laterOf, itemOf}
-use Rattle.runfile.specs.Faults.{faultOf}
+use Rattle.runfile.specs.Items.{itemOf}
 use Rattle.runfile.specs.declared.word.Read.{Read}
 use Rattle.runfile.specs.declared.word.Read.the-variants.{Word, Cut, End as NoMore}
-use Rattle.runfile.specs.declared.item.Opening.{Opening}
 use Rattle.runfile.specs.declared.item.Place.{Place}
-use Rattle.runfile.specs.declared.item.Place.the-variants.{First, Second, Later, Past}
+use Rattle.runfile.specs.declared.item.Place.the-variants.{First}
 use Rattle.runfile.specs.declared.item.Item.{Item}
 use Rattle.runfile.specs.declared.item.Item.the-variants.{Open, Make, BeginPut, BeginTake, Step, End, Bad}
-use Rattle.replay.specs.declared.event.Next.{Next}
 use Rattle.replay.specs.declared.event.Next.the-variants.{Goes, Ends}
-use Rattle.replay.specs.Replay.{Asked, nothing, making, calling, askedOf, outOf, placeAfter, faultIn, answered, event, itemNext, nextOf, Happened, Replay, goesOn, nextPlace, replayFrom, replayOf, lent}
-use Rattle.replay.specs.Files.{settingsOr, poolIn, withCall, eventsIn, callsIn, wordsIn, RunsOn, RunsOnPool, FilesAreRuns, Counted, PositionsCount, OfEveryFile, RunsGiveFiles}
+use Rattle.replay.specs.Replay.{Asked, nothing, making, calling, askedOf, outOf, faultIn, answered, event, itemNext, nextOf, Happened, Replay, goesOn, nextPlace, replayFrom, replayOf, lent}
+use Rattle.replay.specs.Files.{poolIn, withCall, eventsIn, callsIn, wordsIn, RunsOn, RunsOnPool, FilesAreRuns, PositionsCount, RunsGiveFiles}
+use Rattle.replay.proofs.Begins.{Late, AllLate, Making, Begun, file-begins}
 
 -- ---- events that follow each other
 -- each event's answer and words are what its word asks for, on the words before it; and it stands at its position
@@ -98,133 +95,33 @@ chain-runs position ws (x ∷ xs) h less =
     run-on (askedOf (x .event .item)) ws (x .event .answer) (x .words) (wordsIn (x .words) xs) (eventsIn xs) (h .0) (h .1) (less .0)
     (chain-runs (position + 1) (x .words) xs (h .3) (less .1))
 
--- ---- which words stand where
-abbrev Opens : Item → Type 0
-Opens (Open opening) = Unit {0}
-Opens (Make g) = ⊥
-Opens (BeginPut worker value) = ⊥
-Opens (BeginTake worker) = ⊥
-Opens (Step worker) = ⊥
-Opens End = ⊥
-Opens Bad = Unit {0}
-
-abbrev Makes : Item → Type 0
-Makes (Open opening) = ⊥
-Makes (Make g) = Unit {0}
-Makes (BeginPut worker value) = ⊥
-Makes (BeginTake worker) = ⊥
-Makes (Step worker) = ⊥
-Makes End = ⊥
-Makes Bad = Unit {0}
-
-abbrev Calls : Item → Type 0
-Calls (Open opening) = ⊥
-Calls (Make g) = ⊥
-Calls (BeginPut worker value) = Unit {0}
-Calls (BeginTake worker) = Unit {0}
-Calls (Step worker) = Unit {0}
-Calls End = Unit {0}
-Calls Bad = Unit {0}
-
-first-opens : (word : ℕ) → Opens (firstOf word)
-unfolding firstOf
-first-opens word = cases Opens _ _ _ (λ _. cases Opens _ _ _ (λ _. tt) (λ _. tt)) (λ _. tt)
-
-second-makes : (opening : Opening) (word : ℕ) → Makes (secondOf opening word)
-unfolding secondOf
-second-makes opening word = cases Makes _ _ _ (λ _. cases Makes _ _ _ (λ _. tt) (λ _. tt)) (λ _. tt)
-
-later-calls : (word : ℕ) → Calls (laterOf word)
-unfolding laterOf
-later-calls word =
-    cases Calls _ _ _ (λ _. tt)
-    (λ _. cases Calls _ _ _ (λ _. cases Calls _ _ _ (λ _. tt) (λ _. tt))
-    (λ _. cases Calls _ _ _ (λ _. cases Calls _ _ _ (λ _. tt) (λ _. tt))
-    (λ _. cases Calls _ _ _ (λ _. cases Calls _ _ _ (λ _. tt) (λ _. tt)) (λ _. tt))))
-
--- what an item does, and the rest of the file from the place after it
-abbrev onward : ℕ → List ℕ → Item → List Read → Replay
-onward position ws item reads =
-    let r = itemNext ws position item in
-    goesOn position (r .next) (r .words) (replayFrom (nextPlace (r .next)) (position + 1) (r .words) reads)
-
--- after the end word nothing happens
-past-none : (position : ℕ) (ws : List ℕ) (reads : List Read) → replayFrom Past position ws reads .events ≡ []
-unfolding replayFrom nextOf itemNext itemOf outOf cond
-past-none position ws [] = refl
-past-none position ws (Cut ∷ reads) = refl
-past-none position ws (NoMore ∷ reads) = refl
-past-none position ws (Word word ∷ reads) = refl
-
-makeless-on : (position : ℕ) (ws : List ℕ) (item : Item) (reads : List Read) → Calls item
-    → ((position′ : ℕ) (ws′ : List ℕ) → Makeless (replayFrom Later position′ ws′ reads .events)) → Makeless (onward position ws item reads .events)
-unfolding itemNext outOf cond
-makeless-on position ws (Open opening) reads less ih = absurd less
-makeless-on position ws (Make g) reads less ih = absurd less
-makeless-on position ws (BeginPut worker value) reads here ih = (tt, ih _ _)
-makeless-on position ws (BeginTake worker) reads here ih = (tt, ih _ _)
-makeless-on position ws (Step worker) reads here ih = (tt, ih _ _)
-makeless-on position ws End reads here ih = (tt, rw (past-none (position + 1) ws reads) tt)
-makeless-on position ws Bad reads here ih = tt
-
-later-makeless : (position : ℕ) (ws : List ℕ) (reads : List Read) → Makeless (replayFrom Later position ws reads .events)
-unfolding replayFrom nextOf itemOf
-later-makeless position ws [] = tt
-later-makeless position ws (Cut ∷ reads) = tt
-later-makeless position ws (NoMore ∷ reads) = tt
-later-makeless position ws (Word word ∷ reads) =
-    makeless-on position ws (laterOf word) reads (later-calls word) (λ position′ ws′. later-makeless position′ ws′ reads)
-
--- the second word makes the pool
+-- ---- how a file begins
+-- the second word makes the pool, and none after it does
 abbrev Made : List Happened → Type 0
 Made [] = Unit {0}
 Made (y ∷ ys) = (g : Settings) × (askedOf (y .event .item) ≡ making (shippedFrom g)) × (numberOf (y .event .answer) ≡ 0) × Makeless ys
-
-made-by : (b : Bool) (position : ℕ) (g : Settings) (a : Answer) (ws : List ℕ) (reads : List Read) → eqb (numberOf a) 0 ≡ b
-    → Made (goesOn position (cond b (Goes (event position (Make g) a)) (Ends (numberOf a))) ws
-    (replayFrom (nextPlace (cond b (Goes (event position (Make g) a)) (Ends (numberOf a)))) (position + 1) ws reads) .events)
-unfolding cond
-made-by true position g a ws reads e = (g, refl, eqb-true _ _ e, later-makeless (position + 1) ws reads)
-made-by false position g a ws reads e = tt
-
-made-on : (position : ℕ) (ws : List ℕ) (item : Item) (reads : List Read) → Makes item → Made (onward position ws item reads .events)
-unfolding itemNext outOf cond
-made-on position ws (Open opening) reads less = absurd less
-made-on position ws (Make g) reads here = made-by _ position g (makeOf ws (shippedFrom g) .answer) (makeOf ws (shippedFrom g) .words) reads refl
-made-on position ws (BeginPut worker value) reads less = absurd less
-made-on position ws (BeginTake worker) reads less = absurd less
-made-on position ws (Step worker) reads less = absurd less
-made-on position ws End reads less = absurd less
-made-on position ws Bad reads here = tt
-
-second-made : (opening : Opening) (position : ℕ) (ws : List ℕ) (reads : List Read) → Made (replayFrom (Second opening) position ws reads .events)
-unfolding replayFrom nextOf itemOf
-second-made opening position ws [] = tt
-second-made opening position ws (Cut ∷ reads) = tt
-second-made opening position ws (NoMore ∷ reads) = tt
-second-made opening position ws (Word word ∷ reads) = made-on position ws (secondOf opening word) reads (second-makes opening word)
 
 -- the first opens
 abbrev Opened : List Happened → Type 0
 Opened [] = Unit {0}
 Opened (x ∷ xs) = (askedOf (x .event .item) ≡ nothing) × Made xs
 
-opened-on : (position : ℕ) (ws : List ℕ) (item : Item) (reads : List Read) → Opens item → Opened (onward position ws item reads .events)
-unfolding itemNext outOf cond
-opened-on position ws (Open opening) reads here = (refl, second-made opening (position + 1) ws reads)
-opened-on position ws (Make g) reads less = absurd less
-opened-on position ws (BeginPut worker value) reads less = absurd less
-opened-on position ws (BeginTake worker) reads less = absurd less
-opened-on position ws (Step worker) reads less = absurd less
-opened-on position ws End reads less = absurd less
-opened-on position ws Bad reads here = tt
+late-makeless : (xs : List Happened) → AllLate xs → Makeless xs
+late-makeless [] h = tt
+late-makeless (x ∷ xs) h = (by (askedOf (x .event .item)) (h .0), late-makeless xs (h .1))
+  where
+    by : (a : Asked) → Late a (x .event .answer) → NoMake a
+    by nothing q = tt
+    by (making g) q = q
+    by (calling c) q = tt
 
-first-opened : (position : ℕ) (ws : List ℕ) (reads : List Read) → Opened (replayFrom First position ws reads .events)
-unfolding replayFrom nextOf itemOf
-first-opened position ws [] = tt
-first-opened position ws (Cut ∷ reads) = tt
-first-opened position ws (NoMore ∷ reads) = tt
-first-opened position ws (Word word ∷ reads) = opened-on position ws (firstOf word) reads (first-opens word)
+making-made : (xs : List Happened) → Making xs → Made xs
+making-made [] h = tt
+making-made (y ∷ ys) h = (h .0 .settings, ap askedOf (h .0 .item), h .0 .number, late-makeless ys (h .1))
+
+begun-opened : (xs : List Happened) → Begun xs → Opened xs
+begun-opened [] h = tt
+begun-opened (x ∷ xs) h = (ap askedOf (h .0 .item), making-made xs (h .1))
 
 -- a front part is a file's beginning as well
 makeless-front : (xs rest : List Happened) → Makeless (xs ++ rest) → Makeless xs
@@ -297,7 +194,7 @@ pub files-are-runs : FilesAreRuns
 unfolding replayOf
 files-are-runs bytes xs (rest, e) =
     begun xs (chain-front 0 lent xs rest (subst (Chain 0 lent) e (chain First 0 lent (readsOf bytes))))
-    (opened-front xs rest (subst Opened e (first-opened 0 lent (readsOf bytes))))
+    (opened-front xs rest (subst Opened e (begun-opened (replayOf bytes .events) (file-begins bytes))))
 
 -- what holds of every run holds of every file
 pub runs-give-files : RunsGiveFiles

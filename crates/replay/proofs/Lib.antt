@@ -1,2 +1,3 @@
--- `Files` has the theorem.
+-- `Files` has the theorem, on how a file begins.
+pub mod Begins
 pub mod Files
