@@ -1,6 +1,5 @@
 -- Every summary fits its area: its template has as many marks as numbers, and each number has at most 20 digits.
 use Prim.Native.Nat.{_^_, _<_, _≤_}
-use mathlib.Core.Bool.{Bool, true, false}
 use mathlib.Core.List.{List, [], _∷_}
 use mathlib.Core.Path.{_≡_, refl}
 use native.Mathlib.Omega.{arith}
@@ -10,7 +9,7 @@ use Rattle.laws.specs.Choice.{cond, cases}
 use Rattle.lines.specs.Templates.{marks, filled}
 use Rattle.lines.specs.Summary.{faultyText, countsText, countsOf, firstLine, countsLines, summaryText, firstLineBytes, summaryBytes}
 use Rattle.lines.specs.declared.summary.Summary.{Summary}
-use Rattle.lines.proofs.Templates.{Short, filled-most}
+use Rattle.lines.proofs.Templates.{filled-most}
 
 pub faulty-marks : marks faultyText ≡ 2
 unfolding marks cond

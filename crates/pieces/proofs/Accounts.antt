@@ -1,18 +1,17 @@
 -- AN ACCOUNT IS KEPT: by the start of a program, by a read, by the end of the input, by a stretch over the piece, by a write of the output, and by the step to
 -- the next piece, which starts with the bytes of the word that this one cuts. Once all is printed and written, it says what the program printed.
-use Prim.Native.Nat.{ℕ, _+_, _*_, _-_, _/_, _%_, _^_, _<_, _≤_}
+use Prim.Native.Nat.{ℕ, _+_, _*_, _/_, _%_, _^_, _≤_}
 use mathlib.Core.Bool.{Bool, true, false, false≢true}
 use mathlib.Core.List.{List, [], _++_, append-assoc, append-nil}
-use mathlib.Core.Path.{_≡_, refl, sym, ap, subst, _∙_}
+use mathlib.Core.Path.{_≡_, refl, sym, ap, _∙_}
 use native.Mathlib.Omega.{arith}
 use lib.ListN.{length, take, drop, length-append, take-append-drop}
 use lib.Seq.{length-take-le}
 use Rattle.runfile.specs.Words.{wordBytes}
 use Rattle.replay.specs.Replay.{lent}
-use Rattle.printing.specs.Print.{printOf}
 use Rattle.printing.specs.declared.printed.Mode.{Mode}
 use Rattle.pieces.specs.Stretch.{newStretch, Stretched, stretched, stretchOf}
-use Rattle.pieces.specs.Progress.{Progress, Piece, ToCome}
+use Rattle.pieces.specs.Progress.{ToCome}
 use Rattle.pieces.specs.Account.{Counts, Account, Printed}
 use Rattle.pieces.proofs.Pieces.{begins, goes, flushed, completes}
 

@@ -1,11 +1,11 @@
 -- THE ACCOUNT of a program that reads a file in pieces: which bytes it has read and which it has written, and that what it has written, with what its
 -- output holds and what is still to come, is what is printed of the file, however the file goes on.
 -- The code holds neither list. It holds how many bytes each has, counted where they are read and written, so that the account is of all of them.
-use Prim.Native.Nat.{ℕ, _+_, _*_, _%_, _^_, _<_, _≤_}
+use Prim.Native.Nat.{ℕ, _+_, _*_, _%_, _^_, _<_}
 use mathlib.Core.Bool.{Bool, true}
 use mathlib.Core.List.{List, [], _++_}
 use mathlib.Core.Path.{_≡_}
-use lib.ListN.{length, take}
+use lib.ListN.{length}
 use Rattle.runfile.specs.Words.{wordBytes}
 use Rattle.printing.specs.Print.{printOf}
 use Rattle.printing.specs.declared.printed.Mode.{Mode}

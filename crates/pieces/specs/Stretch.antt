@@ -1,12 +1,13 @@
 -- A stretch of what a program prints: the words of lent bytes, a turn for each, and what the turns print as text in lent output.
 use Prim.Native.Nat.{ℕ, zero, suc, _+_, _-_, _/_}
-use mathlib.Core.Bool.{Bool, true, false}
+use mathlib.Core.Bool.{Bool, false}
 use mathlib.Core.List.{List}
 use lib.Dec.{leb}
 use lib.ListN.{length}
 use lib.Seq.{paste}
 use Rattle.laws.specs.Choice.{cond}
 use Rattle.runfile.specs.Words.{wordBytes, readAt}
+use Rattle.lines.specs.Summary.{summaryBytes}
 use Rattle.printing.specs.Printings.{endsWith, printedText}
 use Rattle.printing.specs.Turn.{Turned, newPrinter, turnOf}
 use Rattle.printing.specs.declared.printed.Mode.{Mode}
@@ -47,9 +48,9 @@ turnPut s t =
 unfoldable pub stretchTurn : Mode → List ℕ → Stretched → Stretched
 stretchTurn m src s = turnPut s (turnOf m (s .words) (s .stretch .printer) (readAt src (s .stretch .at)))
 
--- what one turn prints has at most so many bytes
+-- what one turn prints has at most so many bytes: a line, or a summary
 abbrev pub turnBytes : ℕ
-turnBytes = 512
+turnBytes = summaryBytes
 
 -- a stretch goes on until it is complete, and while the output has room for a turn
 unfoldable pub goesOn : Stretch → ℕ → Bool

@@ -1,4 +1,5 @@
 // A stretch of what a program prints: how far it is, and whether it goes on.
+use lines::SUMMARY_BYTES;
 use printing::Printer;
 use printing::start;
 use runfile::word::WORD_BYTES;
@@ -8,7 +9,7 @@ ghost use lib.ListN.{length};
 ghost use Rattle.pieces.specs.Stretch.{newStretch, goesOn, turnsIn};
 
 // What one turn prints has at most so many bytes: a line, or a summary.
-pub const TURN_BYTES: usize = 512;
+pub const TURN_BYTES: usize = SUMMARY_BYTES;
 
 // How far a program is: its printer, the position of the next word in the lent bytes, the bytes of output used, and whether all is printed.
 pub struct Stretch {

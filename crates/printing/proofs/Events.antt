@@ -49,7 +49,7 @@ use Rattle.replay.proofs.Files.{files-are-runs}
 use Rattle.printing.specs.Tally.{noTally, boundIn, boundAfter, tallyAfter}
 use Rattle.printing.specs.Quotes.{tallyOver}
 use Rattle.printing.specs.declared.tally.Tally.{Tally}
-use Rattle.replay.proofs.Begins.{Late, AllLate, Makes, Making, Opens, Begun, file-begins}
+use Rattle.replay.proofs.Begins.{Late, AllLate, Makes, Opens, Begun, file-begins}
 
 -- ---- the calls among the events
 -- what is no call is answered 0

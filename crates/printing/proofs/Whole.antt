@@ -4,7 +4,7 @@
 use Prim.Native.Nat.{ℕ, zero, suc, _+_, _/_, _%_, _^_, _<_, _≤_}
 use mathlib.Core.Bool.{Bool, true, false}
 use mathlib.Core.List.{List, [], _∷_}
-use mathlib.Core.Path.{_≡_, refl, sym, ap, _∙_}
+use mathlib.Core.Path.{_≡_, refl, ap, _∙_}
 use native.Mathlib.Nat.{mod-eq-of-lt}
 use native.Mathlib.Omega.{arith}
 use lib.Dec.{eqb}
@@ -12,10 +12,9 @@ use lib.ListN.{length}
 use Rattle.laws.specs.Choice.{cond, cases}
 use Rattle.rules.specs.Answers.{numberOf}
 use Rattle.runfile.specs.Words.{wordOf, readsOf, readAt}
-use Rattle.runfile.specs.Items.{itemOf}
 use Rattle.runfile.specs.declared.word.Read.{Read}
 use Rattle.runfile.specs.declared.word.Read.the-variants.{Word}
-use Rattle.replay.specs.Replay.{lent, nextOf, goesOn, nextPlace, Replay, replayFrom, replayOf, placeAfter}
+use Rattle.replay.specs.Replay.{lent, nextOf, goesOn, nextPlace, replayFrom, replayOf, placeAfter}
 use Rattle.replay.specs.declared.event.Event.{Event}
 use Rattle.replay.specs.declared.event.Next.{Next}
 use Rattle.replay.specs.declared.event.Next.the-variants.{Goes, Ends}

@@ -20,7 +20,6 @@ use Rattle.replay.specs.declared.event.Event.{Event}
 use Rattle.lines.specs.Lines.{lineOf, numbersOf, closingOf}
 use Rattle.lines.specs.Summary.{summaryText}
 use Rattle.lines.specs.declared.line.Entry.{Entry}
-use Rattle.lines.specs.declared.summary.Summary.{Summary}
 use Rattle.printing.specs.Lost.{lostOf}
 use Rattle.printing.specs.declared.tally.Tally.{Tally}
 use Rattle.printing.specs.declared.printed.Mode.{Mode}

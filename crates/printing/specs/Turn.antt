@@ -4,7 +4,7 @@ use Prim.Native.Nat.{ℕ, _+_, _%_, _^_}
 use mathlib.Core.List.{List}
 use Rattle.runfile.specs.declared.word.Read.{Read}
 use Rattle.runfile.specs.declared.item.Place.the-variants.{First}
-use Rattle.replay.specs.Replay.{Replayed, nextOf, placeAfter}
+use Rattle.replay.specs.Replay.{nextOf, placeAfter}
 use Rattle.replay.specs.declared.event.Next.{Next}
 use Rattle.replay.specs.declared.event.Next.the-variants.{Goes, Ends}
 use Rattle.printing.specs.Tally.{noTally, tallied}

@@ -5,7 +5,6 @@ use mathlib.Core.Bool.{Bool, true, false, false≢true}
 use mathlib.Core.List.{List, [], _∷_, _++_}
 use mathlib.Core.Path.{_≡_, refl, sym, ap, subst, _∙_}
 use native.Mathlib.Omega.{arith}
-use borrow.Author.Tests.{eqb-true}
 use lib.Dec.{eqb}
 use lib.ListN.{length, take, drop, length-drop, take-append-drop}
 use lib.Seq.{paste, take-take, take-append-le, length-take-le}
@@ -19,7 +18,7 @@ use Rattle.pieces.specs.declared.stretch.Stretch.{Stretch}
 use Rattle.pieces.proofs.Stretches.{stretch-most, stretch-more, room-goes}
 use Rattle.pieces.proofs.Ends.{CompleteAt, last-completes}
 use Rattle.pieces.proofs.Accounts.{opens, reads, ends, prints, writes, carries, cutOf, closes}
-use Rattle.program.specs.Kept.{AccountOf, Keeps, emptied, atStart, FlushedTo, Fed, Left, newRun, over, Ran}
+use Rattle.program.specs.Kept.{AccountOf, Keeps, atStart, FlushedTo, Fed, Left, newRun, over, Ran}
 use Rattle.program.specs.declared.run.Run.{Run}
 
 -- ---- a write

@@ -13,7 +13,6 @@ ghost use mathlib.Core.Bool.{true, false};
 ghost use mathlib.Core.Path.{_≡_};
 ghost use Prim.Native.Nat.{_<_, _≤_};
 ghost use lib.ListN.{length, take};
-ghost use Rattle.runfile.specs.Words.{wordBytes};
 ghost use Rattle.pieces.specs.Stretch.{turnBytes};
 ghost use Rattle.program.specs.Kept.{Left, Fed, over, newRun, Ran};
 

@@ -16,7 +16,7 @@ ghost use mathlib.Core.Path.{_≡_};
 ghost use lib.ListN.{replicate};
 ghost use Rattle.rules.specs.Layout.{mostWords};
 ghost use Rattle.rules.specs.Make.{shipped};
-ghost use Rattle.replay.specs.Replay.{placeAfter, replayed, answered, itemNext, nextOf};
+ghost use Rattle.replay.specs.Replay.{placeAfter, replayed, itemNext, nextOf};
 ghost use Rattle.runfile.specs.Items.{itemOf};
 ghost use Rattle.runfile.specs.Words.{readAt};
 

@@ -1,6 +1,5 @@
 -- `lines::summary::put_counts` meets its contract: the template has a mark for each number, and the area room for them. Assumes nothing.
 use native.Mathlib.Omega.{arith}
-use mathlib.Core.Path.{_∙_}
 use Rattle.lines.specs.Summary.{countsLines}
 use Rattle.lines.proofs.Summaries.{counts-marks, counts-most}
 use borrow.Author.Needs.{needs}

@@ -1,7 +1,6 @@
 -- `printing::end::list_end` meets its contract: the fault's line, or the closing line where there is none. Assumes nothing.
 use Rattle.printing.specs.Printings.{listedEnd}
 use Rattle.laws.specs.Choice.{cond}
-use mathlib.Core.Path.{_∙_}
 use borrow.Author.Tests.{eq-eqb, ne-eqb}
 use borrow.Author.Needs.{needs}
 use Rattle.printing.proofs.end.list_end.Statement.{statement}

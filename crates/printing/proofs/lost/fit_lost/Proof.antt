@@ -1,6 +1,6 @@
 -- `printing::lost::fit_lost` meets its contract: so many are those of the workers below i, each a word. Assumes nothing.
-use Prim.Native.Nat.{zero, suc, _+_, _*_, _-_, _^_, _≤_}
-use mathlib.Core.Path.{_≡_, refl, sym, ap, _∙_}
+use Prim.Native.Nat.{_*_, _-_, _^_, _≤_}
+use mathlib.Core.Path.{_≡_, refl, _∙_}
 use native.Mathlib.Omega.{arith}
 use native.Mathlib.Numerals.{add-one}
 use borrow.Author.Needs.{needs}

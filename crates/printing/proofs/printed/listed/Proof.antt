@@ -3,7 +3,7 @@ use Rattle.printing.specs.Printings.{listedOf}
 use Rattle.laws.specs.Choice.{cond}
 use borrow.Author.Tests.{lt-ltb, le-ltb}
 use mathlib.Core.Path.{_∙_}
-use borrow.Author.Tests.{le-leb, le-ltb, lt-leb, lt-ltb}
+use borrow.Author.Tests.{le-ltb, lt-ltb}
 use borrow.Author.Needs.{needs}
 use Rattle.printing.proofs.printed.listed.Statement.{statement}
 use Rattle.printing.proofs.printed.listed.Tie as tie

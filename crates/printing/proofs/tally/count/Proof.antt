@@ -1,6 +1,5 @@
 -- `printing::tally::count` meets its contract: each number is counted on by its test. Assumes nothing.
 use Rattle.printing.specs.Tally.{tallied}
-use mathlib.Core.Path.{_∙_}
 use borrow.Author.Needs.{needs}
 use Rattle.printing.proofs.tally.count.Statement.{statement}
 use Rattle.printing.proofs.tally.count.Tie as tie

@@ -1,5 +1,5 @@
 -- `program::piece::print_piece` meets its contract: with room for a turn each stretch comes further, until all is printed or the piece has no turn left. Assumes nothing.
-use Prim.Native.Nat.{_+_, _-_, _<_, _≤_}
+use Prim.Native.Nat.{_-_, _<_, _≤_}
 use mathlib.Core.Bool.{true, false, false≢true}
 use mathlib.Core.Path.{_≡_, refl, sym, _∙_}
 use native.Mathlib.Omega.{arith}

@@ -6,7 +6,6 @@ use native.Mathlib.Omega.{arith}
 use lib.ListN.{length, take}
 use lib.Seq.{length-take-le}
 use Rattle.laws.specs.Choice.{cond}
-use Rattle.pieces.specs.Stretch.{turnsIn}
 use Rattle.pieces.specs.declared.stretch.Stretch.{Stretch}
 use Rattle.program.proofs.Keeping.{unread-keeps, left-fed, last-left, carry-keeps}
 use borrow.Author.Needs.{needs}

@@ -1,5 +1,4 @@
 -- `replay::word::make` meets its contract: the file goes on where the pool is made. Assumes nothing.
-use mathlib.Core.Path.{_∙_}
 use Rattle.laws.specs.Choice.{cond}
 use borrow.Author.Tests.{eq-eqb, ne-eqb}
 use Rattle.replay.specs.Replay.{outOf, itemNext}
