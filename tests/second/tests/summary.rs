@@ -31,6 +31,12 @@ fn of_example(first_line: &str, position: usize) -> String {
     )
 }
 
+/// The words of a whole file come to these lines after the second.
+fn comes_to(words: &[u32], lines: &str) {
+    let expected = format!("whole\nwords {}\n{lines} of 4000000000\n", words.len());
+    assert_eq!(summary(&bytes(words)), expected);
+}
+
 #[test]
 fn the_example() {
     let expected = "whole\nwords 11\nput 1 taken 1 empty 0 full 0 refused 0\nheld 0\n\
@@ -91,17 +97,16 @@ fn settings_off_limits() {
 
 #[test]
 fn refused_calls() {
-    let expected = "whole\nwords 8\nput 0 taken 0 empty 0 full 0 refused 4\nheld 0\n\
-                    worst 0 bound 0\nlost 0\nsteps 0 of 4000000000\n";
-    assert_eq!(summary(&bytes(&REFUSED_CALLS)), expected);
+    let lines = "put 0 taken 0 empty 0 full 0 refused 4\nheld 0\nworst 0 bound 0\nlost 0\nsteps 0";
+    comes_to(&REFUSED_CALLS, lines);
 }
 
 #[test]
 fn a_lost_commit_of_one_worker() {
     for stride in 0..3 {
-        let expected = "whole\nwords 14\nput 2 taken 0 empty 0 full 0 refused 0\nheld 2\n\
-                        worst 0 bound 2\nlost 1\nsteps 9 of 4000000000\n";
-        assert_eq!(summary(&bytes(&a_lost_commit(stride))), expected);
+        let lines =
+            "put 2 taken 0 empty 0 full 0 refused 0\nheld 2\nworst 0 bound 2\nlost 1\nsteps 9";
+        comes_to(&a_lost_commit(stride), lines);
     }
 }
 
@@ -113,13 +118,6 @@ fn lost_commits_of_two_workers() -> Vec<u32> {
     words.extend(order.map(|worker| 0x50000000 | worker << 22));
     words.push(0x60000000);
     words
-}
-
-#[test]
-fn lost_commits_of_all_workers_together() {
-    let expected = "whole\nwords 24\nput 3 taken 0 empty 0 full 0 refused 0\nheld 3\n\
-                    worst 0 bound 0\nlost 3\nsteps 18 of 4000000000\n";
-    assert_eq!(summary(&bytes(&lost_commits_of_two_workers())), expected);
 }
 
 /// A take that finds nothing, four puts, and a fifth that finds no room.
@@ -141,21 +139,25 @@ fn an_empty_and_a_full() -> Vec<u32> {
 }
 
 #[test]
+fn lost_commits_of_all_workers_together() {
+    let lines = "put 3 taken 0 empty 0 full 0 refused 0\nheld 3\nworst 0 bound 0\nlost 3\nsteps 18";
+    comes_to(&lost_commits_of_two_workers(), lines);
+}
+
+#[test]
 fn empty_and_full() {
-    let expected = "whole\nwords 36\nput 4 taken 0 empty 1 full 1 refused 0\nheld 4\n\
-                    worst 0 bound 1\nlost 0\nsteps 27 of 4000000000\n";
-    assert_eq!(summary(&bytes(&an_empty_and_a_full())), expected);
+    let lines = "put 4 taken 0 empty 1 full 1 refused 0\nheld 4\nworst 0 bound 1\nlost 0\nsteps 27";
+    comes_to(&an_empty_and_a_full(), lines);
 }
 
 /// A spacer is held like any item; no distance counts it.
 #[test]
 fn worst_and_bound() {
     for (values, worst) in [([5, 6, 7], 2), ([0, 6, 0], 1), ([0, 0, 7], 0)] {
-        let expected = format!(
-            "whole\nwords 19\nput 3 taken 1 empty 0 full 0 refused 0\nheld 2\n\
-             worst {worst} bound 2\nlost 0\nsteps 12 of 4000000000\n"
+        let lines = format!(
+            "put 3 taken 1 empty 0 full 0 refused 0\nheld 2\nworst {worst} bound 2\nlost 0\nsteps 12"
         );
-        assert_eq!(summary(&bytes(&a_take_at_the_bound(values))), expected);
+        comes_to(&a_take_at_the_bound(values), &lines);
     }
 }
 
@@ -163,9 +165,8 @@ fn worst_and_bound() {
 #[test]
 fn the_bound_of_a_stack() {
     let words = [0x10081043, 0x20000804, 0x60000000]; // stack w 3, d 2, s 1, R 4, n 1
-    let expected = "whole\nwords 3\nput 0 taken 0 empty 0 full 0 refused 0\nheld 0\n\
-                    worst 0 bound 12\nlost 0\nsteps 0 of 4000000000\n";
-    assert_eq!(summary(&bytes(&words)), expected);
+    let lines = "put 0 taken 0 empty 0 full 0 refused 0\nheld 0\nworst 0 bound 12\nlost 0\nsteps 0";
+    comes_to(&words, lines);
 }
 
 /// What the listing tells of it: the first line, the counts of each number, and in a
