@@ -15,7 +15,7 @@ pub faulty-marks : marks faultyText ≡ 2
 unfolding marks cond
 faulty-marks = refl
 
-pub counts-marks : marks countsText ≡ 11
+pub counts-marks : marks countsText ≡ 12
 unfolding marks cond
 counts-marks = refl
 
@@ -28,7 +28,7 @@ Held s =
 pub counts-most : (s : Summary) → Held s → length (countsLines s) ≤ 330
 unfolding countsLines
 counts-most s (f, w, p, t, e, u, r, h, x, b, l, n) =
-    let most = filled-most countsText (countsOf s) counts-marks (w, (p, (t, (e, (u, (r, (omega arith, (omega arith, (omega arith, (l, (omega arith, tt))))))))))) in
+    let most = filled-most countsText (countsOf s) counts-marks (w, (p, (t, (e, (u, (r, (omega arith, (omega arith, (omega arith, (l, (omega arith, (omega arith, tt)))))))))))) in
     omega arith
 
 pub faulty-most : (s : Summary) → Held s → length (filled faultyText (s .fault ∷ s .words ∷ [])) ≤ firstLineBytes

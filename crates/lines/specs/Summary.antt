@@ -3,6 +3,7 @@ use Prim.Native.Nat.{ℕ}
 use mathlib.Core.List.{List, [], _∷_, _++_}
 use lib.Dec.{eqb}
 use Rattle.laws.specs.Choice.{cond}
+use Rattle.rules.specs.Limits.{stepLimit}
 use Rattle.lines.specs.Text.{ascii}
 use Rattle.lines.specs.Templates.{filled}
 use Rattle.lines.specs.declared.summary.Summary.{Summary}
@@ -19,11 +20,11 @@ firstLine s = cond (eqb (s .fault) 0) wholeText (filled faultyText (s .fault ∷
 
 -- the other lines
 abbrev pub countsText : List ℕ
-countsText = ascii "words #\nput # taken # empty # full # refused #\nheld #\nworst # bound #\nlost #\nsteps # of 4000000000\n"
+countsText = ascii "words #\nput # taken # empty # full # refused #\nheld #\nworst # bound #\nlost #\nsteps # of #\n"
 
 abbrev pub countsOf : Summary → List ℕ
 countsOf s =
-    s .words ∷ s .puts ∷ s .takes ∷ s .empties ∷ s .fulls ∷ s .refused ∷ s .held ∷ s .worst ∷ s .bound ∷ s .lost ∷ s .steps ∷ []
+    s .words ∷ s .puts ∷ s .takes ∷ s .empties ∷ s .fulls ∷ s .refused ∷ s .held ∷ s .worst ∷ s .bound ∷ s .lost ∷ s .steps ∷ stepLimit ∷ []
 
 unfoldable pub countsLines : Summary → List ℕ
 countsLines s = filled countsText (countsOf s)

@@ -1,13 +1,14 @@
 // The lines of a summary.
 use crate::filled::put_filled;
 use crate::line::put_text;
+use rules::numbers::STEP_LIMIT;
 ghost use mathlib.Core.Path.{_≡_};
 ghost use Prim.Native.Nat.{_≤_};
 ghost use lib.ListN.{length};
 ghost use Rattle.lines.specs.Area.{written, putBefore, putLast, usedPart};
 ghost use Rattle.lines.specs.Summary.{firstLine, countsLines, summaryText, firstLineBytes, summaryBytes};
 
-// A summary's area: 20 digits of each of its 13 numbers and 114 bytes of text are at most 374.
+// A summary's area: 20 digits of each of its 14 numbers and 104 bytes of templates are at most 384.
 pub const SUMMARY_BYTES: usize = 512;
 
 // What a summary says. `fault` is the number of the fault that ended the file, 0 for a whole one, and `words` how many words are before it.
@@ -43,11 +44,12 @@ fn put_counts(area: &mut [u8], end: usize, s: Summary) -> usize
         s.bound as u64,
         s.lost,
         s.steps as u64,
+        STEP_LIMIT as u64,
     ];
     put_filled(
         area,
         end,
-        b"words #\nput # taken # empty # full # refused #\nheld #\nworst # bound #\nlost #\nsteps # of 4000000000\n",
+        b"words #\nput # taken # empty # full # refused #\nheld #\nworst # bound #\nlost #\nsteps # of #\n",
         &numbers,
     )
 }

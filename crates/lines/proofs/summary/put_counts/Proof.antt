@@ -19,6 +19,9 @@ cast-t8 c = search needs
 cast-t9 : tie.Need-cast-t9
 cast-t9 c = search needs
 
+cast-t10 : tie.Need-cast-t10
+cast-t10 c = search needs
+
 slice-aggregate-put-filled : tie.Need-slice-aggregate-put-filled
 slice-aggregate-put-filled c = search needs
 
@@ -44,6 +47,7 @@ put-counts-spec =
     cast-t7
     cast-t8
     cast-t9
+    cast-t10
     slice-aggregate-put-filled
     slice-aggregate-put-filled-2
     put-filled-requires
