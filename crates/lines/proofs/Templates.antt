@@ -1,18 +1,21 @@
 -- A filled template from one of its bytes on: the byte, or the number that its mark stands for, and the text from the next byte on (`at-byte`, `at-mark`);
--- never longer than the whole (`part-most`), and at most 20 bytes for each number longer than the template (`filled-most`).
+-- never longer than the whole (`part-most`), and at most 20 bytes for each number longer than the template (`filled-most`). So an area with room for the
+-- whole has it for each byte and number in turn, from the last one on (`put-mark`, `put-plain`).
 use Prim.Native.Nat.{ℕ, zero, suc, _+_, _*_, _-_, _^_, _<_, _≤_}
 use mathlib.Core.Bool.{Bool, true, false}
 use mathlib.Core.List.{List, [], _∷_, _++_}
-use mathlib.Core.Path.{_≡_, refl, _∙_}
+use mathlib.Core.Path.{_≡_, refl, sym, ap, _∙_}
 use native.Mathlib.Omega.{arith}
 use borrow.Author.Tests.{eq-eqb, ne-eqb, eqb-true, eqb-false}
 use lib.Dec.{eqb}
-use lib.ListN.{length, drop, getD, length-append}
+use lib.ListN.{length, drop, getD, set, length-append}
 use lib.Seq.{drop-cons}
 use Rattle.laws.specs.Choice.{cond}
 use Rattle.rules.specs.Statement.{All}
 use Rattle.lines.specs.Lines.{decimal}
+use Rattle.lines.specs.Area.{written, putBefore}
 use Rattle.lines.specs.Templates.{mark, filled, marks}
+use Rattle.lines.proofs.Area.{put-byte, put-start, put-on}
 use Rattle.lines.proofs.Decimal.{decimal-most}
 
 -- ---- a byte, and a mark
@@ -46,7 +49,7 @@ from : (bs : List ℕ) (i : ℕ) → 1 ≤ i → i ≤ length bs → drop (i - 1
 from bs i low high = let e : suc (i - 1) ≡ i = omega arith in drop-cons bs (i - 1) 0 (omega arith) ∙ rw e
 
 module _ (bs xs : List ℕ) (all : marks bs ≡ length xs) (i k : ℕ) (low : 1 ≤ i) (high : i ≤ length bs) (left : k + marks (drop i bs) ≡ length xs) where
-  pub at-mark : getD bs (i - 1) 0 ≡ mark
+  at-mark : getD bs (i - 1) 0 ≡ mark
       → (1 ≤ k) × (k - 1 + marks (drop (i - 1) bs) ≡ length xs)
       × (filled (drop (i - 1) bs) (drop (k - 1) xs) ≡ decimal (getD xs (k - 1) 0) ++ filled (drop i bs) (drop k xs))
   at-mark e =
@@ -56,7 +59,7 @@ module _ (bs xs : List ℕ) (all : marks bs ≡ length xs) (i k : ℕ) (low : 1 
       let number = from xs k least (omega arith) in
       (least, omega arith, rw (parts, number) (filled-mark _ (drop i bs) _ (drop k xs) e))
 
-  pub at-byte : (getD bs (i - 1) 0 ≡ mark → ⊥)
+  at-byte : (getD bs (i - 1) 0 ≡ mark → ⊥)
       → (k + marks (drop (i - 1) bs) ≡ length xs)
       × (filled (drop (i - 1) bs) (drop k xs) ≡ (getD bs (i - 1) 0 ∷ []) ++ filled (drop i bs) (drop k xs))
   at-byte e =
@@ -85,11 +88,42 @@ part-by b bs xs i k false e all left ih =
     let same = marks-byte b bs (eqb-false b mark e) in
     rw (filled-byte b bs xs (eqb-false b mark e)) (omega (arith, ih xs k (omega arith) left))
 
-pub part-most : (bs xs : List ℕ) (i k : ℕ) → marks bs ≡ length xs → k + marks (drop i bs) ≡ length xs
+part-most : (bs xs : List ℕ) (i k : ℕ) → marks bs ≡ length xs → k + marks (drop i bs) ≡ length xs
     → length (filled (drop i bs) (drop k xs)) ≤ length (filled bs xs)
 part-most bs xs zero k all left = let none : k ≡ 0 = omega arith in rw none (omega arith)
 part-most [] xs (suc i) k all left = let none : k ≡ 0 = omega (arith, no-marks) in rw none (omega arith)
 part-most (b ∷ bs) xs (suc i) k all left = part-by b bs xs i k _ refl all left (λ xs′ k′ all′ left′. part-most bs xs′ i k′ all′ left′)
+
+-- ---- an area that holds the text from byte i and number k on, and the piece before it
+module _ (area₀ : List ℕ) (end : ℕ) (bs xs : List ℕ) (all : marks bs ≡ length xs) (room : length (filled bs xs) ≤ end) (inside : end ≤ length area₀)
+    (area : List ℕ) (at i k : ℕ) (low : 1 ≤ i) (high : i ≤ length bs) (left : k + marks (drop i bs) ≡ length xs)
+    (behind : written area at ≡ putBefore area₀ end (filled (drop i bs) (drop k xs))) where
+  put-piece : (piece : List ℕ) (j : ℕ) → j + marks (drop (i - 1) bs) ≡ length xs
+      → filled (drop (i - 1) bs) (drop j xs) ≡ piece ++ filled (drop i bs) (drop k xs)
+      → (length piece ≤ at) × (at ≤ length area₀) × (putBefore area at piece ≡ putBefore area₀ end (filled (drop (i - 1) bs) (drop j xs)))
+  put-piece piece j rest parts =
+      let text = filled (drop i bs) (drop k xs) in
+      let start = put-start area₀ end text area at behind in
+      let most = part-most bs xs (i - 1) j all rest in
+      let long = simp length-append at (ap length parts) in
+      (omega arith, omega arith, put-on area₀ end text area at piece behind (omega arith) inside ∙ rw parts)
+
+  pub put-mark : getD bs (i - 1) 0 ≡ mark
+      → (1 ≤ k) × (k - 1 + marks (drop (i - 1) bs) ≡ length xs) × (length (decimal (getD xs (k - 1) 0)) ≤ at) × (at ≤ length area₀)
+      × (putBefore area at (decimal (getD xs (k - 1) 0)) ≡ putBefore area₀ end (filled (drop (i - 1) bs) (drop (k - 1) xs)))
+  put-mark e =
+      let (least, rest, parts) = at-mark bs xs all i k low high left e in
+      let (fits, within, put) = put-piece (decimal (getD xs (k - 1) 0)) (k - 1) rest parts in
+      (least, rest, fits, within, put)
+
+  pub put-plain : length area ≡ length area₀ → (getD bs (i - 1) 0 ≡ mark → ⊥)
+      → (k + marks (drop (i - 1) bs) ≡ length xs) × (1 ≤ at) × (at ≤ length area₀)
+      × (written (set area (at - 1) (getD bs (i - 1) 0)) (at - 1) ≡ putBefore area₀ end (filled (drop (i - 1) bs) (drop k xs)))
+  put-plain same e =
+      let b = getD bs (i - 1) 0 in
+      let (rest, parts) = at-byte bs xs all i k low high left e in
+      let (fits, within, put) = put-piece (b ∷ []) k rest parts in
+      (rest, fits, within, sym (put-byte area at b fits (omega arith)) ∙ put)
 
 -- numbers of 64 bits
 abbrev pub Short : List ℕ → Type 0

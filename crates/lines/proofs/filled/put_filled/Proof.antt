@@ -1,16 +1,15 @@
 -- `lines::filled::put_filled` meets its contract. From byte i and number k on the filled template stands before `end`. Assumes nothing.
 use Prim.Native.Nat.{_+_, _-_, _≤_}
-use mathlib.Core.List.{[], _∷_}
-use mathlib.Core.Path.{_≡_, sym, ap, _∙_}
+use mathlib.Core.Path.{_≡_, _∙_}
 use native.Mathlib.Omega.{arith}
 use borrow.Author.Needs.{needs}
-use lib.ListN.{length, drop, getD, length-append, length-set}
+use lib.ListN.{length, drop, getD, set, length-set}
 use lib.Seq.{drop-length}
 use Rattle.lines.specs.Lines.{decimal}
 use Rattle.lines.specs.Area.{written, putBefore}
 use Rattle.lines.specs.Templates.{filled, marks}
-use Rattle.lines.proofs.Area.{put-none, put-byte, put-start, put-on}
-use Rattle.lines.proofs.Templates.{no-marks, filled-none, at-mark, at-byte, part-most}
+use Rattle.lines.proofs.Area.{put-none}
+use Rattle.lines.proofs.Templates.{no-marks, filled-none, put-mark, put-plain}
 use Rattle.lines.proofs.filled.put_filled.Statement.{statement}
 use Rattle.lines.proofs.filled.put_filled.Tie as tie
 
@@ -35,121 +34,66 @@ sub-i c = search needs
 shared-slice-read-b : tie.Need-shared-slice-read-b Inv-loop μ-loop
 shared-slice-read-b c = search needs
 
-sub-k : tie.Need-sub-k Inv-loop μ-loop
-sub-k c =
-    let l = c .before .before .before .loop in
+-- a number before the text
+mark-here : (c : tie.Then1 Inv-loop μ-loop)
+    → let l = c .before .before .before .loop in
     let a = c .before .before .before .before .before .before .before .args in
-    let pre = c .before .before .before .before .before .before .before .pre in
-    let bs = a .template .now in
     let xs = a .numbers .now in
-    let low : 1 ≤ l .i = c .before .before .loop-test .taken in
-    let m = at-mark bs xs (pre .0) (l .i) (l .k) low (l .inv .0) (l .inv .2) (c .if1 .taken) in
-    m .0
+    let rest = drop (l .i - 1) (a .template .now) in
+    (1 ≤ l .k) × (l .k - 1 + marks rest ≡ length xs) × (length (decimal (getD xs (l .k - 1) 0)) ≤ l .at) × (l .at ≤ length (a .area .now))
+    × (putBefore (l .area) (l .at) (decimal (getD xs (l .k - 1) 0)) ≡ putBefore (a .area .now) (a .end) (filled rest (drop (l .k - 1) xs)))
+mark-here c =
+    let l = c .before .before .before .loop in
+    let s = c .before .before .before .before .before .before .before in
+    put-mark (s .args .area .now) (s .args .end) (s .args .template .now) (s .args .numbers .now) (s .pre .0) (s .pre .1 .0) (s .pre .1 .1)
+    (l .area) (l .at) (l .i) (l .k) (c .before .before .loop-test .taken) (l .inv .0) (l .inv .2) (l .inv .3) (c .if1 .taken)
+
+sub-k : tie.Need-sub-k Inv-loop μ-loop
+sub-k c = mark-here c .0
 
 mul-put-digits : tie.Need-mul-put-digits Inv-loop μ-loop
 mul-put-digits c = search needs
 
 shared-slice-read-put-digits : tie.Need-shared-slice-read-put-digits Inv-loop μ-loop
-shared-slice-read-put-digits c =
-    let l = c .before .before .before .before .before .loop in
-    let a = c .before .before .before .before .before .before .before .before .before .args in
-    let pre = c .before .before .before .before .before .before .before .before .before .pre in
-    let bs = a .template .now in
-    let xs = a .numbers .now in
-    let low : 1 ≤ l .i = c .before .before .before .before .loop-test .taken in
-    let m = at-mark bs xs (pre .0) (l .i) (l .k) low (l .inv .0) (l .inv .2) (c .before .before .if1 .taken) in
-    omega (arith, m .0)
+shared-slice-read-put-digits c = omega (arith, mark-here (c .before .before) .0)
 
 put-digits-requires : tie.Need-put-digits-requires Inv-loop μ-loop
-put-digits-requires c κs =
-    let l = c .before .before .before .before .before .loop in
-    let a = c .before .before .before .before .before .before .before .before .before .args in
-    let pre = c .before .before .before .before .before .before .before .before .before .pre in
-    let bs = a .template .now in
-    let xs = a .numbers .now in
-    let low : 1 ≤ l .i = c .before .before .before .before .loop-test .taken in
-    let m = at-mark bs xs (pre .0) (l .i) (l .k) low (l .inv .0) (l .inv .2) (c .before .before .if1 .taken) in
-    let before = filled (drop (l .i) bs) (drop (l .k) xs) in
-    let start = put-start (a .area .now) (a .end) before (l .area) (l .at) (l .inv .3) in
-    let most = part-most bs xs (l .i - 1) (l .k - 1) (pre .0) (m .1) in
-    let parts = simp length-append at (ap length (m .2)) in
-    omega arith
+put-digits-requires c κs = let m = mark-here (c .before .before) in omega arith
 
 loop-less : tie.Need-loop-less Inv-loop μ-loop
 loop-less c = search needs
 
 loop-again : tie.Need-loop-again Inv-loop μ-loop
 loop-again c =
-    let l = c .before .before .before .before .before .before .before .before .loop in
-    let a = c .before .before .before .before .before .before .before .before .before .before .before .before .args in
-    let pre = c .before .before .before .before .before .before .before .before .before .before .before .before .pre in
+    let m = mark-here (c .before .before .before .before .before) in
+    let call = c .before .before .put-digits in
+    (search needs, call .kept .0 ∙ c .before .before .before .before .before .before .before .before .loop .inv .1, m .1, call .ensures ∙ m .4)
+
+-- a byte before the text
+byte-here : (c : tie.Else1 Inv-loop μ-loop)
+    → let l = c .before .before .before .loop in
+    let a = c .before .before .before .before .before .before .before .args in
     let bs = a .template .now in
-    let xs = a .numbers .now in
-    let low : 1 ≤ l .i = c .before .before .before .before .before .before .before .loop-test .taken in
-    let m = at-mark bs xs (pre .0) (l .i) (l .k) low (l .inv .0) (l .inv .2) (c .before .before .before .before .before .if1 .taken) in
-    let before = filled (drop (l .i) bs) (drop (l .k) xs) in
-    let start = put-start (a .area .now) (a .end) before (l .area) (l .at) (l .inv .3) in
-    let most = part-most bs xs (l .i - 1) (l .k - 1) (pre .0) (m .1) in
-    let parts = simp length-append at (ap length (m .2)) in
-    let call = c .before .before .put-digits in (
-      search needs,
-      call .kept .0 ∙ l .inv .1,
-      m .1,
-      call .ensures ∙ (put-on (a .area .now) (a .end) before (l .area) (l .at) (decimal (getD xs (l .k - 1) 0)) (l .inv .3) (omega arith) (pre .1 .1) ∙ rw (m .2)),
-    )
+    let rest = drop (l .i - 1) bs in
+    (l .k + marks rest ≡ length (a .numbers .now)) × (1 ≤ l .at) × (l .at ≤ length (a .area .now))
+    × (written (set (l .area) (l .at - 1) (getD bs (l .i - 1) 0)) (l .at - 1) ≡ putBefore (a .area .now) (a .end) (filled rest (drop (l .k) (a .numbers .now))))
+byte-here c =
+    let l = c .before .before .before .loop in
+    let s = c .before .before .before .before .before .before .before in
+    put-plain (s .args .area .now) (s .args .end) (s .args .template .now) (s .args .numbers .now) (s .pre .0) (s .pre .1 .0) (s .pre .1 .1)
+    (l .area) (l .at) (l .i) (l .k) (c .before .before .loop-test .taken) (l .inv .0) (l .inv .2) (l .inv .3) (l .inv .1) (c .if1 .left)
 
 sub-at : tie.Need-sub-at Inv-loop μ-loop
-sub-at c =
-    let l = c .before .before .before .loop in
-    let a = c .before .before .before .before .before .before .before .args in
-    let pre = c .before .before .before .before .before .before .before .pre in
-    let bs = a .template .now in
-    let xs = a .numbers .now in
-    let low : 1 ≤ l .i = c .before .before .loop-test .taken in
-    let m = at-byte bs xs (pre .0) (l .i) (l .k) low (l .inv .0) (l .inv .2) (c .if1 .left) in
-    let before = filled (drop (l .i) bs) (drop (l .k) xs) in
-    let start = put-start (a .area .now) (a .end) before (l .area) (l .at) (l .inv .3) in
-    let most = part-most bs xs (l .i - 1) (l .k) (pre .0) (m .0) in
-    let parts = simp length-append at (ap length (m .1)) in
-    omega arith
+sub-at c = byte-here c .1
 
 slice-write-area : tie.Need-slice-write-area Inv-loop μ-loop
-slice-write-area c =
-    let l = c .before .before .before .loop in
-    let a = c .before .before .before .before .before .before .before .args in
-    let pre = c .before .before .before .before .before .before .before .pre in
-    let bs = a .template .now in
-    let xs = a .numbers .now in
-    let low : 1 ≤ l .i = c .before .before .loop-test .taken in
-    let m = at-byte bs xs (pre .0) (l .i) (l .k) low (l .inv .0) (l .inv .2) (c .if1 .left) in
-    let before = filled (drop (l .i) bs) (drop (l .k) xs) in
-    let start = put-start (a .area .now) (a .end) before (l .area) (l .at) (l .inv .3) in
-    let most = part-most bs xs (l .i - 1) (l .k) (pre .0) (m .0) in
-    let parts = simp length-append at (ap length (m .1)) in
-    omega arith
+slice-write-area c = let m = byte-here c in omega arith
 
 loop-less-2 : tie.Need-loop-less-2 Inv-loop μ-loop
 loop-less-2 c = search needs
 
 loop-again-2 : tie.Need-loop-again-2 Inv-loop μ-loop
-loop-again-2 c =
-    let l = c .before .before .before .loop in
-    let a = c .before .before .before .before .before .before .before .args in
-    let pre = c .before .before .before .before .before .before .before .pre in
-    let bs = a .template .now in
-    let xs = a .numbers .now in
-    let low : 1 ≤ l .i = c .before .before .loop-test .taken in
-    let m = at-byte bs xs (pre .0) (l .i) (l .k) low (l .inv .0) (l .inv .2) (c .if1 .left) in
-    let before = filled (drop (l .i) bs) (drop (l .k) xs) in
-    let start = put-start (a .area .now) (a .end) before (l .area) (l .at) (l .inv .3) in
-    let most = part-most bs xs (l .i - 1) (l .k) (pre .0) (m .0) in
-    let parts = simp length-append at (ap length (m .1)) in
-    let b = getD bs (l .i - 1) 0 in (
-      search needs,
-      simp length-set (l .inv .1),
-      m .0,
-      sym (put-byte (l .area) (l .at) b (omega arith) (omega arith)) ∙ (put-on (a .area .now) (a .end) before (l .area) (l .at) (b ∷ []) (l .inv .3) (omega arith) (pre .1 .1) ∙ rw (m .1)),
-    )
+loop-again-2 c = let m = byte-here c in (search needs, simp length-set (c .before .before .before .loop .inv .1), m .0, m .3)
 
 same-length : tie.Need-same-length Inv-loop μ-loop
 same-length c = search needs
