@@ -11,9 +11,12 @@ pub struct Fault {
     /// comparison: the paper's "traps in the published text", and their like;
     /// or by the count of failed commits over them.
     pub seen_alone: bool,
-    /// Only run files show it.
-    pub of_lister: bool,
+    /// The program that shows it, where only what is printed of run files does.
+    pub shown_by: Option<&'static str>,
 }
+
+pub const LISTER: &str = "lister";
+pub const SUMMARY: &str = "summary";
 
 const fn fault(
     name: &'static str,
@@ -27,7 +30,7 @@ const fn fault(
         old,
         new,
         seen_alone: false,
-        of_lister: false,
+        shown_by: None,
     }
 }
 
@@ -50,12 +53,19 @@ const fn lister_fault(
     new: &'static str,
 ) -> Fault {
     Fault {
-        of_lister: true,
+        shown_by: Some(LISTER),
         ..fault(name, file, old, new)
     }
 }
 
-pub const FAULTS: [Fault; 67] = [
+const fn summary_fault(name: &'static str, old: &'static str, new: &'static str) -> Fault {
+    Fault {
+        shown_by: Some(SUMMARY),
+        ..fault(name, "listing/summary.rs", old, new)
+    }
+}
+
+pub const FAULTS: [Fault; 69] = [
     trap(
         "empty after one pass, without confirm",
         "stages/read.rs",
@@ -457,5 +467,18 @@ pub const FAULTS: [Fault; 67] = [
         "listing/decode.rs",
         "5 if bits(word, 0, 21) == 0",
         "5 if bits(word, 0, 20) == 0",
+    ),
+    summary_fault(
+        "lost commits without the last worker's",
+        "(0..pool.settings.workers)",
+        "(0..pool.settings.workers - 1)",
+    ),
+    summary_fault(
+        "counts that begin anew with each 65,536 bytes",
+        "replay.next_call()? {",
+        "replay.next_call()? {
+            if replay.words_read() % 0x4000 == 0 {
+                [self.put, self.taken, self.empty, self.full, self.refused] = [0; 5];
+            }",
     ),
 ];

@@ -2,15 +2,15 @@
 //! prints how long the cross-check takes to find each. Exits non-zero if one
 //! is not found.
 //!
-//! planted [--seconds N] [--seed N] [--lister PROGRAM], with at most N seconds
-//! for each trial (120)
+//! planted [--seconds N] [--seed N] [--lister PROGRAM] [--summary PROGRAM], with
+//! at most N seconds for each trial (120)
 
 mod copy;
 mod faults;
 mod trial;
 
 use copy::Copy;
-use faults::{Fault, FAULTS};
+use faults::{Fault, FAULTS, LISTER, SUMMARY};
 use std::path::{Path, PathBuf};
 use std::process::ExitCode;
 use trial::{finder, trial, Outcome};
@@ -18,7 +18,8 @@ use trial::{finder, trial, Outcome};
 struct Options {
     seconds: String,
     seed: String,
-    lister: Option<PathBuf>,
+    /// Those that print something of a run file, by their names.
+    programs: Vec<(&'static str, PathBuf)>,
 }
 
 fn main() -> ExitCode {
@@ -36,7 +37,7 @@ fn options() -> Result<Options, String> {
     let mut options = Options {
         seconds: "120".to_string(),
         seed: "1".to_string(),
-        lister: None,
+        programs: Vec::new(),
     };
     let mut words = std::env::args().skip(1);
     while let Some(option) = words.next() {
@@ -44,11 +45,20 @@ fn options() -> Result<Options, String> {
         match option.as_str() {
             "--seconds" => options.seconds = value,
             "--seed" => options.seed = value,
-            "--lister" => options.lister = Some(absolute(Path::new(&value))?),
-            _ => return Err(format!("no option {option}")),
+            _ => {
+                let program = program(&option).ok_or(format!("no option {option}"))?;
+                let path = absolute(Path::new(&value))?;
+                options.programs.push((program, path));
+            }
         }
     }
     Ok(options)
+}
+
+/// Which one the option names.
+fn program(option: &str) -> Option<&'static str> {
+    let name = option.strip_prefix("--")?;
+    [LISTER, SUMMARY].into_iter().find(|of| *of == name)
 }
 
 /// True if every fault was found.
@@ -67,9 +77,10 @@ fn run(options: &Options) -> Result<bool, String> {
     println!("| planted fault | found after | by | one at a time alone |");
     println!("|---|---:|---|---:|");
     let mut all_found = true;
+    let is_given = |program| options.programs.iter().any(|(name, _)| *name == program);
     for fault in FAULTS
         .iter()
-        .filter(|fault| !fault.of_lister || options.lister.is_some())
+        .filter(|fault| fault.shown_by.map_or(true, is_given))
     {
         let before = copy
             .plant(fault)
@@ -107,9 +118,10 @@ fn crosscheck_options(options: &Options, seconds: &str, alone: bool) -> Vec<Stri
         .to_vec();
     if alone {
         all.push("--alone".to_string());
-    } else if let Some(lister) = &options.lister {
-        all.push("--lister".to_string());
-        all.push(lister.display().to_string());
+    } else {
+        for (program, path) in &options.programs {
+            all.extend([format!("--{program}"), path.display().to_string()]);
+        }
     }
     all
 }

@@ -43,6 +43,7 @@ pub fn finder(printed: &str) -> &'static str {
         ("one at a time: undecided", "one at a time, undecided"),
         ("one at a time", "one at a time"),
         ("listings of a run file", "run files"),
+        ("summaries of a run file", "summaries of run files"),
         ("call: Dispatch", "a dispatch compared"),
         ("call: From", "a move compared"),
         ("in edition 0 and", "both editions' answers"),
