@@ -12,7 +12,7 @@ use Rattle.replay.specs.Replay.{lent}
 use Rattle.printing.specs.declared.printed.Mode.{Mode}
 use Rattle.pieces.specs.Stretch.{newStretch, Stretched, stretched, stretchOf}
 use Rattle.pieces.specs.Progress.{ToCome}
-use Rattle.pieces.specs.Account.{Counts, Account, Printed}
+use Rattle.pieces.specs.Account.{Counts, Account, AllPrinted}
 use Rattle.pieces.proofs.Pieces.{begins, goes, flushed, completes}
 
 -- more bytes are counted
@@ -143,7 +143,7 @@ carries m read written piece s all a =
 
 -- all is printed, and nothing is left in the output
 pub closes : (m : Mode) (read written : ℕ) (ended : Bool) (piece : List ℕ) (s : Stretched) → s .stretch .complete ≡ true → s .stretch .used ≡ 0
-    → Account m read written ended piece s → Printed m read written ended
+    → Account m read written ended piece s → AllPrinted m read written ended
 closes m read written ended piece s all none a =
     record {
       bytes = a .bytes;

@@ -33,7 +33,7 @@ pub record Account (m : Mode) (read written : ℕ) (ended : Bool) (piece : List 
 
 -- WHAT A PROGRAM HAS DONE that printed all: there are as many bytes as it read, and as many as it wrote, and these are what is printed of a file that
 -- begins with those; of just those if the input has ended
-pub record Printed (m : Mode) (read written : ℕ) (ended : Bool) : Type 0 where
+pub record AllPrinted (m : Mode) (read written : ℕ) (ended : Bool) : Type 0 where
   pub bytes : List ℕ
   pub text : List ℕ
   pub bytes-read : Counts read bytes

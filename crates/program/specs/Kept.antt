@@ -8,7 +8,7 @@ use lib.ListN.{take}
 use Rattle.laws.specs.Choice.{cond}
 use Rattle.printing.specs.declared.printed.Mode.{Mode}
 use Rattle.pieces.specs.Stretch.{newStretch, stretched}
-use Rattle.pieces.specs.Account.{Account, Printed}
+use Rattle.pieces.specs.Account.{Account, AllPrinted}
 use Rattle.pieces.specs.declared.stretch.Stretch.{Stretch}
 use Rattle.program.specs.declared.run.Run.{Run}
 
@@ -43,7 +43,7 @@ pub record Left (m : Mode) (run : Run) (src ws out : List ℕ) : Type 0 where
 -- WHAT THE PROGRAM IS PROVED TO DO: once all is printed, the bytes that it handed to be written are what is printed of the bytes that it read; and where the
 -- input has ended all is printed
 pub record Ran (m : Mode) (r : Run) : Type 0 where
-  pub prints : r .stretch .complete ≡ true → Printed m (r .read) (r .written) (r .ended)
+  pub prints : r .stretch .complete ≡ true → AllPrinted m (r .read) (r .written) (r .ended)
   pub completes : r .ended ≡ true → r .stretch .complete ≡ true
 
 -- ---- a run
