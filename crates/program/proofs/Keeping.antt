@@ -1,8 +1,10 @@
 -- The account is kept by each step of the loop: by a write (`flush-keeps`), by a stretch (`print-keeps`), by a read (`fed-keeps`), and by the step to the next
 -- piece (`carry-keeps`). Each is the law of crates/pieces (proofs/Accounts) at the run's fields.
+-- No step forgets a failure (`remembers-twice`, `still-remembers`), the last write neither, so that a run which is over stays so to the end (`flushed-over`).
 use Prim.Native.Nat.{ℕ, zero, suc, _+_, _*_, _-_, _/_, _%_, _^_, _<_, _≤_}
 use mathlib.Core.Bool.{Bool, true, false, false≢true}
 use mathlib.Core.List.{List, [], _∷_, _++_}
+use mathlib.Core.Logic.{_⊎_, inl, inr}
 use mathlib.Core.Path.{_≡_, refl, sym, ap, subst, _∙_}
 use native.Mathlib.Omega.{arith}
 use lib.Dec.{eqb}
@@ -18,20 +20,43 @@ use Rattle.pieces.specs.declared.stretch.Stretch.{Stretch}
 use Rattle.pieces.proofs.Stretches.{stretch-most, stretch-more, room-goes}
 use Rattle.pieces.proofs.Ends.{CompleteAt, last-completes}
 use Rattle.pieces.proofs.Accounts.{opens, reads, ends, prints, writes, carries, cutOf, closes}
-use Rattle.program.specs.Kept.{AccountOf, Keeps, atStart, FlushedTo, Fed, Left, newRun, over, Ran}
+use Rattle.program.specs.Kept.{AccountOf, Keeps, ReadsNothing, WritesNothing, Remembers, atStart, FlushedTo, Fed, Unfed, Left, newRun, over, mostReads, Ran}
 use Rattle.program.specs.declared.run.Run.{Run}
+use Rattle.program.specs.declared.run.Input.{Input}
+
+-- ---- what a step may not change
+pub nothing-read-twice : {a b c : Run} → ReadsNothing a b → ReadsNothing b c → ReadsNothing a c
+nothing-read-twice f g =
+    record {
+      read = g .read ∙ f .read;
+      reads = g .reads ∙ f .reads;
+      ended = g .ended ∙ f .ended;
+      unread = g .unread ∙ f .unread;
+    }
+
+pub remembers-twice : {a b c : Run} → Remembers a b → Remembers b c → Remembers a c
+remembers-twice f g = record { unread = λ e. g .unread (f .unread e); unwritten = λ e. g .unwritten (f .unwritten e) }
+
+-- what is left as it was is not forgotten
+pub still-remembers : {a b : Run} → b .unread ≡ a .unread → WritesNothing a b → Remembers a b
+still-remembers r w = record { unread = λ e. r ∙ e; unwritten = λ e. w .unwritten ∙ e }
+
+-- nor is it by a piece that is read and printed, and the read is counted
+pub piece-counts : {run piece printed : Run} {input : Input} → input .reads ≡ run .reads + 1 → Fed run input piece → ReadsNothing piece printed → Remembers piece printed
+    → (printed .reads ≡ run .reads + 1) × Remembers run printed
+piece-counts n f same kept = (same .reads ∙ (f .reading .reads ∙ n), remembers-twice (still-remembers (f .unread) (f .reading .writing)) kept)
 
 -- ---- a write
 pub flush-keeps : (before after : Run) (out : List ℕ) → FlushedTo before after → before .stretch .used ≤ length out → (m : Mode) (piece ws : List ℕ) → Keeps m before piece ws out after piece ws out
 flush-keeps before after out f fits m piece ws a =
-    rw (f .stretch, f .read, f .written, f .ended) (writes m (before .read) (before .written) (before .ended) piece (stretched (before .stretch) ws out) fits a)
+    rw (f .stretch, f .reading .read, f .written, f .reading .ended) (writes m (before .read) (before .written) (before .ended) piece (stretched (before .stretch) ws out) fits a)
 
 -- ---- a stretch
 pub print-keeps : (m : Mode) (before after : Run) (piece ws out ws′ out′ : List ℕ)
     → stretched (after .stretch) ws′ out′ ≡ stretchOf m piece (before .ended) (stretched (before .stretch) ws out)
-    → after .read ≡ before .read → after .written ≡ before .written → after .ended ≡ before .ended → Keeps m before piece ws out after piece ws′ out′
-print-keeps m before after piece ws out ws′ out′ e r w n a =
-    rw (e, r, w, n) (prints m (before .read) (before .written) (before .ended) piece (stretched (before .stretch) ws out) a)
+    → ReadsNothing before after → WritesNothing before after → Keeps m before piece ws out after piece ws′ out′
+print-keeps m before after piece ws out ws′ out′ e r w a =
+    rw (e, r .read, w .written, r .ended) (prints m (before .read) (before .written) (before .ended) piece (stretched (before .stretch) ws out) a)
 
 -- it comes further, where it has room, and not past the turns of the piece
 pub print-on : (m : Mode) (src : List ℕ) (last : Bool) (turns : ℕ) (s next : Stretched) → turns ≡ turnsIn src last → next ≡ stretchOf m src last s
@@ -64,10 +89,11 @@ ended-by : (m : Mode) (read written : ℕ) (b : Bool) (piece : List ℕ) (s : St
 ended-by m read written true piece s a = ends m read written piece s a
 ended-by m read written false piece s a = a
 
-pub fed-keeps : (before after : Run) (src src′ ws out : List ℕ) (end : ℕ) → Fed before end after → before .ended ≡ false
-    → before .carried ≤ end → end ≤ length src′ → take (before .carried) src′ ≡ take (before .carried) src
-    → (m : Mode) → Keeps m before (take (before .carried) src) ws out after (take end src′) ws out
-fed-keeps before after src src′ ws out end f going low high same m a =
+fed-keeps : (before after : Run) (src src′ ws out : List ℕ) (input : Input) → Fed before input after → before .ended ≡ false
+    → before .carried ≤ input .end → input .end ≤ length src′ → take (before .carried) src′ ≡ take (before .carried) src
+    → (m : Mode) → Keeps m before (take (before .carried) src) ws out after (take (input .end) src′) ws out
+fed-keeps before after src src′ ws out input f going low high same m a =
+    let end = input .end in
     let c = before .carried in
     let more = drop c (take end src′) in
     let long : length more ≡ end - c = length-drop c (take end src′) ∙ ap (λ (n : ℕ). n - c) (length-take-le end src′ high) in
@@ -77,7 +103,7 @@ fed-keeps before after src src′ ws out end f going low high same m a =
     let r : Account m ((before .read + (end - c)) % 2 ^ 64) (before .written) false (take end src′) s =
     subst (λ (l : List ℕ). Account m ((before .read + (end - c)) % 2 ^ 64) (before .written) false l s) (sym piece)
     (subst (λ (n : ℕ). Account m ((before .read + n) % 2 ^ 64) (before .written) false (take c src ++ more) s) long (reads m (before .read) (before .written) (take c src) s more a′)) in
-    rw (f .stretch, f .read, f .written, f .ended) (ended-by m _ (before .written) (eqb (end - c) 0) (take end src′) s r)
+    rw (f .reading .stretch, f .read, f .reading .writing .written, f .ended) (ended-by m _ (before .written) (eqb (end - c) 0) (take end src′) s r)
 
 -- ---- the next piece
 -- what is carried over are the bytes of the word that the piece cuts
@@ -107,34 +133,33 @@ cut-carried end src fits =
 pub carry-keeps : (before after : Run) (src src′ ws out : List ℕ) (end : ℕ) → end ≤ length src → before .ended ≡ false
     → (before .stretch .complete ≡ false → before .stretch .at ≡ length (take end src) / wordBytes)
     → src′ ≡ paste src 0 (drop (end - end % wordBytes) src) (end % wordBytes)
-    → after .stretch ≡ atStart (before .stretch) → after .read ≡ before .read → after .written ≡ before .written → after .ended ≡ before .ended → after .carried ≡ end % wordBytes
+    → after .stretch ≡ atStart (before .stretch) → ReadsNothing before after → WritesNothing before after → after .carried ≡ end % wordBytes
     → (m : Mode) → AccountOf m before (take end src) ws out → Left m after src′ ws out
-carry-keeps before after src src′ ws out end fits going all pasted s r w n c m a =
+carry-keeps before after src src′ ws out end fits going all pasted s r w c m a =
     let a′ : Account m (before .read) (before .written) false (take end src) (stretched (before .stretch) ws out) = rw going at a in
     record {
       piece = cutOf (take end src);
       carried = λ _. rw (c, pasted) (cut-carried end src fits);
-      account = rw (s, r, w, n, going) (carries m (before .read) (before .written) (take end src) (stretched (before .stretch) ws out) all a′);
+      account = rw (s, r .read, w .written, r .ended, going) (carries m (before .read) (before .written) (take end src) (stretched (before .stretch) ws out) all a′);
     }
 
 -- ---- a turn of the loop
 -- the input can't be read: what was carried over is still there
-pub unread-keeps : (before after : Run) (src src′ ws out : List ℕ) → after .stretch ≡ before .stretch → after .carried ≡ before .carried → after .read ≡ before .read
-    → after .written ≡ before .written → after .ended ≡ before .ended → take (before .carried) src′ ≡ take (before .carried) src
+pub unfed-keeps : (before after : Run) (src src′ ws out : List ℕ) (input : Input) → Unfed before input after → take (before .carried) src′ ≡ take (before .carried) src
     → (m : Mode) → Left m before src ws out → Left m after src′ ws out
-unread-keeps before after src src′ ws out s c r w n same m h =
+unfed-keeps before after src src′ ws out input u same m h =
     record {
       piece = h .piece;
-      carried = λ e. h .carried (sym n ∙ e) ∙ (sym same ∙ rw c);
-      account = rw (s, r, w, n) (h .account);
+      carried = λ e. h .carried (sym (u .ended) ∙ e) ∙ (sym same ∙ rw (u .reading .carried));
+      account = rw (u .reading .stretch, u .read, u .reading .writing .written, u .ended) (h .account);
     }
 
 -- a piece is read
-pub left-fed : (before after : Run) (src src′ ws out : List ℕ) (end : ℕ) → Fed before end after → before .ended ≡ false
-    → before .carried ≤ end → end ≤ length src′ → take (before .carried) src′ ≡ take (before .carried) src
-    → (m : Mode) → Left m before src ws out → AccountOf m after (take end src′) ws out
-left-fed before after src src′ ws out end f going low high same m h =
-    fed-keeps before after src src′ ws out end f going low high same m (subst (λ (l : List ℕ). AccountOf m before l ws out) (h .carried going) (h .account))
+pub left-fed : (before after : Run) (src src′ ws out : List ℕ) (input : Input) → Fed before input after → before .ended ≡ false
+    → before .carried ≤ input .end → input .end ≤ length src′ → take (before .carried) src′ ≡ take (before .carried) src
+    → (m : Mode) → Left m before src ws out → AccountOf m after (take (input .end) src′) ws out
+left-fed before after src src′ ws out input f going low high same m h =
+    fed-keeps before after src src′ ws out input f going low high same m (subst (λ (l : List ℕ). AccountOf m before l ws out) (h .carried going) (h .account))
 
 -- and the last one of the file is printed
 pub last-left : (run : Run) (src piece ws out : List ℕ) → run .ended ≡ true → (m : Mode) → AccountOf m run piece ws out → Left m run src ws out
@@ -155,13 +180,27 @@ over-going r e = by (r .stretch .complete) (r .ended) e
     by false true h = absurd (false≢true (sym h))
     by false false h = refl
 
+-- a run that is over stays so when what is left in the output is written
+flushed-over : (before after : Run) → FlushedTo before after → over before ≡ true → over after ≡ true
+unfolding over cond
+flushed-over before after f e =
+    rw (ap (λ (s : Stretch). s .complete) (f .stretch), f .reading .ended, f .reading .unread)
+    (by (before .stretch .complete) (before .ended) (before .unread) e)
+  where
+    by : (b b′ b″ : Bool) → cond b true (cond b′ true (cond b″ true (before .unwritten))) ≡ true → cond b true (cond b′ true (cond b″ true (after .unwritten))) ≡ true
+    by true b′ b″ h = refl
+    by false true b″ h = refl
+    by false false true h = refl
+    by false false false h = f .remembers .unwritten h
+
 -- what is left in the output is written, and that is all
 pub ran : (m : Mode) (run after : Run) (src ws out : List ℕ) → FlushedTo run after → run .stretch .used ≤ length out → (run .ended ≡ true → run .stretch .complete ≡ true)
-    → Left m run src ws out → Ran m after
-ran m run after src ws out f fits last h =
+    → (over run ≡ true) ⊎ (run .reads ≡ mostReads) → Left m run src ws out → Ran m after
+ran m run after src ws out f fits last stop h =
     record {
+      stops = elim stop [ inl e ↦ inl (flushed-over run after f e) | inr e ↦ inr (f .reading .reads ∙ e) ];
       prints = λ all.
           closes m (after .read) (after .written) (after .ended) (h .piece) (stretched (after .stretch) ws out) all (ap (λ (s : Stretch). s .used) (f .stretch))
           (flush-keeps run after out f fits m (h .piece) ws (h .account));
-      completes = λ e. ap (λ (s : Stretch). s .complete) (f .stretch) ∙ last (sym (f .ended) ∙ e);
+      completes = λ e. ap (λ (s : Stretch). s .complete) (f .stretch) ∙ last (sym (f .reading .ended) ∙ e);
     }

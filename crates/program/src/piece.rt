@@ -16,7 +16,7 @@ ghost use lib.Seq.{paste};
 ghost use Rattle.runfile.specs.Words.{wordBytes};
 ghost use Rattle.pieces.specs.Stretch.{turnBytes, turnsIn, stretched, stretchOf};
 ghost use Rattle.printing.specs.declared.printed.Mode.{Mode as Mode·Mode};
-ghost use Rattle.program.specs.Kept.{Keeps, FlushedTo, atStart};
+ghost use Rattle.program.specs.Kept.{Keeps, ReadsNothing, WritesNothing, Remembers, FlushedTo, atStart};
 
 // Hands what is used of the output to be written, and uses it anew.
 pub fn flush(out: &[u8], run: Run) -> Run
@@ -40,6 +40,7 @@ pub fn flush(out: &[u8], run: Run) -> Run
         stretch,
         carried: run.carried,
         read: run.read,
+        reads: run.reads,
         written: std::num::wrapping_add_u64(run.written, used as u64),
         ended: run.ended,
         unread: run.unread,
@@ -51,7 +52,7 @@ pub fn flush(out: &[u8], run: Run) -> Run
 fn with_room(out: &[u8], run: Run) -> Run
     requires { ⌜ (turnBytes ≤ length (now out)) × (run .stretch .used ≤ length (now out)) ⌝ }
     ensures room { λ r. ⌜ r .stretch .used + turnBytes ≤ length (now (out .entry)) ⌝ }
-    ensures same { λ r. ⌜ (r .stretch .at ≡ run .stretch .at) × (r .stretch .complete ≡ run .stretch .complete) × (r .ended ≡ run .ended) ⌝ }
+    ensures same { λ r. ⌜ (r .stretch .at ≡ run .stretch .at) × (r .stretch .complete ≡ run .stretch .complete) × ReadsNothing run r × Remembers run r ⌝ }
     ensures keeps { λ r. ⌜ ((m : Mode·Mode) (piece ws : List ℕ) → Keeps m run piece ws (now (out .entry)) r piece ws (now (out .entry))) ⌝ }
 {
     let s = run.stretch;
@@ -65,7 +66,7 @@ fn with_room(out: &[u8], run: Run) -> Run
 fn print_on(words: &mut [u32], mode: Mode, run: Run, src: &[u8], out: &mut [u8]) -> Run
     requires { ⌜ run .stretch .used ≤ length (now out) ⌝ }
     ensures prints { λ r. ⌜ stretched (r .stretch) (now (words .exit)) (now (out .exit)) ≡ stretchOf mode (now (src .entry)) (run .ended) (stretched (run .stretch) (now (words .entry)) (now (out .entry))) ⌝ }
-    ensures same { λ r. ⌜ (r .read ≡ run .read) × (r .written ≡ run .written) × (r .ended ≡ run .ended) ⌝ }
+    ensures same { λ r. ⌜ ReadsNothing run r × WritesNothing run r ⌝ }
     ensures inside { λ r. ⌜ r .stretch .used ≤ length (now (out .entry)) ⌝ }
 {
     let s = run.stretch;
@@ -74,6 +75,7 @@ fn print_on(words: &mut [u32], mode: Mode, run: Run, src: &[u8], out: &mut [u8])
         stretch,
         carried: run.carried,
         read: run.read,
+        reads: run.reads,
         written: run.written,
         ended: run.ended,
         unread: run.unread,
@@ -85,7 +87,8 @@ fn print_on(words: &mut [u32], mode: Mode, run: Run, src: &[u8], out: &mut [u8])
 pub fn print_piece(words: &mut [u32], mode: Mode, from: Run, src: &[u8], out: &mut [u8]) -> Run
     requires { ⌜ (turnBytes ≤ length (now out)) × (from .stretch .used ≤ length (now out)) × (from .stretch .at ≡ 0) ⌝ }
     ensures inside { λ r. ⌜ r .stretch .used ≤ length (now (out .entry)) ⌝ }
-    ensures all { λ r. ⌜ (r .stretch .complete ≡ false → r .stretch .at ≡ turnsIn (now (src .entry)) (from .ended)) × (from .ended ≡ true → r .stretch .complete ≡ true) × (r .ended ≡ from .ended) ⌝ }
+    ensures all { λ r. ⌜ (r .stretch .complete ≡ false → r .stretch .at ≡ turnsIn (now (src .entry)) (from .ended)) × (from .ended ≡ true → r .stretch .complete ≡ true) ⌝ }
+    ensures same { λ r. ⌜ ReadsNothing from r × Remembers from r ⌝ }
     ensures keeps { λ r. ⌜ Keeps mode from (now (src .entry)) (now (words .entry)) (now (out .entry)) r (now (src .entry)) (now (words .exit)) (now (out .exit)) ⌝ }
 {
     let turns = turns_in(src, from.ended);
@@ -121,7 +124,7 @@ pub fn carry(src: &mut [u8], end: usize) -> usize
 
 // A run at the start of its next piece, with so many bytes carried over.
 pub fn next_piece(run: Run, carried: usize) -> Run
-    ensures { λ r. ⌜ (r .stretch ≡ atStart (run .stretch)) × (r .carried ≡ carried) × (r .read ≡ run .read) × (r .written ≡ run .written) × (r .ended ≡ run .ended) ⌝ }
+    ensures { λ r. ⌜ (r .stretch ≡ atStart (run .stretch)) × (r .carried ≡ carried) × ReadsNothing run r × WritesNothing run r ⌝ }
 {
     let s = run.stretch;
     let printer = s.printer;
@@ -135,6 +138,7 @@ pub fn next_piece(run: Run, carried: usize) -> Run
         stretch,
         carried,
         read: run.read,
+        reads: run.reads,
         written: run.written,
         ended: run.ended,
         unread: run.unread,

@@ -11,54 +11,59 @@ use printing::Mode;
 use replay::lent_words;
 ghost use mathlib.Core.Bool.{true, false};
 ghost use mathlib.Core.Path.{_≡_};
-ghost use Prim.Native.Nat.{_<_, _≤_};
+ghost use Prim.Native.Nat.{_+_, _<_, _≤_};
 ghost use lib.ListN.{length, take};
 ghost use Rattle.pieces.specs.Stretch.{turnBytes};
-ghost use Rattle.program.specs.Kept.{Left, Fed, over, newRun, Ran};
+ghost use Rattle.program.specs.Kept.{Left, Remembers, mostReads, Fed, Unfed, over, newRun, Ran};
 
-// How far a program is: what it prints, how many bytes of a cut word lie at the front of the input, how many bytes were read and how many handed to be
-// written, whether the input has ended, whether it can't be read, and whether the output can't be written.
+// How far a program is: what it prints, how many bytes of a cut word lie at the front of the input, how many bytes were read, in how many reads, and how
+// many handed to be written, whether the input has ended, whether it can't be read, and whether the output can't be written.
 pub struct Run {
     pub stretch: Stretch,
     pub carried: usize,
     pub read: u64,
+    pub reads: u64,
     pub written: u64,
     pub ended: bool,
     pub unread: bool,
     pub unwritten: bool,
 }
 
-// What a read leaves: where the input's bytes end, and whether it failed.
+// What a read leaves: where the input's bytes end, whether it failed, and how many reads there were.
 struct Input {
     end: usize,
     failed: bool,
+    reads: u64,
 }
 
-// Reads on after the bytes that are carried over.
-fn read_on(src: &mut [u8], carried: usize) -> Input
-    requires { ⌜ carried ≤ length (now src) ⌝ }
-    ensures { λ r. ⌜ (carried ≤ r .end) × (r .end ≤ length (now (src .entry))) × (take carried (now (src .exit)) ≡ take carried (now (src .entry))) ⌝ }
+// Reads on after the bytes that are carried over, and counts the read.
+fn read_on(src: &mut [u8], carried: usize, reads: u64) -> Input
+    requires { ⌜ (carried ≤ length (now src)) × (reads < mostReads) ⌝ }
+    ensures behind { λ r. ⌜ (carried ≤ r .end) × (r .end ≤ length (now (src .entry))) × (take carried (now (src .exit)) ≡ take carried (now (src .entry))) × (r .reads ≡ reads + 1) ⌝ }
+    ensures nothing { λ r. ⌜ (r .failed ≡ true → r .end ≡ carried) ⌝ }
 {
     let got = libc::read(STDIN_FILENO, &mut src[carried..]);
     let n = io::count(got, &src[carried..]);
     Input {
         end: carried + n,
         failed: got < 0,
+        reads: reads + 1,
     }
 }
 
-// The run of a piece that was read up to `end`. A read of no bytes is the end of the input.
-fn fed(run: Run, end: usize) -> Run
-    requires { ⌜ run .carried ≤ end ⌝ }
-    ensures { λ r. ⌜ Fed run end r ⌝ }
+// The run of a piece that was read. A read of no bytes is the end of the input.
+fn fed(run: Run, input: Input) -> Run
+    requires { ⌜ run .carried ≤ input .end ⌝ }
+    ensures { λ r. ⌜ Fed run input r ⌝ }
 {
     let stretch = run.stretch;
     let carried = run.carried;
-    let n = end - carried;
+    let n = input.end - carried;
     Run {
         stretch,
         carried,
         read: std::num::wrapping_add_u64(run.read, n as u64),
+        reads: input.reads,
         written: run.written,
         ended: n == 0,
         unread: run.unread,
@@ -66,15 +71,17 @@ fn fed(run: Run, end: usize) -> Run
     }
 }
 
-// A run whose input can't be read.
-fn unread(run: Run) -> Run
-    ensures { λ r. ⌜ (r .stretch ≡ run .stretch) × (r .carried ≡ run .carried) × (r .read ≡ run .read) × (r .written ≡ run .written) × (r .ended ≡ run .ended) ⌝ }
+// A run whose input can't be read: nothing was.
+fn unread(run: Run, input: Input) -> Run
+    requires { ⌜ input .end ≡ run .carried ⌝ }
+    ensures { λ r. ⌜ Unfed run input r ⌝ }
 {
     let stretch = run.stretch;
     Run {
         stretch,
         carried: run.carried,
         read: run.read,
+        reads: input.reads,
         written: run.written,
         ended: run.ended,
         unread: true,
@@ -85,18 +92,19 @@ fn unread(run: Run) -> Run
 // Reads a piece and prints it.
 fn print_some(words: &mut [u32], mode: Mode, run: Run, src: &mut [u8], out: &mut [u8]) -> Run
     requires { ⌜ (turnBytes ≤ length (now out)) × (run .stretch .used ≤ length (now out)) × (run .stretch .at ≡ 0) ⌝ }
-    requires { ⌜ (run .carried ≤ length (now src)) × (run .ended ≡ false) ⌝ }
+    requires { ⌜ (run .carried ≤ length (now src)) × (run .ended ≡ false) × (run .reads < mostReads) ⌝ }
     ensures inside { λ r. ⌜ (r .stretch .used ≤ length (now (out .entry))) × (r .ended ≡ false → (r .stretch .at ≡ 0) × (r .carried ≤ length (now (src .entry)))) ⌝ }
     ensures completes { λ r. ⌜ (r .ended ≡ true → r .stretch .complete ≡ true) ⌝ }
     ensures keeps { λ r. ⌜ (Left mode run (now (src .entry)) (now (words .entry)) (now (out .entry)) → Left mode r (now (src .exit)) (now (words .exit)) (now (out .exit))) ⌝ }
+    ensures counts { λ r. ⌜ (r .reads ≡ run .reads + 1) × Remembers run r ⌝ }
 {
     let carried = run.carried;
-    let input = read_on(src, carried);
+    let input = read_on(src, carried, run.reads);
     if input.failed {
-        return unread(run);
+        return unread(run, input);
     }
+    let piece = fed(run, input);
     let end = input.end;
-    let piece = fed(run, end);
     let printed = print_piece(words, mode, piece, &src[..end], out);
     if printed.ended {
         return printed;
@@ -131,6 +139,7 @@ fn start() -> Run
         stretch,
         carried: 0,
         read: 0,
+        reads: 0,
         written: 0,
         ended: false,
         unread: false,
@@ -146,14 +155,12 @@ pub fn print_file(mode: Mode) -> Run
     let mut src = io::large_buffer();
     let mut out = io::large_buffer();
     let mut run = start();
-    // Nothing says that the input ends: the reads are counted down, from a number that no run uses up.
-    let mut reads = u64::MAX;
-    while 0 < reads {
+    // Nothing says that the input ends: the reads are counted, up to a number that no run comes to.
+    while run.reads < u64::MAX {
         if is_over(run) {
             break;
         }
         run = print_some(&mut words, mode, run, &mut src, &mut out);
-        reads -= 1;
     }
     flush(&out, run)
 }

@@ -1,5 +1,6 @@
--- `program::piece::flush` meets its contract: what is used lies inside the output. Assumes nothing.
-use mathlib.Core.Path.{sym}
+-- `program::piece::flush` meets its contract: what is used lies inside the output, and a write that fails is told, as is one that failed before. Assumes nothing.
+use mathlib.Core.Logic.{inl, inr}
+use mathlib.Core.Path.{sym, _∙_}
 use lib.Seq.{length-take-le}
 use borrow.Author.Needs.{needs}
 use Rattle.program.proofs.piece.flush.Statement.{statement}
@@ -17,7 +18,13 @@ wrapping-add-u64-requires : tie.Need-wrapping-add-u64-requires
 wrapping-add-u64-requires c κs = search needs
 
 returns : tie.Need-returns
-returns c = search needs
+returns c =
+    record {
+      stretch = search needs;
+      written = search needs;
+      reading = search needs;
+      remembers = record { unread = λ e. e; unwritten = λ e. elim (c .before .if1 .came) [ inl failed ↦ failed .1 | inr wrote ↦ wrote .1 ∙ e ] };
+    }
 
 pub flush-spec : {M : Type 1} → statement M
 flush-spec =

@@ -15,7 +15,7 @@ same-length-2 : tie.Need-same-length-2
 same-length-2 c = search needs
 
 returns : tie.Need-returns
-returns c = (c .before .before .before .before .print-words .ensures .0, ((refl, refl, refl), c .before .before .before .before .print-words .ensures .1 (c .before .before .before .before .before .before .before .before .before .before .before .pre)))
+returns c = (c .before .before .before .before .print-words .ensures .0, ((search needs, search needs), c .before .before .before .before .print-words .ensures .1 (c .before .before .before .before .before .before .before .before .before .before .before .pre)))
 
 pub print-on-spec : {M : Type 1} → statement M
 print-on-spec = tie.close (tie.spec print-words-requires same-length same-length-2 returns)

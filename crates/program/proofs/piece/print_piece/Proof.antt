@@ -6,15 +6,15 @@ use native.Mathlib.Omega.{arith}
 use borrow.Author.Needs.{needs}
 use lib.ListN.{length}
 use Rattle.pieces.specs.Stretch.{stretched, turnsIn}
-use Rattle.program.specs.Kept.{Keeps}
-use Rattle.program.proofs.Keeping.{print-keeps, print-on, print-last}
+use Rattle.program.specs.Kept.{Keeps, ReadsNothing, Remembers}
+use Rattle.program.proofs.Keeping.{nothing-read-twice, remembers-twice, still-remembers, print-keeps, print-on, print-last}
 use Rattle.laws.specs.Choice.{cond}
 use Rattle.program.proofs.piece.print_piece.Statement.{statement}
 use Rattle.program.proofs.piece.print_piece.Tie as tie
 
 abbrev Inv-loop : tie.InvT-loop
 Inv-loop words₀ mode src out₀ turns run₀ words out run =
-    (length words ≡ length words₀) × (length out ≡ length out₀) × (run .stretch .used ≤ length out₀) × (run .stretch .at ≤ turns) × (run .ended ≡ run₀ .ended)
+    (length words ≡ length words₀) × (length out ≡ length out₀) × (run .stretch .used ≤ length out₀) × (run .stretch .at ≤ turns) × ReadsNothing run₀ run × Remembers run₀ run
     × (run₀ .ended ≡ true → run .stretch .at ≡ turns → run .stretch .complete ≡ true) × Keeps mode run₀ src words₀ out₀ run src words out
 
 abbrev μ-loop : tie.MeasureT-loop
@@ -25,59 +25,61 @@ turns-in-requires c κs = search needs
 
 loop-holds : tie.Need-loop-holds Inv-loop μ-loop
 unfolding cond
-loop-holds c = (refl, refl, c .before .before .before .before .pre .1, omega (arith, c .before .before .before .before .pre .2), refl, (λ e at. absurd (omega (arith, c .before .before .before .before .pre .2, at, rw e at (c .turns-in .ensures .0)))), λ h. h)
+loop-holds c = (refl, refl, c .before .before .before .before .pre .1, omega (arith, c .before .before .before .before .pre .2), search needs, search needs, (λ e at. absurd (omega (arith, c .before .before .before .before .pre .2, at, rw e at (c .turns-in .ensures .0)))), λ h. h)
 
 with-room-requires : tie.Need-with-room-requires Inv-loop μ-loop
 with-room-requires c κs =
     let l = c .before .before .before .before .before .loop in
-    let t = c .before .before .before .before .before .before .turns-in in
-    let a = c .before .before .before .before .before .before .before .before .before .before .args in
     let pre = c .before .before .before .before .before .before .before .before .before .before .pre in
     (omega (arith, pre .0, l .inv .1), omega (arith, l .inv .1, l .inv .2))
 
 print-on-requires : tie.Need-print-on-requires Inv-loop μ-loop
 print-on-requires c κs = omega (arith, c .before .before .with-room .ensures .0)
 
-loop-less : tie.Need-loop-less Inv-loop μ-loop
-loop-less c =
-    let l = c .before .before .before .before .before .before .before .before .before .before .before .before .before .loop in
-    let t = c .before .before .before .before .before .before .before .before .before .before .before .before .before .before .turns-in in
-    let a = c .before .before .before .before .before .before .before .before .before .before .before .before .before .before .before .before .before .before .args in
-    let pre = c .before .before .before .before .before .before .before .before .before .before .before .before .before .before .before .before .before .before .pre in
-    let w = c .before .before .before .before .before .before .before .with-room in
-    let p = c .before .before .before .before .print-on in
+-- a stretch comes further and not past the piece's turns, and the last of the file completes it
+further : (c : tie.After-print-on Inv-loop μ-loop)
+    → let l = c .before .before .before .before .before .before .before .before .before .loop in
+    let turns = c .before .before .before .before .before .before .before .before .before .before .turns-in .result in
+    let from = c .before .before .before .before .before .before .before .before .before .before .before .before .before .before .args .from in
+    let next = c .print-on .result .stretch in
+    (l .run .stretch .at < next .at) × (next .at ≤ turns) × (from .ended ≡ true → next .at ≡ turns → next .complete ≡ true)
+further c =
+    let l = c .before .before .before .before .before .before .before .before .before .loop in
+    let t = c .before .before .before .before .before .before .before .before .before .before .turns-in in
+    let a = c .before .before .before .before .before .before .before .before .before .before .before .before .before .before .args in
+    let w = c .before .before .before .with-room in
+    let p = c .print-on in
     let roomy = stretched (w .result .stretch) (l .words) (l .out) in
     let next = stretched (p .result .stretch) (p .last .0) (p .last .1 .1 .1 .1 .0) in
-    let ended = w .ensures .1 .0 .2 ∙ l .inv .4 in
+    let ended = w .ensures .1 .0 .2 .ended ∙ l .inv .4 .ended in
     let turns : t .result ≡ turnsIn (a .src .now) (w .result .ended) = t .ensures .0 ∙ rw ended in
-    let less : roomy .stretch .at < t .result = omega (arith, w .ensures .1 .0 .0, c .before .before .before .before .before .before .before .before .before .if2 .left) in
-    let going : roomy .stretch .complete ≡ false = w .ensures .1 .0 .1 ∙ c .before .before .before .before .before .before .before .before .before .before .before .if1 .left in
+    let less : roomy .stretch .at < t .result = omega (arith, w .ensures .1 .0 .0, c .before .before .before .before .before .if2 .left) in
+    let going : roomy .stretch .complete ≡ false = w .ensures .1 .0 .1 ∙ c .before .before .before .before .before .before .before .if1 .left in
     let on = print-on (a .mode) (a .src .now) (w .result .ended) (t .result) roomy next turns (p .ensures .0) less going (w .ensures .0) in
-    omega (arith, on .0, on .1, w .ensures .1 .0 .0)
+    (omega (arith, on .0, w .ensures .1 .0 .0), on .1, λ e. print-last (a .mode) (a .src .now) (w .result .ended) (t .result) roomy next turns (p .ensures .0) less (ended ∙ e))
+
+loop-less : tie.Need-loop-less Inv-loop μ-loop
+loop-less c =
+    let on = further (c .before .before .before .before) in
+    omega (arith, on .0, on .1)
 
 loop-again : tie.Need-loop-again Inv-loop μ-loop
 loop-again c =
     let l = c .before .before .before .before .before .before .before .before .before .before .before .before .before .loop in
-    let t = c .before .before .before .before .before .before .before .before .before .before .before .before .before .before .turns-in in
     let a = c .before .before .before .before .before .before .before .before .before .before .before .before .before .before .before .before .before .before .args in
-    let pre = c .before .before .before .before .before .before .before .before .before .before .before .before .before .before .before .before .before .before .pre in
     let w = c .before .before .before .before .before .before .before .with-room in
     let p = c .before .before .before .before .print-on in
-    let roomy = stretched (w .result .stretch) (l .words) (l .out) in
-    let next = stretched (p .result .stretch) (p .last .0) (p .last .1 .1 .1 .1 .0) in
-    let ended = w .ensures .1 .0 .2 ∙ l .inv .4 in
-    let turns : t .result ≡ turnsIn (a .src .now) (w .result .ended) = t .ensures .0 ∙ rw ended in
-    let less : roomy .stretch .at < t .result = omega (arith, w .ensures .1 .0 .0, c .before .before .before .before .before .before .before .before .before .if2 .left) in
-    let going : roomy .stretch .complete ≡ false = w .ensures .1 .0 .1 ∙ c .before .before .before .before .before .before .before .before .before .before .before .if1 .left in
-    let on = print-on (a .mode) (a .src .now) (w .result .ended) (t .result) roomy next turns (p .ensures .0) less going (w .ensures .0) in (
+    let on = further (c .before .before .before .before) in
+    let same = p .ensures .1 .0 in (
       p .kept .0 ∙ l .inv .0,
       p .kept .1 .1 .1 .1 .0 ∙ l .inv .1,
       omega (arith, p .ensures .1 .1, l .inv .1),
       on .1,
-      p .ensures .1 .0 .2 ∙ ended,
-      λ e. print-last (a .mode) (a .src .now) (w .result .ended) (t .result) roomy next turns (p .ensures .0) less (ended ∙ e),
-      λ h. print-keeps (a .mode) (w .result) (p .result) (a .src .now) (l .words) (l .out) (p .last .0) (p .last .1 .1 .1 .1 .0) (p .ensures .0) (p .ensures .1 .0 .0) (p .ensures .1 .0 .1) (p .ensures .1 .0 .2)
-          (w .ensures .1 .1 (a .mode) (a .src .now) (l .words) (l .inv .6 h)),
+      nothing-read-twice (l .inv .4) (nothing-read-twice (w .ensures .1 .0 .2) (same .0)),
+      remembers-twice (l .inv .5) (remembers-twice (w .ensures .1 .0 .3) (still-remembers (same .0 .unread) (same .1))),
+      on .2,
+      λ h. print-keeps (a .mode) (w .result) (p .result) (a .src .now) (l .words) (l .out) (p .last .0) (p .last .1 .1 .1 .1 .0) (p .ensures .0) (same .0) (same .1)
+          (w .ensures .1 .1 (a .mode) (a .src .now) (l .words) (l .inv .7 h)),
     )
 
 same-length : tie.Need-same-length Inv-loop μ-loop
@@ -89,10 +91,7 @@ same-length-2 c = search needs
 returns : tie.Need-returns Inv-loop μ-loop
 returns c =
     let l = c .before .before .loop in
-    let t = c .before .before .before .turns-in in
-    let a = c .before .before .before .before .before .before .before .args in
-    let pre = c .before .before .before .before .before .before .before .pre in
-    (l .inv .2, ((λ e. absurd (false≢true (sym e ∙ c .if1 .taken)), λ e. c .if1 .taken, l .inv .4), l .inv .6))
+    (l .inv .2, ((λ e. absurd (false≢true (sym e ∙ c .if1 .taken)), λ e. c .if1 .taken), ((l .inv .4, l .inv .5), l .inv .7)))
 
 same-length-3 : tie.Need-same-length-3 Inv-loop μ-loop
 same-length-3 c = search needs
@@ -104,10 +103,8 @@ returns-2 : tie.Need-returns-2 Inv-loop μ-loop
 returns-2 c =
     let l = c .before .before .before .before .loop in
     let t = c .before .before .before .before .before .turns-in in
-    let a = c .before .before .before .before .before .before .before .before .before .args in
-    let pre = c .before .before .before .before .before .before .before .before .before .pre in
     let all : l .run .stretch .at ≡ t .result = omega (arith, l .inv .3, c .if2 .taken) in
-    (l .inv .2, ((λ e. all ∙ t .ensures .0, λ e. l .inv .5 e all, l .inv .4), l .inv .6))
+    (l .inv .2, ((λ e. all ∙ t .ensures .0, λ e. l .inv .6 e all), ((l .inv .4, l .inv .5), l .inv .7)))
 
 pub print-piece-spec : {M : Type 1} → statement M
 print-piece-spec =

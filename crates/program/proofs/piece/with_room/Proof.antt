@@ -22,7 +22,7 @@ returns-2 c =
     let a = c .before .before .before .before .before .args in
     let pre = c .before .before .before .before .before .pre in
     let f = c .flush .ensures in
-    (rw (f .stretch) (omega (arith, pre)), ((ap (λ (s : Stretch). s .at) (f .stretch), ap (λ (s : Stretch). s .complete) (f .stretch), f .ended), λ m piece ws. flush-keeps (a .run) (c .flush .result) (a .out .now) f (pre .1) m piece ws))
+    (rw (f .stretch) (omega (arith, pre)), ((ap (λ (s : Stretch). s .at) (f .stretch), ap (λ (s : Stretch). s .complete) (f .stretch), f .reading, f .remembers), λ m piece ws. flush-keeps (a .run) (c .flush .result) (a .out .now) f (pre .1) m piece ws))
 
 pub with-room-spec : {M : Type 1} → statement M
 with-room-spec = tie.close (tie.spec sub-if1 returns flush-requires returns-2)

@@ -7,7 +7,7 @@ use lib.ListN.{length, take}
 use lib.Seq.{length-take-le}
 use Rattle.laws.specs.Choice.{cond}
 use Rattle.pieces.specs.declared.stretch.Stretch.{Stretch}
-use Rattle.program.proofs.Keeping.{unread-keeps, left-fed, last-left, carry-keeps}
+use Rattle.program.proofs.Keeping.{remembers-twice, still-remembers, piece-counts, unfed-keeps, left-fed, last-left, carry-keeps}
 use borrow.Author.Needs.{needs}
 use Rattle.program.proofs.run.print_some.Statement.{statement}
 use Rattle.program.proofs.run.print_some.Tie as tie
@@ -16,7 +16,7 @@ read-on-requires : tie.Need-read-on-requires
 read-on-requires c κs = search needs
 
 unread-requires : tie.Need-unread-requires
-unread-requires c κs = search needs
+unread-requires c κs = c .before .before .before .read-on .ensures .1 (c .if1 .taken)
 
 same-length : tie.Need-same-length
 same-length c = search needs
@@ -27,8 +27,14 @@ returns c =
     let pre = c .before .before .before .before .before .before .before .before .before .pre in
     let r = c .before .before .before .before .read-on in
     let u = c .unread .ensures in (
-      (rw (u .0) (pre .0 .1), λ e. (rw (u .0) (pre .0 .2), rw (u .1) (pre .1 .0))),
-      ((λ e. absurd (false≢true (sym (pre .1 .1) ∙ (sym (u .4) ∙ e)))), λ h. unread-keeps (a .run) (c .unread .result) (a .src .now) (r .last .0) (a .words .now) (a .out .now) (u .0) (u .1) (u .2) (u .3) (u .4) (r .ensures .2) (a .mode) h),
+      (rw (u .reading .stretch) (pre .0 .1), λ e. (rw (u .reading .stretch) (pre .0 .2), rw (u .reading .carried) (pre .1 .0))),
+      (
+        (λ e. absurd (false≢true (sym (pre .1 .1) ∙ (sym (u .ended) ∙ e)))),
+        (
+          (λ h. unfed-keeps (a .run) (c .unread .result) (a .src .now) (r .last .0) (a .words .now) (a .out .now) (r .result) u (r .ensures .0 .2) (a .mode) h),
+          (u .reading .reads ∙ r .ensures .0 .3, record { unread = λ e. u .unread; unwritten = λ e. u .reading .writing .unwritten ∙ e }),
+        ),
+      ),
     )
 
 fed-requires : tie.Need-fed-requires
@@ -42,7 +48,7 @@ slice-aggregate-print-piece c =
     let a = c .before .before .before .before .before .before .before .before .before .before .before .args in
     let pre = c .before .before .before .before .before .before .before .before .before .before .before .pre in
     let r = c .before .before .before .before .before .before .read-on in
-    sym (length-take-le (r .result .end) (r .last .0) (omega (arith, r .ensures .1, r .kept .0)))
+    sym (length-take-le (r .result .end) (r .last .0) (omega (arith, r .ensures .0 .1, r .kept .0)))
 
 print-piece-requires : tie.Need-print-piece-requires
 print-piece-requires c κs =
@@ -50,7 +56,7 @@ print-piece-requires c κs =
     let pre = c .before .before .before .before .before .before .before .before .before .before .before .before .pre in
     let r = c .before .before .before .before .before .before .before .read-on in
     let f = c .before .before .before .fed .ensures in
-    (pre .0 .0, rw (f .stretch) (pre .0 .1), rw (f .stretch) (pre .0 .2))
+    (pre .0 .0, rw (f .reading .stretch) (pre .0 .1), rw (f .reading .stretch) (pre .0 .2))
 
 same-length-2 : tie.Need-same-length-2
 same-length-2 c = search needs
@@ -68,14 +74,24 @@ returns-2 c =
     let r = c .before .before .before .before .before .before .before .before .before .before .before .before .before .read-on in
     let f = c .before .before .before .before .before .before .before .before .before .fed in
     let p = c .before .before .before .before .before .print-piece in
-    let fits : r .result .end ≤ length (r .last .0) = omega (arith, r .ensures .1, r .kept .0) in
+    let fits : r .result .end ≤ length (r .last .0) = omega (arith, r .ensures .0 .1, r .kept .0) in
     let last = c .if2 .taken in (
       (p .ensures .0, λ e. absurd (false≢true (sym e ∙ last))),
-      ((λ e. p .ensures .1 .0 .1 (sym (p .ensures .1 .0 .2) ∙ last)), λ h. last-left (p .result) (r .last .0) (take (r .result .end) (r .last .0)) (p .last .0) (p .last .1 .1 .1 .1 .0) last (a .mode) (p .ensures .1 .1 (left-fed (a .run) (f .result) (a .src .now) (r .last .0) (a .words .now) (a .out .now) (r .result .end) (f .ensures) (pre .1 .1) (r .ensures .0) fits (r .ensures .2) (a .mode) h))),
+      (
+        (λ e. p .ensures .1 .0 .1 (sym (p .ensures .1 .1 .0 .0 .ended) ∙ last)),
+        (
+          (λ h.
+              last-left (p .result) (r .last .0) (take (r .result .end) (r .last .0)) (p .last .0) (p .last .1 .1 .1 .1 .0) last (a .mode)
+              (p .ensures .1 .1 .1 (left-fed (a .run) (f .result) (a .src .now) (r .last .0) (a .words .now) (a .out .now) (r .result) (f .ensures) (pre .1 .1) (r .ensures .0 .0) fits (r .ensures .0 .2) (a .mode) h))),
+          piece-counts (r .ensures .0 .3) (f .ensures) (p .ensures .1 .1 .0 .0) (p .ensures .1 .1 .0 .1),
+        ),
+      ),
     )
 
 carry-requires : tie.Need-carry-requires
-carry-requires c κs = search needs
+carry-requires c κs =
+    let r = c .before .before .before .before .before .before .before .before .before .before .before .before .before .before .read-on in
+    omega (arith, r .ensures .0 .1, r .kept .0)
 
 next-piece-requires : tie.Need-next-piece-requires
 next-piece-requires c κs = search needs
@@ -101,18 +117,22 @@ returns-3 c =
     let r = c .before .before .before .before .before .before .before .before .before .before .before .before .before .before .before .before .before .before .read-on in
     let f = c .before .before .before .before .before .before .before .before .before .before .before .before .before .before .fed in
     let p = c .before .before .before .before .before .before .before .before .before .before .print-piece in
-    let fits : r .result .end ≤ length (r .last .0) = omega (arith, r .ensures .1, r .kept .0) in
+    let fits : r .result .end ≤ length (r .last .0) = omega (arith, r .ensures .0 .1, r .kept .0) in
     let y = c .before .before .before .carry in
     let n = c .next-piece .ensures in
     let going = c .before .before .before .before .before .if2 .left in
-    let here : f .result .ended ≡ false = sym (p .ensures .1 .0 .2) ∙ going in
+    let here : f .result .ended ≡ false = sym (p .ensures .1 .1 .0 .0 .ended) ∙ going in
+    let counted = piece-counts (r .ensures .0 .3) (f .ensures) (p .ensures .1 .1 .0 .0) (p .ensures .1 .1 .0 .1) in
     let all : p .result .stretch .complete ≡ false → p .result .stretch .at ≡ length (take (r .result .end) (r .last .0)) / 4 = λ e. p .ensures .1 .0 .0 e ∙ rw here in (
-      (rw (n .0) (p .ensures .0), λ e. (ap (λ (s : Stretch). s .at) (n .0), rw (n .1) (omega (arith, y .ensures .0, r .ensures .1)))),
+      (rw (n .0) (p .ensures .0), λ e. (ap (λ (s : Stretch). s .at) (n .0), rw (n .1) (omega (arith, y .ensures .0, r .ensures .0 .1)))),
       (
-        (λ e. absurd (false≢true (sym going ∙ (sym (n .4) ∙ e)))),
-        λ h.
-            carry-keeps (p .result) (c .next-piece .result) (r .last .0) (y .last .0) (p .last .0) (p .last .1 .1 .1 .1 .0) (r .result .end) fits going all (y .ensures .1) (n .0) (n .2) (n .3) (n .4) (n .1 ∙ y .ensures .0) (a .mode)
-            (p .ensures .1 .1 (left-fed (a .run) (f .result) (a .src .now) (r .last .0) (a .words .now) (a .out .now) (r .result .end) (f .ensures) (pre .1 .1) (r .ensures .0) fits (r .ensures .2) (a .mode) h)),
+        (λ e. absurd (false≢true (sym going ∙ (sym (n .2 .ended) ∙ e)))),
+        (
+          (λ h.
+              carry-keeps (p .result) (c .next-piece .result) (r .last .0) (y .last .0) (p .last .0) (p .last .1 .1 .1 .1 .0) (r .result .end) fits going all (y .ensures .1) (n .0) (n .2) (n .3) (n .1 ∙ y .ensures .0) (a .mode)
+              (p .ensures .1 .1 .1 (left-fed (a .run) (f .result) (a .src .now) (r .last .0) (a .words .now) (a .out .now) (r .result) (f .ensures) (pre .1 .1) (r .ensures .0 .0) fits (r .ensures .0 .2) (a .mode) h))),
+          (n .2 .reads ∙ counted .0, remembers-twice (counted .1) (still-remembers (n .2 .unread) (n .3))),
+        ),
       ),
     )
 
