@@ -63,7 +63,7 @@ print-some-requires : tie.Need-print-some-requires Inv-loop μ-loop
 print-some-requires c κs =
     let l = c .before .before .before .before .before .before .before .loop in
     let going = over-going (l .run) (sym (c .before .before .before .before .is-over .ensures) ∙ c .before .before .before .if2 .left) in
-    ((omega (arith, l .inv .2), omega (arith, l .inv .2, l .inv .3), l .inv .4 going .0), (omega (arith, l .inv .1, l .inv .4 going .1), going, c .before .before .before .before .before .if1 .taken))
+    ((omega (arith, l .inv .2), omega (arith, l .inv .2, l .inv .3), l .inv .4 going .0), (omega (arith, l .inv .1, l .inv .4 going .1), going, omega (arith, c .before .before .before .before .before .if1 .taken)))
 
 loop-less : tie.Need-loop-less Inv-loop μ-loop
 loop-less c = omega (arith, c .before .before .before .print-some .ensures .1 .1 .1 .0, c .before .before .before .before .before .before .before .before .before .if1 .taken)
