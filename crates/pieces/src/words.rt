@@ -10,8 +10,11 @@ use lines::closing_text;
 use lines::entry_text;
 use lines::summary_text;
 use printing::Mode;
+use printing::Output;
 use printing::Printed;
+use printing::Printer;
 use printing::ends;
+use printing::print_end;
 use printing::turn_of;
 ghost use mathlib.Core.Path.{_≡_};
 ghost use Prim.Native.Nat.{_+_, _<_, _≤_, _^_};
@@ -20,6 +23,7 @@ ghost use Rattle.lines.specs.Area.{lineBytes};
 ghost use Rattle.lines.specs.Lines.{lineOf, numbersOf, closingOf};
 ghost use Rattle.lines.specs.Summary.{summaryBytes, summaryText};
 ghost use Rattle.printing.specs.Printings.{printedText};
+ghost use Rattle.printing.specs.Outputs.{shown};
 ghost use Rattle.pieces.specs.Stretch.{turnBytes, putAt, stretched, stretchTurn, stretchOf};
 
 // Puts a text into the output at `used`; where it ends.
@@ -59,7 +63,7 @@ fn append_summary(out: &mut [u8], used: usize, s: Summary) -> usize
     append(out, used, summary_text(&mut area, s))
 }
 
-// Puts what a turn prints into the output at `used`; where it ends.
+// Puts what is printed into the output at `used`; where it ends.
 fn append_printed(out: &mut [u8], used: usize, printed: Printed) -> usize
     requires { ⌜ used + turnBytes ≤ length (now out) ⌝ }
     ensures { λ r. ⌜ (r ≡ used + length (printedText printed)) × (now (out .exit) ≡ putAt (now (out .entry)) used (printedText printed)) × (r ≤ length (now (out .entry))) ⌝ }
@@ -73,6 +77,29 @@ fn append_printed(out: &mut [u8], used: usize, printed: Printed) -> usize
     }
 }
 
+// Puts what a turn prints there: at the file's end that is made here, from what the printer counted.
+fn append_output(
+    words: &[u32],
+    mode: Mode,
+    p: Printer,
+    out: &mut [u8],
+    used: usize,
+    x: Output,
+) -> usize
+    requires { ⌜ used + turnBytes ≤ length (now out) ⌝ }
+    ensures { λ r. ⌜ (r ≡ used + length (printedText (shown mode (now (words .entry)) p x))) × (now (out .exit) ≡ putAt (now (out .entry)) used (printedText (shown mode (now (words .entry)) p x))) × (r ≤ length (now (out .entry))) ⌝ }
+{
+    match x {
+        Output::Quiet => used,
+        Output::Line(e) => append_entry(out, used, e),
+        Output::Last(e) => append_entry(out, used, e),
+        Output::End(fault) => {
+            let tally = p.tally;
+            append_printed(out, used, print_end(words, mode, tally, p.position, fault))
+        }
+    }
+}
+
 // One turn.
 fn turn(words: &mut [u32], mode: Mode, s: Stretch, src: &[u8], out: &mut [u8]) -> Stretch
     requires { ⌜ s .at < 2 ^ 63 ⌝ }
@@ -82,14 +109,14 @@ fn turn(words: &mut [u32], mode: Mode, s: Stretch, src: &[u8], out: &mut [u8]) -
 {
     let printer = s.printer;
     let t = turn_of(words, mode, printer, src, s.at);
-    let printed = t.printed;
+    let output = t.output;
     let next = t.printer;
-    let used = append_printed(out, s.used, printed);
+    let used = append_output(words, mode, next, out, s.used, output);
     Stretch {
         printer: next,
         at: s.at + 1,
         used,
-        complete: ends(printed),
+        complete: ends(output),
     }
 }
 

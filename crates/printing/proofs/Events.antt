@@ -39,12 +39,11 @@ use Rattle.runfile.specs.Faults.{faultOf}
 use Rattle.runfile.specs.declared.word.Read.{Read}
 use Rattle.runfile.specs.declared.word.Read.the-variants.{Word, Cut, End as NoMore}
 use Rattle.runfile.specs.declared.item.Place.the-variants.{First, Second, Later, Past}
-use Rattle.runfile.specs.declared.item.Item.{Item as Said}
+use Rattle.runfile.specs.declared.item.Item.{Item as Saying}
 use Rattle.runfile.specs.declared.item.Item.the-variants.{Open, Make, BeginPut, BeginTake, Step, End, Bad}
 use Rattle.runfile.specs.declared.item.Place.{Place}
-use Rattle.replay.specs.Replay.{Asked, nothing, making, calling, askedOf, outOf, itemNext, nextOf, Happened, goesOn, nextPlace, replayFrom, replayOf, lent, faultIn}
+use Rattle.replay.specs.Replay.{Asked, nothing, making, calling, askedOf, outOf, itemNext, nextOf, Happened, goesOn, nextPlace, replayFrom, replayOf, lent, faultIn, Next}
 use Rattle.replay.specs.Files.{poolIn, withCall, eventsIn, callsIn, wordsIn, RunsOn, RunsOnPool}
-use Rattle.replay.specs.declared.event.Next.{Next}
 use Rattle.replay.proofs.Files.{files-are-runs}
 use Rattle.printing.specs.Tally.{noTally, boundIn, boundAfter, tallyAfter}
 use Rattle.printing.specs.Quotes.{tallyOver}
@@ -137,7 +136,7 @@ run-close most e ws (c ∷ cs) h =
 
 -- ---- the bound
 -- no word after the pool's changes it
-bound-late : (bound : ℕ) (item : Said) (a : Answer) → Late (askedOf item) a → boundAfter bound item ≡ bound
+bound-late : (bound : ℕ) (item : Saying) (a : Answer) → Late (askedOf item) a → boundAfter bound item ≡ bound
 bound-late bound (Open opening) a h = refl
 bound-late bound (Make g) a h = absurd h
 bound-late bound (BeginPut worker value) a h = refl
@@ -320,7 +319,7 @@ make-number ws g =
     let Low : Out → Type 0 = λ o. numberOf (o .answer) ≤ badWord in
     cases Low _ _ _ (λ _. cases Low _ _ _ (λ _. omega arith) (λ _. omega arith)) (λ _. omega arith)
 
-fault-in : (ws : List ℕ) (item : Said) → faultIn item (outOf ws (askedOf item) .answer) ≤ badWord
+fault-in : (ws : List ℕ) (item : Saying) → faultIn item (outOf ws (askedOf item) .answer) ≤ badWord
 unfolding outOf
 fault-in ws (Open opening) = omega arith
 fault-in ws (Make g) = make-number ws (shippedFrom g)

@@ -23,9 +23,8 @@ use Rattle.rules.specs.declared.Answer.{Answer}
 use Rattle.rules.specs.declared.Answer.the-variants.{Moving, Put, Taken, Empty, Full, Refused}
 use Rattle.runfile.specs.Words.{readsOf}
 use Rattle.runfile.specs.declared.item.Place.the-variants.{First}
-use Rattle.replay.specs.Replay.{Asked, nothing, making, calling, askedOf, Happened, replayOf, lent, Ending}
+use Rattle.replay.specs.Replay.{Asked, nothing, making, calling, askedOf, Happened, replayOf, lent, Ending, Event as Happening}
 use Rattle.replay.specs.Files.{withCall, eventsIn}
-use Rattle.replay.specs.declared.event.Event.{Event as Happening}
 use Rattle.replay.proofs.Files.{positions-count}
 use Rattle.lines.specs.declared.line.Entry.{Entry}
 use Rattle.printing.specs.Tally.{noTally, countOn, tallyAfter}

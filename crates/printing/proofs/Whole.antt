@@ -14,10 +14,7 @@ use Rattle.rules.specs.Answers.{numberOf}
 use Rattle.runfile.specs.Words.{wordOf, readsOf, readAt}
 use Rattle.runfile.specs.declared.word.Read.{Read}
 use Rattle.runfile.specs.declared.word.Read.the-variants.{Word}
-use Rattle.replay.specs.Replay.{lent, nextOf, goesOn, nextPlace, replayFrom, replayOf, placeAfter}
-use Rattle.replay.specs.declared.event.Event.{Event}
-use Rattle.replay.specs.declared.event.Next.{Next}
-use Rattle.replay.specs.declared.event.Next.the-variants.{Goes, Ends}
+use Rattle.replay.specs.Replay.{lent, nextOf, goesOn, nextPlace, replayFrom, replayOf, placeAfter, Event, Next, goes, ends}
 use Rattle.printing.specs.Tally.{isRefused, countOn, wrapOn, tallyAfter, tallied}
 use Rattle.printing.specs.Printings.{listedEnd, eventPrinted, endPrinted, endsWith}
 use Rattle.printing.specs.Print.{printThen, printFrom, printedOf}
@@ -41,7 +38,7 @@ pub record Few (t : Tally) (n : ℕ) : Type 0 where
 on-same : (x n : ℕ) (b : Bool) → x ≤ n → n + 1 < 2 ^ 64 → wrapOn x b ≡ countOn x b
 unfolding cond
 on-same x n true h few = mod-eq-of-lt (omega arith)
-on-same x n false h few = mod-eq-of-lt (omega arith)
+on-same x n false h few = omega arith
 
 on-few : (x n : ℕ) (b : Bool) → x ≤ n → countOn x b ≤ n + 1
 unfolding cond
@@ -89,13 +86,13 @@ module _ (m : Mode) (n : ℕ) (rest : List ℕ)
       → printThen ((turnBy m ws p next) .printed) (turnsFrom m n rest 0 ws ((turnBy m ws p next) .printer))
       ≡ (let r = goesOn (p .position) next ws (replayFrom (nextPlace next) (p .position + 1) ws (readsOf rest)) in printFrom m (p .tally) (r .events) (r .end))
   unfolding turnBy printFrom
-  next-prints (Goes e) ws =
+  next-prints (goes e) ws =
       let t = tallyAfter (p .tally) e in
       let same : tallied (p .tally) e ≡ t = tally-same (p .tally) e (p .position) counts (omega arith) in
       let next : (p .position + 1) % 2 ^ 64 ≡ p .position + 1 = mod-eq-of-lt (omega arith) in
       let p′ : Printer = record { place = placeAfter (e .item) (e .answer); position = p .position + 1; tally = t } in
       rw (same, next) (ap (printThen (eventPrinted m t e)) (ih ws p′ (omega arith) (tally-few (p .tally) e (p .position) counts)))
-  next-prints (Ends fault) ws = end-last (endPrinted m (p .tally) (p .position) fault ws) _ (end-ends m (p .tally) (p .position) fault ws)
+  next-prints (ends fault) ws = end-last (endPrinted m (p .tally) (p .position) fault ws) _ (end-ends m (p .tally) (p .position) fault ws)
 
 -- ---- a file
 -- four bytes in front are one word

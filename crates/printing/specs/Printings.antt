@@ -16,7 +16,7 @@ use Rattle.rules.specs.declared.Answer.{Answer}
 use Rattle.rules.specs.declared.Answer.the-variants.{Moving, Put, Taken, Empty, Full, Refused}
 use Rattle.runfile.specs.declared.item.Item.{Item}
 use Rattle.runfile.specs.declared.item.Item.the-variants.{Open, Make, BeginPut, BeginTake, Step, End, Bad}
-use Rattle.replay.specs.declared.event.Event.{Event}
+use Rattle.replay.specs.Replay.{Event}
 use Rattle.lines.specs.Lines.{lineOf, numbersOf, closingOf}
 use Rattle.lines.specs.Summary.{summaryText}
 use Rattle.lines.specs.declared.line.Entry.{Entry}

@@ -11,11 +11,15 @@ use Rattle.rules.specs.declared.Settings.{Settings}
 use Rattle.rules.specs.declared.Answer.{Answer}
 use Rattle.runfile.specs.declared.item.Item.{Item}
 use Rattle.runfile.specs.declared.item.Item.the-variants.{Open, Make, BeginPut, BeginTake, Step, End, Bad}
-use Rattle.replay.specs.declared.event.Event.{Event}
+use Rattle.replay.specs.Replay.{Event}
 use Rattle.printing.specs.declared.tally.Tally.{Tally}
 
 abbrev pub noTally : Tally
 noTally = record { puts = 0; takes = 0; empties = 0; fulls = 0; refused = 0; worst = 0; bound = 0 }
+
+-- a tally with another bound
+abbrev pub withBound : Tally → ℕ → Tally
+withBound t bound = record { puts = t .puts; takes = t .takes; empties = t .empties; fulls = t .fulls; refused = t .refused; worst = t .worst; bound = bound }
 
 -- demand 3's bound, in a pool of some settings; none is made of settings off limits
 unfoldable pub boundIn : Settings → ℕ
@@ -57,7 +61,7 @@ tallyAfter t e = tallyBy countOn t e
 
 -- modulo 2^64, as the code counts
 abbrev pub wrapOn : ℕ → Bool → ℕ
-wrapOn x b = (x + cond b 1 0) % 2 ^ 64
+wrapOn x b = cond b ((x + 1) % 2 ^ 64) x
 
 unfoldable pub tallied : Tally → Event → Tally
 tallied t e = tallyBy wrapOn t e

@@ -4,36 +4,45 @@ use Prim.Native.Nat.{ℕ, _+_, _%_, _^_}
 use mathlib.Core.List.{List}
 use Rattle.runfile.specs.declared.word.Read.{Read}
 use Rattle.runfile.specs.declared.item.Place.the-variants.{First}
-use Rattle.replay.specs.Replay.{nextOf, placeAfter}
-use Rattle.replay.specs.declared.event.Next.{Next}
-use Rattle.replay.specs.declared.event.Next.the-variants.{Goes, Ends}
+use Rattle.replay.specs.Replay.{nextOf, placeAfter, Next, goes, ends}
 use Rattle.printing.specs.Tally.{noTally, tallied}
 use Rattle.printing.specs.Printings.{eventPrinted, endPrinted}
+use Rattle.printing.specs.Outputs.{shown}
 use Rattle.printing.specs.declared.printed.Mode.{Mode}
+use Rattle.printing.specs.declared.printed.Printed.{Printed}
 use Rattle.printing.specs.declared.turn.Printer.{Printer}
 use Rattle.printing.specs.declared.turn.Turn.{Turn}
 
 abbrev pub newPrinter : Printer
 newPrinter = record { place = First; position = 0; tally = noTally }
 
--- a turn, and the pool's words after it
+-- what is printed, and where the program is then
+pub record Printing : Type 0 where
+  pub printer : Printer
+  pub printed : Printed
+
+-- that, and the pool's words
 pub record Turned : Type 0 where
-  pub turn : Turn
+  pub turn : Printing
   pub words : List ℕ
 
-abbrev pub turned : Turn → List ℕ → Turned
-turned t ws = record { turn = t; words = ws }
+-- the code's turn, with the pool's words after it
+abbrev pub printing : Mode → Turn → List ℕ → Printing
+printing m t ws = record { printer = t .printer; printed = shown m ws (t .printer) (t .output) }
 
-unfoldable pub turnBy : Mode → List ℕ → Printer → Next → Turn
-turnBy m ws p (Goes e) =
+abbrev pub turned : Mode → Turn → List ℕ → Turned
+turned m t ws = record { turn = printing m t ws; words = ws }
+
+unfoldable pub turnBy : Mode → List ℕ → Printer → Next → Printing
+turnBy m ws p (goes e) =
     let t = tallied (p .tally) e in
     record {
       printer = record { place = placeAfter (e .item) (e .answer); position = (p .position + 1) % 2 ^ 64; tally = t };
       printed = eventPrinted m t e;
     }
-turnBy m ws p (Ends fault) = record { printer = p; printed = endPrinted m (p .tally) (p .position) fault ws }
+turnBy m ws p (ends fault) = record { printer = p; printed = endPrinted m (p .tally) (p .position) fault ws }
 
 unfoldable pub turnOf : Mode → List ℕ → Printer → Read → Turned
 turnOf m ws p read =
     let r = nextOf ws (p .place) (p .position) read in
-    turned (turnBy m (r .words) p (r .next)) (r .words)
+    record { turn = turnBy m (r .words) p (r .next); words = r .words }

@@ -5,7 +5,9 @@ mod printed;
 mod tally;
 mod turn;
 
+pub use end::print_end;
 pub use printed::Mode;
+pub use printed::Output;
 pub use printed::Printed;
 pub use printed::ends;
 pub use tally::Tally;

@@ -1,16 +1,20 @@
 // What is printed of an event.
 use crate::tally::Tally;
-use crate::tally::distance_in;
 use lines::Entry;
 use lines::Summary;
-use replay::Event;
+use replay::Done;
+use replay::Said;
 use rules::Answer;
 use rules::Row;
 use rules::Stamp;
 use rules::numbers::OVER_BOUND;
-use runfile::item::Item;
 ghost use mathlib.Core.Path.{_≡_};
-ghost use Rattle.printing.specs.Printings.{workerIn, plain, itemEntry, answerPrinted, listedOf, eventPrinted, endsWith};
+ghost use lib.Dec.{ltb};
+ghost use Rattle.laws.specs.Choice.{cond};
+ghost use Rattle.rules.specs.Answers.{overBound};
+ghost use Rattle.replay.specs.Told.{itemSaid, eventDone};
+ghost use Rattle.printing.specs.Printings.{workerIn, plain, itemEntry, listedOf, eventPrinted};
+ghost use Rattle.printing.specs.Outputs.{Outputs, stopsAfter};
 
 // Which program prints: the lister, or the summary.
 pub enum Mode {
@@ -27,31 +31,35 @@ pub enum Printed {
     Totals(Summary),
 }
 
-// Whether a program stops after what is printed.
-pub fn ends(x: Printed) -> bool
-    ensures { λ r. ⌜ r ≡ endsWith x ⌝ }
+// What is handed on of a word: the line of an event, or the fault that ends the file (0: none).
+pub enum Output {
+    Quiet,
+    Line(Entry),
+    Last(Entry),
+    End(u32),
+}
+
+// Whether a program stops after an output.
+pub fn ends(x: Output) -> bool
+    ensures { λ r. ⌜ r ≡ stopsAfter x ⌝ }
 {
     match x {
-        Printed::Nothing => false,
-        Printed::Line(_) => false,
-        Printed::Last(_) => true,
-        Printed::Closing { held: _, worst: _ } => true,
-        Printed::Totals(_) => true,
+        Output::Quiet => false,
+        Output::Line(_) => false,
+        Output::Last(_) => true,
+        Output::End(_) => true,
     }
 }
 
 // The worker that a word names.
-fn worker_in(item: Item) -> u8
-    ensures { λ r. ⌜ r ≡ workerIn item ⌝ }
+fn worker_in(said: Said) -> u8
+    ensures { λ r. ⌜ r ≡ workerIn (itemSaid said) ⌝ }
 {
-    match item {
-        Item::Open(_) => 0,
-        Item::Make(_) => 0,
-        Item::BeginPut { worker, value: _ } => worker,
-        Item::BeginTake { worker } => worker,
-        Item::Step { worker } => worker,
-        Item::End => 0,
-        Item::Bad => 0,
+    match said {
+        Said::BeginPut { worker, value: _ } => worker,
+        Said::BeginTake { worker } => worker,
+        Said::Step { worker } => worker,
+        Said::End => 0,
     }
 }
 
@@ -81,10 +89,10 @@ fn item_line(
     row: Row,
     stamp: Stamp,
     distance: u32,
-) -> Printed
-    ensures { λ r. ⌜ r ≡ Printed.Line (itemEntry position number worker value sub row stamp distance) ⌝ }
+) -> Output
+    ensures { λ r. ⌜ r ≡ Output.Line (itemEntry position number worker value sub row stamp distance) ⌝ }
 {
-    Printed::Line(Entry {
+    Output::Line(Entry {
         position,
         number,
         worker,
@@ -96,58 +104,75 @@ fn item_line(
     })
 }
 
-fn plain_line(position: u64, number: u32, worker: u8) -> Printed
-    ensures { λ r. ⌜ r ≡ Printed.Line (plain position number worker) ⌝ }
+// The line of a take: 30 in its place where the distance is above the bound.
+fn taken_line(
+    bound: u32,
+    position: u64,
+    worker: u8,
+    value: u32,
+    sub: u32,
+    row: Row,
+    stamp: Stamp,
+    distance: u32,
+) -> Output
+    ensures { λ r. ⌜ r ≡ cond (ltb bound distance) (Output.Last (plain position overBound worker)) (Output.Line (itemEntry position 2 worker value sub row stamp distance)) ⌝ }
 {
-    let e = plain_entry(position, number, worker);
-    Printed::Line(e)
+    if bound < distance {
+        let last = plain_entry(position, OVER_BOUND, worker);
+        return Output::Last(last);
+    }
+    item_line(position, 2, worker, value, sub, row, stamp, distance)
 }
 
-// The line of an answer; the answer 0 has none.
-fn answered(position: u64, worker: u8, a: Answer) -> Printed
-    ensures { λ r. ⌜ r ≡ answerPrinted position worker a ⌝ }
+fn plain_line(position: u64, number: u32, worker: u8) -> Output
+    ensures { λ r. ⌜ r ≡ Output.Line (plain position number worker) ⌝ }
 {
+    let e = plain_entry(position, number, worker);
+    Output::Line(e)
+}
+
+// What the lister prints of an event. The answer 0, of most words, has no line: it is told first, and asks for nothing else.
+fn listed(bound: u32, d: Done) -> Output
+    ensures { λ r. ⌜ Outputs r (listedOf bound (eventDone d)) ⌝ }
+{
+    let said = d.said;
+    let a = d.answer;
     match a {
-        Answer::Moving => Printed::Nothing,
+        Answer::Moving => Output::Quiet,
         Answer::Put {
             value,
             sub,
             row,
             stamp,
-        } => item_line(position, 1, worker, value, sub, row, stamp, 0),
+        } => item_line(d.position, 1, worker_in(said), value, sub, row, stamp, 0),
         Answer::Taken {
             value,
             sub,
             row,
             stamp,
             distance,
-        } => item_line(position, 2, worker, value, sub, row, stamp, distance),
-        Answer::Empty => plain_line(position, 3, worker),
-        Answer::Full => plain_line(position, 4, worker),
-        Answer::Refused(n) => plain_line(position, n, worker),
+        } => taken_line(
+            bound,
+            d.position,
+            worker_in(said),
+            value,
+            sub,
+            row,
+            stamp,
+            distance,
+        ),
+        Answer::Empty => plain_line(d.position, 3, worker_in(said)),
+        Answer::Full => plain_line(d.position, 4, worker_in(said)),
+        Answer::Refused(n) => plain_line(d.position, n, worker_in(said)),
     }
-}
-
-// What the lister prints of an event: 30 in place of a take whose distance is above the bound.
-fn listed(bound: u32, e: Event) -> Printed
-    ensures { λ r. ⌜ r ≡ listedOf bound e ⌝ }
-{
-    let a = e.answer;
-    let item = e.item;
-    let worker = worker_in(item);
-    if bound < distance_in(a) {
-        let last = plain_entry(e.position, OVER_BOUND, worker);
-        return Printed::Last(last);
-    }
-    answered(e.position, worker, a)
 }
 
 // What a program prints of an event, with a tally that has counted it.
-pub fn print_event(mode: Mode, t: Tally, e: Event) -> Printed
-    ensures { λ r. ⌜ r ≡ eventPrinted mode t e ⌝ }
+pub fn print_event(mode: Mode, t: Tally, d: Done) -> Output
+    ensures { λ r. ⌜ Outputs r (eventPrinted mode t (eventDone d)) ⌝ }
 {
     match mode {
-        Mode::Listing => listed(t.bound, e),
-        Mode::Summing => Printed::Nothing,
+        Mode::Listing => listed(t.bound, d),
+        Mode::Summing => Output::Quiet,
     }
 }

@@ -1,16 +1,16 @@
 // What is counted over the events of a file.
 use fitness::settings_fit;
-use replay::Event;
+use replay::Done;
 use rules::Answer;
 use rules::Settings;
-use runfile::item::Item;
 use step::answers::number;
 ghost use mathlib.Core.Path.{_≡_};
 ghost use Prim.Native.Nat.{max};
 ghost use Rattle.rules.specs.Limits.{Bounds};
 ghost use Rattle.rules.specs.Run.{distanceIn};
 ghost use Rattle.rules.specs.Sequential.{mostPassed};
-ghost use Rattle.printing.specs.Tally.{noTally, boundIn, boundAfter, wrapOn, tallied};
+ghost use Rattle.replay.specs.Told.{eventDone};
+ghost use Rattle.printing.specs.Tally.{noTally, boundIn, wrapOn, tallied};
 
 // How many operations were put, taken, empty and full, how many calls were refused, the greatest distance, and the bound on one.
 pub struct Tally {
@@ -51,30 +51,13 @@ fn most_passed(g: Settings) -> u32
 }
 
 // The bound of a pool that can be made.
-fn bound_in(g: Settings) -> u32
+pub fn bound_in(g: Settings) -> u32
     ensures { λ r. ⌜ r ≡ boundIn g ⌝ }
 {
     if settings_fit(g) { most_passed(g) } else { 0 }
 }
 
-fn bound_after(bound: u32, item: Item) -> u32
-    ensures { λ r. ⌜ r ≡ boundAfter bound item ⌝ }
-{
-    match item {
-        Item::Open(_) => bound,
-        Item::Make(g) => bound_in(g),
-        Item::BeginPut {
-            worker: _,
-            value: _,
-        } => bound,
-        Item::BeginTake { worker: _ } => bound,
-        Item::Step { worker: _ } => bound,
-        Item::End => bound,
-        Item::Bad => bound,
-    }
-}
-
-pub fn distance_in(a: Answer) -> u32
+fn distance_in(a: Answer) -> u32
     ensures { λ r. ⌜ r ≡ distanceIn a ⌝ }
 {
     match a {
@@ -115,11 +98,10 @@ fn on(x: u64, so: bool) -> u64
 }
 
 // The tally with an event.
-pub fn count(t: Tally, e: Event) -> Tally
-    ensures { λ r. ⌜ r ≡ tallied t e ⌝ }
+pub fn count(t: Tally, d: Done) -> Tally
+    ensures { λ r. ⌜ r ≡ tallied t (eventDone d) ⌝ }
 {
-    let a = e.answer;
-    let item = e.item;
+    let a = d.answer;
     let n = number(a);
     let distance = distance_in(a);
     Tally {
@@ -129,6 +111,6 @@ pub fn count(t: Tally, e: Event) -> Tally
         fulls: on(t.fulls, n == 4),
         refused: on(t.refused, 4 < n),
         worst: greater(t.worst, distance),
-        bound: bound_after(t.bound, item),
+        bound: t.bound,
     }
 }

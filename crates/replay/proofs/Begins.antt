@@ -6,7 +6,6 @@ use mathlib.Core.Path.{_≡_, refl}
 use borrow.Author.Tests.{eqb-true}
 use Rattle.laws.specs.Choice.{cond, cases}
 use Rattle.rules.specs.Answers.{numberOf}
-use Rattle.rules.specs.Make.{shippedFrom, makeOf}
 use Rattle.rules.specs.Statement.{All}
 use Rattle.rules.specs.declared.Settings.{Settings}
 use Rattle.rules.specs.declared.Answer.{Answer}
@@ -16,10 +15,9 @@ use Rattle.runfile.specs.declared.word.Read.{Read}
 use Rattle.runfile.specs.declared.word.Read.the-variants.{Word, Cut, End as NoMore}
 use Rattle.runfile.specs.declared.item.Opening.{Opening}
 use Rattle.runfile.specs.declared.item.Place.the-variants.{First, Second, Later, Past}
-use Rattle.runfile.specs.declared.item.Item.{Item as Said}
+use Rattle.runfile.specs.declared.item.Item.{Item as Saying}
 use Rattle.runfile.specs.declared.item.Item.the-variants.{Open, Make, BeginPut, BeginTake, Step, End, Bad}
-use Rattle.replay.specs.Replay.{Asked, nothing, making, calling, askedOf, outOf, itemNext, nextOf, Happened, goesOn, nextPlace, replayFrom, replayOf, lent}
-use Rattle.replay.specs.declared.event.Next.{Next}
+use Rattle.replay.specs.Replay.{Asked, nothing, making, calling, askedOf, outOf, itemNext, nextOf, Happened, goesOn, nextPlace, replayFrom, replayOf, lent, Next}
 
 -- after the pool is made: a call, or a word that asks for nothing, which is answered 0
 abbrev pub Late : Asked → Answer → Type 0
@@ -52,7 +50,7 @@ Begun [] = Unit {0}
 Begun (x ∷ xs) = Opens x × Making xs
 
 -- what an item does, and the rest of the file from the place after it
-abbrev onward : ℕ → List ℕ → List Read → Said → List Happened
+abbrev onward : ℕ → List ℕ → List Read → Saying → List Happened
 onward position ws reads item =
     let r = itemNext ws position item in
     goesOn position (r .next) (r .words) (replayFrom (nextPlace (r .next)) (position + 1) (r .words) reads) .events
@@ -92,7 +90,7 @@ module _ (position : ℕ) (ws : List ℕ) (reads : List Read) where
     word-late : (word : ℕ) → AllLate (onward position ws reads (laterOf word))
     unfolding laterOf
     word-late word =
-        let P : Said → Type 0 = λ item. AllLate (onward position ws reads item) in
+        let P : Saying → Type 0 = λ item. AllLate (onward position ws reads item) in
         let bad : P Bad = bad-none AllLate tt in
         cases P _ _ _ (λ _. put-late _ _)
         (λ _. cases P _ _ _ (λ _. cases P _ _ _ (λ _. take-late _) (λ _. bad))
@@ -111,14 +109,14 @@ module _ (position : ℕ) (ws : List ℕ) (reads : List Read) where
   make-making : (g : Settings) → Making (onward position ws reads (Make g))
   unfolding itemNext outOf
   make-making g =
-      let o = makeOf ws (shippedFrom g) in
-      cases (λ (n : Next). Making (goesOn position n (o .words) (replayFrom (nextPlace n) (position + 1) (o .words) reads) .events)) _ _ _
-      (λ e. (record { settings = g; item = refl; number = eqb-true _ _ e }, later-late (position + 1) (o .words) reads)) (λ _. tt)
+      let ws′ = itemNext ws position (Make g) .words in
+      cases (λ (n : Next). Making (goesOn position n ws′ (replayFrom (nextPlace n) (position + 1) ws′ reads) .events)) _ _ _
+      (λ e. (record { settings = g; item = refl; number = eqb-true _ _ e }, later-late (position + 1) ws′ reads)) (λ _. tt)
 
   word-making : (opening : Opening) (word : ℕ) → Making (onward position ws reads (secondOf opening word))
   unfolding secondOf
   word-making opening word =
-      let P : Said → Type 0 = λ item. Making (onward position ws reads item) in
+      let P : Saying → Type 0 = λ item. Making (onward position ws reads item) in
       let bad : P Bad = bad-none position ws reads Making tt in
       cases P _ _ _ (λ _. cases P _ _ _ (λ _. make-making _) (λ _. bad)) (λ _. bad)
 
@@ -129,24 +127,24 @@ second-making opening position ws (Cut ∷ reads) = tt
 second-making opening position ws (NoMore ∷ reads) = tt
 second-making opening position ws (Word word ∷ reads) = word-making position ws reads opening word
 
-open-begun : (reads : List Read) (opening : Opening) → Begun (onward 0 lent reads (Open opening))
+open-begun : (position : ℕ) (reads : List Read) (opening : Opening) → Begun (onward position lent reads (Open opening))
 unfolding itemNext outOf cond
-open-begun reads opening = (record { opening = opening; item = refl; number = refl; words = refl }, second-making opening 1 lent reads)
+open-begun position reads opening = (record { opening = opening; item = refl; number = refl; words = refl }, second-making opening (position + 1) lent reads)
 
-word-begun : (reads : List Read) (word : ℕ) → Begun (onward 0 lent reads (firstOf word))
+word-begun : (position : ℕ) (reads : List Read) (word : ℕ) → Begun (onward position lent reads (firstOf word))
 unfolding firstOf
-word-begun reads word =
-    let P : Said → Type 0 = λ item. Begun (onward 0 lent reads item) in
-    let bad : P Bad = bad-none 0 lent reads Begun tt in
-    cases P _ _ _ (λ _. cases P _ _ _ (λ _. open-begun reads _) (λ _. bad)) (λ _. bad)
+word-begun position reads word =
+    let P : Saying → Type 0 = λ item. Begun (onward position lent reads item) in
+    let bad : P Bad = bad-none position lent reads Begun tt in
+    cases P _ _ _ (λ _. cases P _ _ _ (λ _. open-begun position reads _) (λ _. bad)) (λ _. bad)
 
-first-begun : (reads : List Read) → Begun (replayFrom First 0 lent reads .events)
+first-begun : (position : ℕ) (reads : List Read) → Begun (replayFrom First position lent reads .events)
 unfolding replayFrom nextOf itemOf
-first-begun [] = tt
-first-begun (Cut ∷ reads) = tt
-first-begun (NoMore ∷ reads) = tt
-first-begun (Word word ∷ reads) = word-begun reads word
+first-begun position [] = tt
+first-begun position (Cut ∷ reads) = tt
+first-begun position (NoMore ∷ reads) = tt
+first-begun position (Word word ∷ reads) = word-begun position reads word
 
 pub file-begins : (bytes : List ℕ) → Begun (replayOf bytes .events)
 unfolding replayOf
-file-begins bytes = first-begun (readsOf bytes)
+file-begins bytes = first-begun _ (readsOf bytes)

@@ -28,8 +28,7 @@ use Rattle.runfile.specs.declared.item.Place.{Place}
 use Rattle.runfile.specs.declared.item.Place.the-variants.{First}
 use Rattle.runfile.specs.declared.item.Item.{Item}
 use Rattle.runfile.specs.declared.item.Item.the-variants.{Open, Make, BeginPut, BeginTake, Step, End, Bad}
-use Rattle.replay.specs.declared.event.Next.the-variants.{Goes, Ends}
-use Rattle.replay.specs.Replay.{Asked, nothing, making, calling, askedOf, outOf, faultIn, answered, event, itemNext, nextOf, Happened, Replay, goesOn, nextPlace, replayFrom, replayOf, lent}
+use Rattle.replay.specs.Replay.{Asked, nothing, making, calling, askedOf, outOf, faultIn, answered, event, itemNext, nextOf, Happened, Replay, goesOn, nextPlace, replayFrom, replayOf, lent, goes, ends}
 use Rattle.replay.specs.Files.{poolIn, withCall, eventsIn, callsIn, wordsIn, RunsOn, RunsOnPool, FilesAreRuns, PositionsCount, RunsGiveFiles}
 use Rattle.replay.proofs.Begins.{Late, AllLate, Making, Begun, file-begins}
 
@@ -44,7 +43,7 @@ Chain position ws (x ∷ xs) =
 -- an event is where a word is no fault
 chain-on : (ws : List ℕ) (position : ℕ) (item : Item) (b : Bool) (rest : Replay) (o : Out) → o ≡ outOf ws (askedOf item)
     → Chain (position + 1) (o .words) (rest .events)
-    → Chain position ws (goesOn position (cond b (Goes (event position item (o .answer))) (Ends (faultIn item (o .answer)))) (o .words) rest .events)
+    → Chain position ws (goesOn position (cond b (goes (event position item (o .answer))) (ends (faultIn item (o .answer)))) (o .words) rest .events)
 unfolding cond
 chain-on ws position item true rest o e h = (ap (λ (x : Out). x .answer) e, ap (λ (x : Out). x .words) e, refl, h)
 chain-on ws position item false rest o e h = tt
@@ -230,7 +229,7 @@ fault-kept ws End e = refl
 fault-kept ws Bad e = refl
 
 ending-on : (b : Bool) (at : ℕ) (ws : List ℕ) (item : Item) (a : Answer) (ws′ : List ℕ) (rest : Replay) → (b ≡ false → ws′ ≡ ws) → EndsAt (at + 1) ws′ rest
-    → EndsAt at ws (goesOn at (cond b (Goes (event at item a)) (Ends (faultIn item a))) ws′ rest)
+    → EndsAt at ws (goesOn at (cond b (goes (event at item a)) (ends (faultIn item a))) ws′ rest)
 unfolding cond wordsIn
 ending-on true at ws item a ws′ rest kept h = let p = h .after in record { after = omega arith; last = h .last }
 ending-on false at ws item a ws′ rest kept h = record { after = omega arith; last = kept refl }

@@ -22,9 +22,6 @@ use Rattle.runfile.specs.declared.item.Place.{Place}
 use Rattle.runfile.specs.declared.item.Place.the-variants.{First, Second, Later, Past}
 use Rattle.runfile.specs.declared.item.Item.{Item}
 use Rattle.runfile.specs.declared.item.Item.the-variants.{Open, Make, BeginPut, BeginTake, Step, End, Bad}
-use Rattle.replay.specs.declared.event.Event.{Event}
-use Rattle.replay.specs.declared.event.Next.{Next}
-use Rattle.replay.specs.declared.event.Next.the-variants.{Goes, Ends}
 
 -- ---- what a word asks for
 -- nothing, that the pool be made, or a call of demand 3's list
@@ -71,7 +68,18 @@ faultIn End a = noFault
 faultIn Bad a = badWord
 
 -- ---- one word
--- how the file goes on, and the pool's words
+-- what a word did: its position, what it says, and the answer to the call that it makes, `Moving` where it makes none
+pub record Event : Type 0 where
+  pub position : ℕ
+  pub item : Item
+  pub answer : Answer
+
+-- how the file goes on: with an event, or it ends, by a fault of this number (0: none)
+pub data Next : Type 0 where
+  goes : Event → Next
+  ends : ℕ → Next
+
+-- that, and the pool's words
 pub record Replayed : Type 0 where
   pub next : Next
   pub words : List ℕ
@@ -84,7 +92,7 @@ event position item a = record { position = position; item = item; answer = a }
 
 -- an item that was answered
 abbrev pub answered : ℕ → Item → Answer → Next
-answered position item a = cond (eqb (faultIn item a) noFault) (Goes (event position item a)) (Ends (faultIn item a))
+answered position item a = cond (eqb (faultIn item a) noFault) (goes (event position item a)) (ends (faultIn item a))
 
 unfoldable pub itemNext : List ℕ → ℕ → Item → Replayed
 itemNext ws position item =
@@ -93,8 +101,8 @@ itemNext ws position item =
 -- what stands at a position, in its place
 unfoldable pub nextOf : List ℕ → Place → ℕ → Read → Replayed
 nextOf ws place position (Word word) = itemNext ws position (itemOf place word)
-nextOf ws place position Cut = replayed (Ends (faultOf place Cut)) ws
-nextOf ws place position NoMore = replayed (Ends (faultOf place NoMore)) ws
+nextOf ws place position Cut = replayed (ends (faultOf place Cut)) ws
+nextOf ws place position NoMore = replayed (ends (faultOf place NoMore)) ws
 
 -- ---- all words
 -- an event, and the pool's words after it
@@ -114,14 +122,14 @@ pub record Replay : Type 0 where
 
 -- a word and the pool's words after it, before the rest of the file
 abbrev pub goesOn : ℕ → Next → List ℕ → Replay → Replay
-goesOn position (Goes e) ws rest =
+goesOn position (goes e) ws rest =
     record { events = record { event = e; words = ws } ∷ rest .events; end = rest .end }
-goesOn position (Ends fault) ws rest = record { events = []; end = record { position = position; fault = fault; words = ws } }
+goesOn position (ends fault) ws rest = record { events = []; end = record { position = position; fault = fault; words = ws } }
 
 -- the place after it; after the end it does not matter
 abbrev pub nextPlace : Next → Place
-nextPlace (Goes e) = placeAfter (e .item) (e .answer)
-nextPlace (Ends fault) = Past
+nextPlace (goes e) = placeAfter (e .item) (e .answer)
+nextPlace (ends fault) = Past
 
 -- what is left of a file, from a place and a position on
 unfoldable pub replayFrom : Place → ℕ → List ℕ → List Read → Replay

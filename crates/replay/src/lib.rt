@@ -2,8 +2,9 @@
 mod event;
 mod word;
 
-pub use event::Event;
-pub use event::Next;
+pub use event::Done;
+pub use event::Said;
+pub use event::Told;
 pub use word::lent_words;
 pub use word::next;
 pub use word::place_after;

@@ -1,5 +1,5 @@
 -- `replay::word::next` meets its contract: the reader yields a word, or what stands there is the end of the file or a piece of a word. Assumes nothing.
-use mathlib.Core.Path.{_≡_, refl, ap, _∙_}
+use mathlib.Core.Path.{_≡_, refl, _∙_}
 use mathlib.Core.List.{List, [], _∷_}
 use Prim.Native.Nat.{ℕ}
 use mathlib.Core.Logic.{⊎-elim}
@@ -11,14 +11,10 @@ use Rattle.runfile.specs.declared.word.Read.{Read}
 use Rattle.runfile.specs.declared.word.Read.the-variants.{Word, Cut, End}
 use Rattle.runfile.specs.declared.item.Place.{Place}
 use Rattle.runfile.proofs.word.Read as R
-use Rattle.replay.specs.declared.event.Next.the-variants.{Ends}
-use Rattle.replay.specs.Replay.{replayed, nextOf}
+use Rattle.replay.specs.Replay.{replayed, nextOf, ends}
 use borrow.Author.Needs.{needs}
 use Rattle.replay.proofs.word.next.Statement.{statement}
 use Rattle.replay.proofs.word.next.Tie as tie
-use Rattle.replay.proofs.word.next_word.Reads as next-word-reads
-use Rattle.runfile.proofs.item.fault.Reads as fault-reads
-use Rattle.runfile.proofs.reader.read_word.Reads as read-word-reads
 
 read-word-requires : tie.Need-read-word-requires
 read-word-requires c κs = search needs
@@ -26,19 +22,22 @@ read-word-requires c κs = search needs
 enum-known-read : tie.Need-enum-known-read
 enum-known-read c = search needs
 
+read-word-requires-2 : tie.Need-read-word-requires-2
+read-word-requires-2 c κs = search needs
+
 fault-requires : tie.Need-fault-requires
 fault-requires c κs = search needs
 
 -- what stands where the reader yields no word
 no-word : (ws : List ℕ) (place : Place) (position : ℕ) (read : Read) → OneOf (1 ∷ 2 ∷ []) (Declared.tagOf R.the-type read)
-    → replayed (Ends (faultOf place read)) ws ≡ nextOf ws place position read
+    → replayed (ends (faultOf place read)) ws ≡ nextOf ws place position read
 unfolding nextOf
 no-word ws place position (Word word) h = absurd (⊎-elim (λ e. omega arith) (λ e. omega arith) h)
 no-word ws place position Cut h = refl
 no-word ws place position End h = refl
 
 returns : tie.Need-returns
-returns c = simp (c .fault .ensures) (no-word _ _ _ (c .before .before .read-word .result) (c .before .match .keys2) ∙ ap (nextOf _ _ _) (c .before .before .read-word .ensures))
+returns c = simp (c .fault .ensures, c .before .read-word2 .ensures, ← c .before .before .before .read-word .ensures) (no-word _ _ _ (c .before .before .before .read-word .result) (c .before .before .match .keys2))
 
 next-word-requires : tie.Need-next-word-requires
 next-word-requires c κs = search needs
@@ -56,6 +55,7 @@ next-spec =
     (tie.spec
     read-word-requires
     enum-known-read
+    read-word-requires-2
     fault-requires
     returns
     next-word-requires

@@ -6,30 +6,21 @@ use Rattle.replay.specs.Replay.{outOf, itemNext}
 use borrow.Author.Needs.{needs}
 use Rattle.replay.proofs.word.next_word.Statement.{statement}
 use Rattle.replay.proofs.word.next_word.Tie as tie
-use Rattle.pool.proofs.begin_put.Reads as begin-put-reads
-use Rattle.pool.proofs.begin_take.Reads as begin-take-reads
-use Rattle.replay.proofs.word.goes.Reads as goes-reads
-use Rattle.replay.proofs.word.make.Reads as make-reads
-use Rattle.runfile.proofs.item.decode.Reads as decode-reads
-use Rattle.step.proofs.step.Reads as step-reads
 
 decode-requires : tie.Need-decode-requires
 decode-requires c κs = search needs
 
-enum-told : tie.Need-enum-told
-enum-told c = search needs
-
-goes-requires : tie.Need-goes-requires
-goes-requires c κs = search needs
-
 enum-known-item : tie.Need-enum-known-item
 enum-known-item c = search needs
+
+enum-known-item-2 : tie.Need-enum-known-item-2
+enum-known-item-2 c = search needs
 
 make-requires : tie.Need-make-requires
 make-requires c κs = search needs
 
-enum-known-item-2 : tie.Need-enum-known-item-2
-enum-known-item-2 c = search needs
+enum-known-item-3 : tie.Need-enum-known-item-3
+enum-known-item-3 c = search needs
 
 cast-begin-put : tie.Need-cast-begin-put
 cast-begin-put c = search needs
@@ -37,11 +28,11 @@ cast-begin-put c = search needs
 begin-put-requires : tie.Need-begin-put-requires
 begin-put-requires c κs = search needs
 
-goes-requires-2 : tie.Need-goes-requires-2
-goes-requires-2 c κs = search needs
+done-requires : tie.Need-done-requires
+done-requires c κs = search needs
 
-enum-known-item-3 : tie.Need-enum-known-item-3
-enum-known-item-3 c = search needs
+enum-known-item-4 : tie.Need-enum-known-item-4
+enum-known-item-4 c = search needs
 
 cast-begin-take : tie.Need-cast-begin-take
 cast-begin-take c = search needs
@@ -49,11 +40,11 @@ cast-begin-take c = search needs
 begin-take-requires : tie.Need-begin-take-requires
 begin-take-requires c κs = search needs
 
-goes-requires-3 : tie.Need-goes-requires-3
-goes-requires-3 c κs = search needs
+done-requires-2 : tie.Need-done-requires-2
+done-requires-2 c κs = search needs
 
-enum-known-item-4 : tie.Need-enum-known-item-4
-enum-known-item-4 c = search needs
+enum-known-item-5 : tie.Need-enum-known-item-5
+enum-known-item-5 c = search needs
 
 cast-step : tie.Need-cast-step
 cast-step c = search needs
@@ -61,81 +52,80 @@ cast-step c = search needs
 step-requires : tie.Need-step-requires
 step-requires c κs = search needs
 
-goes-requires-4 : tie.Need-goes-requires-4
-goes-requires-4 c κs = search needs
+done-requires-3 : tie.Need-done-requires-3
+done-requires-3 c κs = search needs
+
+enum-told : tie.Need-enum-told
+enum-told c = search needs
+
+done-requires-4 : tie.Need-done-requires-4
+done-requires-4 c κs = search needs
 
 enum-told-2 : tie.Need-enum-told-2
 enum-told-2 c = search needs
 
-goes-requires-5 : tie.Need-goes-requires-5
-goes-requires-5 c κs = search needs
-
-enum-told-3 : tie.Need-enum-told-3
-enum-told-3 c = search needs
-
 returns : tie.Need-returns
 unfolding itemNext outOf cond
-returns c = simp (c .goes .ensures, ← c .before .before .before .decode .ensures, c .before .enum-told .given .1)
+returns c = simp (← c .before .before .before .decode .ensures, c .before .item .given .1)
 
 same-length : tie.Need-same-length
 same-length c = search needs
 
 returns-2 : tie.Need-returns-2
-returns-2 c = c .before .before .make .ensures ∙ simp (← c .before .before .before .before .before .before .before .decode .ensures, c .before .before .before .before .before .item .given .1)
+returns-2 c = c .before .before .make .ensures _ ∙ simp (← c .before .before .before .before .before .before .before .decode .ensures, c .before .before .before .before .before .item2 .given .1)
 
 same-length-2 : tie.Need-same-length-2
 same-length-2 c = search needs
 
 returns-3 : tie.Need-returns-3
 unfolding itemNext outOf callOf cond
-returns-3 c = simp (c .goes2 .ensures, ← c .before .before .before .begin-put .ensures, ← c .before .before .before .before .before .before .before .before .decode .ensures, c .before .before .before .before .before .before .item2 .given .1)
+returns-3 c = simp (c .done .ensures, ← c .before .before .before .begin-put .ensures, ← c .before .before .before .before .before .before .before .before .decode .ensures, c .before .before .before .before .before .before .item3 .given .1)
 
 same-length-3 : tie.Need-same-length-3
 same-length-3 c = search needs
 
 returns-4 : tie.Need-returns-4
 unfolding itemNext outOf callOf cond
-returns-4 c = simp (c .goes3 .ensures, ← c .before .before .before .begin-take .ensures, ← c .before .before .before .before .before .before .before .before .decode .ensures, c .before .before .before .before .before .before .item3 .given .1)
+returns-4 c = simp (c .done2 .ensures, ← c .before .before .before .begin-take .ensures, ← c .before .before .before .before .before .before .before .before .decode .ensures, c .before .before .before .before .before .before .item4 .given .1)
 
 same-length-4 : tie.Need-same-length-4
 same-length-4 c = search needs
 
 returns-5 : tie.Need-returns-5
 unfolding itemNext outOf callOf cond
-returns-5 c = simp (c .goes4 .ensures, ← c .before .before .before .step .ensures, ← c .before .before .before .before .before .before .before .before .decode .ensures, c .before .before .before .before .before .before .item4 .given .1)
+returns-5 c = simp (c .done3 .ensures, ← c .before .before .before .step .ensures, ← c .before .before .before .before .before .before .before .before .decode .ensures, c .before .before .before .before .before .before .item5 .given .1)
 
 returns-6 : tie.Need-returns-6
 unfolding itemNext outOf cond
-returns-6 c = simp (c .goes5 .ensures, ← c .before .before .before .decode .ensures, c .before .enum-told2 .given .1)
+returns-6 c = simp (c .done4 .ensures, ← c .before .before .before .decode .ensures, c .before .enum-told .given .1)
 
 returns-7 : tie.Need-returns-7
 unfolding itemNext outOf cond
-returns-7 c = simp (← c .before .before .decode .ensures, c .enum-told3 .given .1)
+returns-7 c = simp (← c .before .before .decode .ensures, c .enum-told2 .given .1)
 
 pub next-word-spec : {M : Type 1} → statement M
 next-word-spec =
     tie.close
     (tie.spec
     decode-requires
-    enum-told
-    goes-requires
     enum-known-item
-    make-requires
     enum-known-item-2
+    make-requires
+    enum-known-item-3
     cast-begin-put
     begin-put-requires
-    goes-requires-2
-    enum-known-item-3
+    done-requires
+    enum-known-item-4
     cast-begin-take
     begin-take-requires
-    goes-requires-3
-    enum-known-item-4
+    done-requires-2
+    enum-known-item-5
     cast-step
     step-requires
-    goes-requires-4
+    done-requires-3
+    enum-told
+    done-requires-4
     enum-told-2
-    goes-requires-5
-    enum-told-3
     returns
     same-length
     returns-2
