@@ -5,7 +5,6 @@ use Rattle.lines.proofs.Summaries.{counts-marks, counts-most}
 use borrow.Author.Needs.{needs}
 use Rattle.lines.proofs.summary.put_counts.Statement.{statement}
 use Rattle.lines.proofs.summary.put_counts.Tie as tie
-use Rattle.lines.proofs.filled.put_filled.Reads as put-filled-reads
 
 cast-t6 : tie.Need-cast-t6
 cast-t6 c = search needs

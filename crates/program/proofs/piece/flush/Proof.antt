@@ -5,8 +5,6 @@ use lib.Seq.{length-take-le}
 use borrow.Author.Needs.{needs}
 use Rattle.program.proofs.piece.flush.Statement.{statement}
 use Rattle.program.proofs.piece.flush.Tie as tie
-use Rattle.io.proofs.write_all.Reads as write-all-reads
-use Rattle.std.proofs.num.wrapping_add_u64.Reads as wrapping-add-u64-reads
 
 slice-aggregate-write-all : tie.Need-slice-aggregate-write-all
 slice-aggregate-write-all c = sym (length-take-le (c .before .before .before .before .args .run .stretch .used) (c .before .before .before .before .args .out .now) (c .before .before .before .before .pre))

@@ -6,7 +6,6 @@ use Rattle.program.proofs.Keeping.{flush-keeps}
 use borrow.Author.Needs.{needs}
 use Rattle.program.proofs.piece.with_room.Statement.{statement}
 use Rattle.program.proofs.piece.with_room.Tie as tie
-use Rattle.program.proofs.piece.flush.Reads as flush-reads
 
 sub-if1 : tie.Need-sub-if1
 sub-if1 c = search needs
