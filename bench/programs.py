@@ -5,10 +5,11 @@
 
 BEFORE and AFTER are programs as `rt check lister` leaves them, target/bin/lister of two revisions. The files, one of a queue and one of a stack, are
 made up from a fixed seed: begins and steps of four workers, with refused calls among them, 10,000,000 words unless told otherwise. For each file and
-program: the least and the median of the processor seconds of so many runs (21), the most memory, and the ratio of the medians. What the two print
-is compared, and a difference is told.
+program: the least and the median of the processor seconds of so many runs (21) and, from a run of its own, the most memory; then the ratios of the two.
+What the two print is compared, and a difference is told.
 """
 import argparse
+import filecmp
 import os
 import random
 import resource
@@ -47,7 +48,17 @@ def seconds(program, path, output):
     with open(path, "rb") as source, open(output, "wb") as sink:
         subprocess.run([program], stdin=source, stdout=sink, check=True)
     after = resource.getrusage(resource.RUSAGE_CHILDREN)
-    return after.ru_utime - before.ru_utime + after.ru_stime - before.ru_stime, after.ru_maxrss
+    return after.ru_utime - before.ru_utime + after.ru_stime - before.ru_stime
+
+
+def kilobytes(program, path):
+    """The most memory, as the system tells it while the program runs: a child's account in getrusage has that of its parent in it."""
+    most = 0
+    with open(path, "rb") as source, subprocess.Popen([program], stdin=source, stdout=subprocess.DEVNULL) as running:
+        while running.poll() is None:
+            with open(f"/proc/{running.pid}/status") as status:
+                most = max([most] + [int(line.split()[1]) for line in status if line.startswith("VmHWM")])
+    return most
 
 
 def main():
@@ -61,17 +72,15 @@ def main():
         for stack, name in enumerate(("queue", "stack")):
             path = os.path.join(work, name)
             run_file(path, options.words, stack)
-            times, most = {0: [], 1: []}, 0
+            times = {0: [], 1: []}
             for turn in range(options.runs):
                 for which in (0, 1) if turn % 2 else (1, 0):
-                    took, memory = seconds(options.programs[which], path, os.path.join(work, f"out{which}"))
-                    times[which].append(took)
-                    most = max(most, memory)
-            with open(os.path.join(work, "out0"), "rb") as a, open(os.path.join(work, "out1"), "rb") as b:
-                same = same and a.read() == b.read()
+                    times[which].append(seconds(options.programs[which], path, os.path.join(work, f"out{which}")))
+            same = same and filecmp.cmp(os.path.join(work, "out0"), os.path.join(work, "out1"), shallow=False)
+            least, median = [min(times[which]) for which in (0, 1)], [statistics.median(times[which]) for which in (0, 1)]
             for which, title in enumerate(("before", "after")):
-                print(f"{name} {title}: least {min(times[which]):.3f} s, median {statistics.median(times[which]):.3f} s")
-            print(f"{name}: ratio of the medians {statistics.median(times[1]) / statistics.median(times[0]):.3f}, at most {most} KB")
+                print(f"{name} {title}: least {least[which]:.3f} s, median {median[which]:.3f} s, {kilobytes(options.programs[which], path)} KB")
+            print(f"{name}: ratio of the least {least[1] / least[0]:.3f}, of the medians {median[1] / median[0]:.3f}")
     if not same:
         sys.exit("the two print different texts")
 
