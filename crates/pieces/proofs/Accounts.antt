@@ -1,6 +1,6 @@
 -- AN ACCOUNT IS KEPT: by the start of a program, by a read, by the end of the input, by a stretch over the piece, by a write of the output, and by the step to
 -- the next piece, which starts with the bytes of the word that this one cuts. Once all is printed and written, it says what the program printed.
-use Prim.Native.Nat.{ℕ, _+_, _*_, _/_, _%_, _^_, _≤_}
+use Prim.Native.Nat.{ℕ, _+_, _*_, _/_, _%_, _^_, _<_, _≤_}
 use mathlib.Core.Bool.{Bool, true, false, false≢true}
 use mathlib.Core.List.{List, [], _++_, append-assoc, append-nil}
 use mathlib.Core.Path.{_≡_, refl, sym, ap, _∙_}
@@ -11,7 +11,7 @@ use Rattle.runfile.specs.Words.{wordBytes}
 use Rattle.replay.specs.Replay.{lent}
 use Rattle.printing.specs.declared.printed.Mode.{Mode}
 use Rattle.pieces.specs.Stretch.{newStretch, Stretched, stretched, stretchOf}
-use Rattle.pieces.specs.Progress.{ToCome}
+use Rattle.pieces.specs.Progress.{ToCome, Progress}
 use Rattle.pieces.specs.Account.{Counts, Account, AllPrinted}
 use Rattle.pieces.proofs.Pieces.{begins, goes, flushed, completes}
 
@@ -52,9 +52,11 @@ reads m read written piece s more a =
           (a .progress (more ++ rest) (λ e. absurd (false≢true e)) (rw (append-assoc (a .bytes) more rest) at few));
     }
 
--- the input has ended
-pub ends : (m : Mode) (read written : ℕ) (piece : List ℕ) (s : Stretched) → Account m read written false piece s → Account m read written true piece s
-ends m read written piece s a =
+-- nothing is read or written: the account is kept where the progress is
+goes-on : (m : Mode) (read written : ℕ) (ended ended′ : Bool) (piece : List ℕ) (s s′ : Stretched) (a : Account m read written ended piece s)
+    → ((more : List ℕ) → (ended′ ≡ true → more ≡ []) → length (a .bytes ++ more) < 2 ^ 64 → Progress m (a .bytes ++ more) (a .words + s′ .stretch .at) (a .text) s′)
+    → Account m read written ended′ piece s′
+goes-on m read written ended ended′ piece s s′ a progress =
     record {
       bytes = a .bytes;
       text = a .text;
@@ -64,33 +66,29 @@ ends m read written piece s a =
       words = a .words;
       front-words = a .front-words;
       front-piece = a .front-piece;
-      progress = λ more none few. a .progress more (λ e. absurd (false≢true e)) few;
+      progress = progress;
     }
+
+-- the input has ended
+pub ends : (m : Mode) (read written : ℕ) (piece : List ℕ) (s : Stretched) → Account m read written false piece s → Account m read written true piece s
+ends m read written piece s a =
+    goes-on m read written false true piece s s a (λ more none few. a .progress more (λ e. absurd (false≢true e)) few)
 
 -- a stretch over the piece
 pub prints : (m : Mode) (read written : ℕ) (ended : Bool) (piece : List ℕ) (s : Stretched) → Account m read written ended piece s
     → Account m read written ended piece (stretchOf m piece ended s)
 prints m read written ended piece s a =
-    record {
-      bytes = a .bytes;
-      text = a .text;
-      bytes-read = a .bytes-read;
-      text-written = a .text-written;
+    goes-on m read written ended ended piece s (stretchOf m piece ended s) a
+    (λ more none few.
+    goes m (a .bytes ++ more) (a .words) piece ended
+    (record {
       front = a .front;
-      words = a .words;
-      front-words = a .front-words;
-      front-piece = a .front-piece;
-      progress = λ more none few.
-          goes m (a .bytes ++ more) (a .words) piece ended
-          (record {
-            front = a .front;
-            behind = more;
-            words = a .front-words;
-            whole = ap (λ (l : List ℕ). l ++ more) (a .front-piece) ∙ append-assoc (a .front) piece more;
-            none = none;
-          })
-          (a .text) s (a .progress more none few);
-    }
+      behind = more;
+      words = a .front-words;
+      whole = ap (λ (l : List ℕ). l ++ more) (a .front-piece) ∙ append-assoc (a .front) piece more;
+      none = none;
+    })
+    (a .text) s (a .progress more none few))
 
 -- what the output holds is written, and the output used anew
 pub writes : (m : Mode) (read written : ℕ) (ended : Bool) (piece : List ℕ) (s : Stretched) → s .stretch .used ≤ length (s .out) → Account m read written ended piece s

@@ -25,6 +25,6 @@ Progress m bytes k written s =
 pub record Piece (bytes : List ℕ) (p : ℕ) (src : List ℕ) (last : Bool) : Type 0 where
   pub front : List ℕ
   pub behind : List ℕ
-  pub words : length front ≡ 4 * p
+  pub words : length front ≡ wordBytes * p
   pub whole : bytes ≡ front ++ (src ++ behind)
   pub none : last ≡ true → behind ≡ []

@@ -77,7 +77,7 @@ fn append_printed(out: &mut [u8], used: usize, printed: Printed) -> usize
     }
 }
 
-// Puts what a turn prints there: at the file's end that is made here, from what the printer counted.
+// Puts what a turn prints there. What is printed of the file's end is made here, from what the printer counted.
 fn append_output(
     words: &[u32],
     mode: Mode,

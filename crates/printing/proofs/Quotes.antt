@@ -5,11 +5,11 @@
 use Prim.Native.Nat.{ℕ, _+_, _≤_, max}
 use mathlib.Core.List.{List, [], _∷_, _++_, map}
 use mathlib.Core.Path.{_≡_, refl, sym, ap, _∙_}
-use mathlib.Core.Bool.{false, false≢true}
+use mathlib.Core.Bool.{Bool, false, false≢true}
 use native.Mathlib.Nat.{zero-max}
 use native.Mathlib.Omega.{arith}
 use borrow.Author.Tests.{le-ltb, ne-eqb, eqb-false}
-use lib.Dec.{eqb}
+use lib.Dec.{eqb, ltb}
 use lib.ListN.{length, length-map, getD}
 use Rattle.laws.specs.Choice.{cond, cases, cond-both, cond-under, cond-false}
 use Rattle.rules.specs.Answers.{numberOf, fieldsOf, badWord}
@@ -30,7 +30,7 @@ use Rattle.lines.specs.declared.line.Entry.{Entry}
 use Rattle.printing.specs.Tally.{noTally, countOn, tallyAfter}
 use Rattle.printing.specs.Printings.{workerIn, answerPrinted, listedOf, listedEnd, eventPrinted, endPrinted, endsWith}
 use Rattle.printing.specs.Print.{printThen, printFrom, printedOf}
-use Rattle.printing.specs.Quotes.{lineWith, linesWith, listed, itemOn, itemsListed, greatest, lastOf, answerLine, tallyOver, endOf, ListsAll, NotOver, NeverOver, DistancesWithin, TakesArePuts, ClosingAddsUp, SummaryCounts}
+use Rattle.printing.specs.Quotes.{lineIf, linesIf, only, listedIf, listed, itemOn, itemsListed, greatest, lastOf, answerLine, tallyOver, endOf, ListsAll, NotOver, NeverOver, DistancesWithin, TakesArePuts, ClosingAddsUp, SummaryCounts}
 use Rattle.printing.specs.declared.tally.Tally.{Tally}
 use Rattle.printing.specs.declared.printed.Mode.the-variants.{Listing, Summing}
 use Rattle.printing.specs.declared.printed.Printed.{Printed}
@@ -52,15 +52,15 @@ entryOf position worker a =
     }
 
 -- every answer but 0 has one, with its number
-one-line : (n position worker : ℕ) (a : Answer) → 1 ≤ n
-    → lineWith n (answerPrinted position worker a) ≡ cond (eqb (numberOf a) n) (entryOf position worker a ∷ []) []
+one-line : (among : ℕ → Bool) (position worker : ℕ) (a : Answer) → among 0 ≡ false
+    → lineIf among (answerPrinted position worker a) ≡ cond (among (numberOf a)) (entryOf position worker a ∷ []) []
 unfolding answerPrinted cond
-one-line n position worker Moving l = rw (ne-eqb 0 n (λ e. omega arith))
-one-line n position worker (Put value sub row stamp) l = refl
-one-line n position worker (Taken value sub row stamp distance) l = refl
-one-line n position worker Empty l = refl
-one-line n position worker Full l = refl
-one-line n position worker (Refused k) l = refl
+one-line among position worker Moving none = rw none
+one-line among position worker (Put value sub row stamp) none = refl
+one-line among position worker (Taken value sub row stamp distance) none = refl
+one-line among position worker Empty none = refl
+one-line among position worker Full none = refl
+one-line among position worker (Refused k) none = refl
 
 answer-goes : (position worker : ℕ) (a : Answer) → endsWith (answerPrinted position worker a) ≡ false
 unfolding answerPrinted
@@ -72,60 +72,61 @@ answer-goes position worker Full = refl
 answer-goes position worker (Refused k) = refl
 
 -- ---- the lines of events
-abbrev linesOf : ℕ → List Happened → List Entry
-linesOf n xs = linesWith n (map answerLine xs)
+abbrev linesOf : (ℕ → Bool) → List Happened → List Entry
+linesOf among xs = linesIf among (map answerLine xs)
 
 abbrev entry : Happened → Entry
 entry x = entryOf (x .event .position) (workerIn (x .event .item)) (x .event .answer)
 
-lines-more : (n : ℕ) (x : Happened) (xs : List Happened) → 1 ≤ n
-    → linesOf n (x ∷ xs) ≡ cond (eqb (numberOf (x .event .answer)) n) (entry x ∷ linesOf n xs) (linesOf n xs)
-unfolding linesWith
-lines-more n x xs l =
-    ap (λ (es : List Entry). es ++ linesOf n xs) (one-line n (x .event .position) (workerIn (x .event .item)) (x .event .answer) l)
-    ∙ cond-under (λ (es : List Entry). es ++ linesOf n xs) (eqb (numberOf (x .event .answer)) n) (entry x ∷ []) []
+lines-more : (among : ℕ → Bool) (x : Happened) (xs : List Happened) → among 0 ≡ false
+    → linesOf among (x ∷ xs) ≡ cond (among (numberOf (x .event .answer))) (entry x ∷ linesOf among xs) (linesOf among xs)
+unfolding linesIf
+lines-more among x xs none =
+    ap (λ (es : List Entry). es ++ linesOf among xs) (one-line among (x .event .position) (workerIn (x .event .item)) (x .event .answer) none)
+    ∙ cond-under (λ (es : List Entry). es ++ linesOf among xs) (among (numberOf (x .event .answer))) (entry x ∷ []) []
 
-no-lines : (n : ℕ) → linesOf n [] ≡ []
-unfolding linesWith
-no-lines n = refl
+no-lines : (among : ℕ → Bool) → linesOf among [] ≡ []
+unfolding linesIf
+no-lines among = refl
 
 -- the tally counts them
-count-over : (count : Tally → ℕ) (n : ℕ) → ((t : Tally) (e : Happening) → count (tallyAfter t e) ≡ countOn (count t) (eqb (numberOf (e .answer)) n)) → 1 ≤ n
-    → (t : Tally) (xs : List Happened) → count (tallyOver t xs) ≡ count t + length (linesOf n xs)
+count-over : (count : Tally → ℕ) (among : ℕ → Bool) → ((t : Tally) (e : Happening) → count (tallyAfter t e) ≡ countOn (count t) (among (numberOf (e .answer)))) → among 0 ≡ false
+    → (t : Tally) (xs : List Happened) → count (tallyOver t xs) ≡ count t + length (linesOf among xs)
 unfolding tallyOver
-count-over count n on l t [] = rw (no-lines n) (omega arith)
-count-over count n on l t (x ∷ xs) =
-    let now = countOn (count t) (eqb (numberOf (x .event .answer)) n) in
-    let more : now + length (linesOf n xs) ≡ count t + length (cond (eqb (numberOf (x .event .answer)) n) (entry x ∷ linesOf n xs) (linesOf n xs)) =
-    cond-both (λ (k : ℕ) (es : List Entry). count t + k + length (linesOf n xs) ≡ count t + length es) (eqb (numberOf (x .event .answer)) n)
+count-over count among on none t [] = rw (no-lines among) (omega arith)
+count-over count among on none t (x ∷ xs) =
+    let so = among (numberOf (x .event .answer)) in
+    let now = countOn (count t) so in
+    let more : now + length (linesOf among xs) ≡ count t + length (cond so (entry x ∷ linesOf among xs) (linesOf among xs)) =
+    cond-both (λ (k : ℕ) (es : List Entry). count t + k + length (linesOf among xs) ≡ count t + length es) so
     (λ _. omega arith) (λ _. omega arith) in
-    rw (lines-more n x xs l) (omega (arith, count-over count n on l (tallyAfter t (x .event)) xs, on t (x .event)))
+    rw (lines-more among x xs none) (omega (arith, count-over count among on none (tallyAfter t (x .event)) xs, on t (x .event)))
 
 -- and has their greatest distance
-greatest-more : (x : Happened) (xs : List Happened) → greatest (linesOf 2 (x ∷ xs)) ≡ max (distanceIn (x .event .answer)) (greatest (linesOf 2 xs))
+greatest-more : (x : Happened) (xs : List Happened) → greatest (linesOf (only 2) (x ∷ xs)) ≡ max (distanceIn (x .event .answer)) (greatest (linesOf (only 2) xs))
 unfolding greatest
 greatest-more x xs =
-    rw (lines-more 2 x xs (omega arith))
-    (cases (λ (es : List Entry). greatest es ≡ max (distanceIn (x .event .answer)) (greatest (linesOf 2 xs))) (eqb (numberOf (x .event .answer)) 2) _ _
+    rw (lines-more (only 2) x xs refl)
+    (cases (λ (es : List Entry). greatest es ≡ max (distanceIn (x .event .answer)) (greatest (linesOf (only 2) xs))) (eqb (numberOf (x .event .answer)) 2) _ _
     (λ _. refl)
     (λ e. omega (arith, no-distance (x .event .answer) (eqb-false _ _ e))))
 
-worst-over : (t : Tally) (xs : List Happened) → tallyOver t xs .worst ≡ max (t .worst) (greatest (linesOf 2 xs))
+worst-over : (t : Tally) (xs : List Happened) → tallyOver t xs .worst ≡ max (t .worst) (greatest (linesOf (only 2) xs))
 unfolding tallyOver tallyAfter greatest
-worst-over t [] = rw (no-lines 2) (omega arith)
+worst-over t [] = rw (no-lines (only 2)) (omega arith)
 worst-over t (x ∷ xs) = omega (arith, worst-over (tallyAfter t (x .event)) xs, greatest-more x xs)
 
 -- ---- distances
-lines-close : (most : ℕ) (xs : List Happened) → Close most xs → All (λ (e : Entry). e .distance ≤ most) (linesOf 2 xs)
-lines-close most [] h = rw (no-lines 2) tt
+lines-close : (most : ℕ) (xs : List Happened) → Close most xs → All (λ (e : Entry). e .distance ≤ most) (linesOf (only 2) xs)
+lines-close most [] h = rw (no-lines (only 2)) tt
 lines-close most (x ∷ xs) h =
-    rw (lines-more 2 x xs (omega arith))
+    rw (lines-more (only 2) x xs refl)
     (cases (All (λ (e : Entry). e .distance ≤ most)) (eqb (numberOf (x .event .answer)) 2) _ _
     (λ _. (h .0, lines-close most xs (h .1))) (λ _. lines-close most xs (h .1)))
 
-close-greatest : (most : ℕ) (xs : List Happened) → Close most xs → greatest (linesOf 2 xs) ≤ most
+close-greatest : (most : ℕ) (xs : List Happened) → Close most xs → greatest (linesOf (only 2) xs) ≤ most
 unfolding greatest
-close-greatest most [] h = rw (no-lines 2) (omega arith)
+close-greatest most [] h = rw (no-lines (only 2)) (omega arith)
 close-greatest most (x ∷ xs) h = let d = h .0 in omega (arith, greatest-more x xs, close-greatest most xs (h .1))
 
 -- what ends a file is printed alone
@@ -155,14 +156,14 @@ last-end [] x = refl
 last-end (y ∷ []) x = refl
 last-end (y ∷ z ∷ zs) x = last-end (z ∷ zs) x
 
-lines-end : (n : ℕ) (xs : List Printed) (x : Printed) → lineWith n x ≡ [] → linesWith n (xs ++ (x ∷ [])) ≡ linesWith n xs
-unfolding linesWith
-lines-end n [] x e = rw e
-lines-end n (y ∷ ys) x e = ap (λ (l : List Entry). lineWith n y ++ l) (lines-end n ys x e)
+lines-end : (among : ℕ → Bool) (xs : List Printed) (x : Printed) → lineIf among x ≡ [] → linesIf among (xs ++ (x ∷ [])) ≡ linesIf among xs
+unfolding linesIf
+lines-end among [] x e = rw e
+lines-end among (y ∷ ys) x e = ap (λ (l : List Entry). lineIf among y ++ l) (lines-end among ys x e)
 
-end-no-line : (n : ℕ) (t : Tally) (position fault : ℕ) (ws : List ℕ) → lineWith n (endPrinted Listing t position fault ws) ≡ []
+end-no-line : (among : ℕ → Bool) (t : Tally) (position fault : ℕ) (ws : List ℕ) → lineIf among (endPrinted Listing t position fault ws) ≡ []
 unfolding endPrinted listedEnd
-end-no-line n t position fault ws = cases (λ (x : Printed). lineWith n x ≡ []) (eqb fault 0) _ _ (λ _. refl) (λ _. refl)
+end-no-line among t position fault ws = cases (λ (x : Printed). lineIf among x ≡ []) (eqb fault 0) _ _ (λ _. refl) (λ _. refl)
 
 -- so the lines have the items of the calls' answers
 items-more : (n position worker : ℕ) (a : Answer) (q : Asked) (es : List Entry) (rest : List Event) → 1 ≤ n → Quiet q a → map itemOn es ≡ itemsIn n rest
@@ -174,12 +175,12 @@ items-more n position worker a (calling c) es rest l h e =
     cond-both (λ (ls : List Entry) (xs : List Item). map itemOn ls ≡ xs ++ itemsIn n rest) (eqb (numberOf a) n)
     (λ _. ap (λ (xs : List Item). record { value = valueIn a; stamp = stampIn a } ∷ xs) e) (λ _. e)
 
-items-same : (n : ℕ) (xs : List Happened) → 1 ≤ n → AllQuiet xs → map itemOn (linesOf n xs) ≡ itemsIn n (eventsIn xs)
+items-same : (n : ℕ) (xs : List Happened) → 1 ≤ n → AllQuiet xs → map itemOn (linesOf (only n) xs) ≡ itemsIn n (eventsIn xs)
 unfolding eventsIn itemsIn
-items-same n [] l h = rw (no-lines n)
+items-same n [] l h = rw (no-lines (only n))
 items-same n (x ∷ xs) l h =
-    rw (lines-more n x xs l)
-    (items-more n _ _ (x .event .answer) (askedOf (x .event .item)) (linesOf n xs) (eventsIn xs) l (h .0) (items-same n xs l (h .1)))
+    rw (lines-more (only n) x xs (ne-eqb 0 n (λ e. omega arith)))
+    (items-more n _ _ (x .event .answer) (askedOf (x .event .item)) (linesOf (only n) xs) (eventsIn xs) l (h .0) (items-same n xs l (h .1)))
 
 -- ---- the theorems
 pub lists-all : ListsAll
@@ -187,14 +188,14 @@ unfolding printedOf
 lists-all bytes = let r = replayOf bytes in lists-from noTally (r .events) (r .end) (known-file bytes .within)
 
 -- the listing's lines are its events'
-lines-are : (n : ℕ) (bytes : List ℕ) → listed n bytes ≡ linesOf n (replayOf bytes .events)
-lines-are n bytes = let r = replayOf bytes in rw (lists-all bytes) (lines-end n (map answerLine (r .events)) (endOf Listing bytes) (end-no-line n _ _ _ _))
+lines-are : (among : ℕ → Bool) (bytes : List ℕ) → listedIf among bytes ≡ linesOf among (replayOf bytes .events)
+lines-are among bytes = let r = replayOf bytes in rw (lists-all bytes) (lines-end among (map answerLine (r .events)) (endOf Listing bytes) (end-no-line among _ _ _ _))
 
 items-are : (n : ℕ) (bytes : List ℕ) → 1 ≤ n → itemsListed n bytes ≡ itemsIn n (eventsIn (replayOf bytes .events))
-items-are n bytes l = rw (lines-are n bytes) (items-same n (replayOf bytes .events) l (known-file bytes .quiet))
+items-are n bytes l = rw (lines-are (only n) bytes) (items-same n (replayOf bytes .events) l (known-file bytes .quiet))
 
 pub distances-within : DistancesWithin
-distances-within bytes g e = rw (lines-are 2 bytes) (lines-close (mostPassed g) (replayOf bytes .events) (known-file bytes .pool g e .0))
+distances-within bytes g e = rw (lines-are (only 2) bytes) (lines-close (mostPassed g) (replayOf bytes .events) (known-file bytes .pool g e .0))
 
 pub takes-are-puts : TakesArePuts
 takes-are-puts bytes =
@@ -213,7 +214,7 @@ adds-up bytes =
     rw (positions-count bytes .words) (omega (arith, known-file bytes .held, lines 1 (omega arith), lines 2 (omega arith)))
 
 worst-is : (bytes : List ℕ) → tallyOver noTally (replayOf bytes .events) .worst ≡ greatest (listed 2 bytes)
-worst-is bytes = rw (lines-are 2 bytes) (worst-over noTally (replayOf bytes .events) ∙ zero-max _)
+worst-is bytes = rw (lines-are (only 2) bytes) (worst-over noTally (replayOf bytes .events) ∙ zero-max _)
 
 -- a closing line's two numbers
 closing-is : (t : Tally) (position fault : ℕ) (ws : List ℕ) (held worst : ℕ) → endPrinted Listing t position fault ws ≡ Closing held worst
@@ -255,21 +256,22 @@ summary-counts bytes =
     let r = replayOf bytes in
     let t = tallyOver noTally (r .events) in
     let k = known-file bytes in
-    let lines : (count : Tally → ℕ) (n : ℕ) → ((t : Tally) (e : Happening) → count (tallyAfter t e) ≡ countOn (count t) (eqb (numberOf (e .answer)) n)) → 1 ≤ n
-    → count t ≡ count noTally + length (listed n bytes) =
-    λ count n on l. rw (lines-are n bytes) (count-over count n on l noTally (r .events)) in
-    let puts = lines (λ t. t .puts) 1 (λ t e. refl) (omega arith) in
-    let takes = lines (λ t. t .takes) 2 (λ t e. refl) (omega arith) in (
+    let lines : (count : Tally → ℕ) (among : ℕ → Bool) → ((t : Tally) (e : Happening) → count (tallyAfter t e) ≡ countOn (count t) (among (numberOf (e .answer)))) → among 0 ≡ false
+    → count t ≡ count noTally + length (listedIf among bytes) =
+    λ count among on none. rw (lines-are among bytes) (count-over count among on none noTally (r .events)) in
+    let puts = lines (λ t. t .puts) (only 1) (λ t e. refl) refl in
+    let takes = lines (λ t. t .takes) (only 2) (λ t e. refl) refl in (
       _,
       ap lastOf (sums-from noTally (r .events) (r .end)) ∙ last-end (map (λ (x : Happened). Nothing) (r .events)) (endOf Summing bytes),
       record {
         puts = omega arith;
         takes = omega arith;
-        empties = omega (arith, lines (λ t. t .empties) 3 (λ t e. refl) (omega arith));
-        fulls = omega (arith, lines (λ t. t .fulls) 4 (λ t e. refl) (omega arith));
+        empties = omega (arith, lines (λ t. t .empties) (only 3) (λ t e. refl) refl);
+        fulls = omega (arith, lines (λ t. t .fulls) (only 4) (λ t e. refl) refl);
+        refused = omega (arith, lines (λ t. t .refused) (ltb 4) (λ t e. refl) refl);
         held = omega (arith, adds-up bytes);
         worst = worst-is bytes;
-        within = rw (worst-is bytes, lines-are 2 bytes) (close-greatest _ (r .events) (k .close));
+        within = rw (worst-is bytes, lines-are (only 2) bytes) (close-greatest _ (r .events) (k .close));
         bound = λ g e. k .pool g e .1;
       },
     )

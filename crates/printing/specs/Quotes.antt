@@ -5,7 +5,7 @@ use mathlib.Core.List.{List, [], _∷_, _++_, map}
 use mathlib.Core.Logic.{_≢_}
 use mathlib.Core.Option.{some}
 use mathlib.Core.Path.{_≡_}
-use lib.Dec.{eqb}
+use lib.Dec.{eqb, ltb}
 use lib.ListN.{length}
 use Rattle.laws.specs.Choice.{cond}
 use Rattle.rules.specs.Answers.{overBound}
@@ -28,20 +28,31 @@ use Rattle.printing.specs.declared.printed.Printed.{Printed}
 use Rattle.printing.specs.declared.printed.Printed.the-variants.{Nothing, Line, Last, Closing, Totals}
 
 -- ---- the lines of a listing
--- those with a number: 1 put, 2 taken, 3 empty, 4 full
-abbrev pub lineWith : ℕ → Printed → List Entry
-lineWith n Nothing = []
-lineWith n (Line e) = cond (eqb (e .number) n) (e ∷ []) []
-lineWith n (Last e) = []
-lineWith n (Closing held worst) = []
-lineWith n (Totals s) = []
+-- those whose number is one of some
+abbrev pub lineIf : (ℕ → Bool) → Printed → List Entry
+lineIf among Nothing = []
+lineIf among (Line e) = cond (among (e .number)) (e ∷ []) []
+lineIf among (Last e) = []
+lineIf among (Closing held worst) = []
+lineIf among (Totals s) = []
 
-unfoldable pub linesWith : ℕ → List Printed → List Entry
-linesWith n [] = []
-linesWith n (x ∷ xs) = lineWith n x ++ linesWith n xs
+unfoldable pub linesIf : (ℕ → Bool) → List Printed → List Entry
+linesIf among [] = []
+linesIf among (x ∷ xs) = lineIf among x ++ linesIf among xs
+
+abbrev pub listedIf : (ℕ → Bool) → List ℕ → List Entry
+listedIf among bytes = linesIf among (printedOf Listing bytes)
+
+-- one number: 1 put, 2 taken, 3 empty, 4 full
+abbrev pub only : ℕ → ℕ → Bool
+only n k = eqb k n
 
 abbrev pub listed : ℕ → List ℕ → List Entry
-listed n bytes = linesWith n (printedOf Listing bytes)
+listed n bytes = listedIf (only n) bytes
+
+-- or a refusal's: any above 4
+abbrev pub refusalsListed : List ℕ → List Entry
+refusalsListed bytes = listedIf (ltb 4) bytes
 
 -- the item of a line, its value and stamp
 abbrev pub itemOn : Entry → Item
@@ -113,6 +124,7 @@ pub record Counts (bytes : List ℕ) (s : Summary) : Type 0 where
   pub takes : s .takes ≡ length (listed 2 bytes)
   pub empties : s .empties ≡ length (listed 3 bytes)
   pub fulls : s .fulls ≡ length (listed 4 bytes)
+  pub refused : s .refused ≡ length (refusalsListed bytes)
   pub held : s .held + s .takes ≡ s .puts
   pub worst : s .worst ≡ greatest (listed 2 bytes)
   pub within : s .worst ≤ s .bound
