@@ -19,12 +19,12 @@ ghost use Rattle.rules.specs.Shift.{shiftedOf};
 ghost use Rattle.rules.specs.Limits.{Bounds};
 ghost use Rattle.rules.specs.Effects.{nextOf, hopOf, keepOf, refusedOf, movedOf, restartOf, finishedOf, nothingFor, withPass};
 
-// The index after `x`.
-pub fn next(g: Settings, x: u32) -> u32
-    requires { ⌜ x < g .width ⌝ }
-    ensures { λ r. ⌜ r ≡ nextOf g x ⌝ }
+// The index after `x`, of so many.
+pub fn next(width: u32, x: u32) -> u32
+    requires { ⌜ x < width ⌝ }
+    ensures { λ r. ⌜ r ≡ nextOf width x ⌝ }
 {
-    if x + 1 < g.width { x + 1 } else { 0 }
+    if x + 1 < width { x + 1 } else { 0 }
 }
 
 // The index for a worker that lost a commit at `x`: on by the stride, where 0 stands for 1.
@@ -34,7 +34,7 @@ pub fn hop(g: Settings, x: u32) -> u32
     ensures { λ r. ⌜ r ≡ hopOf g x ⌝ }
 {
     if g.stride == 0 {
-        return next(g, x);
+        return next(g.width, x);
     }
     (x + g.stride) % g.width
 }
@@ -101,13 +101,13 @@ pub fn finished(v: View, outcome: Outcome, index: u32) -> Effect
 }
 
 // A restart with the window words moved.
-pub fn shifted(v: View, side: Side, top: u32, mark: u32) -> Effect
-    ensures { λ r. ⌜ r ≡ shiftedOf v side top mark ⌝ }
+pub fn shifted(v: View, outcome: Outcome, side: Side, top: u32, mark: u32) -> Effect
+    ensures { λ r. ⌜ r ≡ shiftedOf v outcome side top mark ⌝ }
 {
     let restarted = restart(v, v.worker.index, side);
     let slot = restarted.slot;
     Effect {
-        outcome: Outcome::Shifted,
+        outcome,
         slot,
         top,
         mark,

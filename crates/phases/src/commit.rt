@@ -40,8 +40,8 @@ pub fn queue_commit(g: Settings, v: View, side: Side, seen: u32) -> Effect
     ensures { λ r. ⌜ r ≡ queueCommit g v side seen ⌝ }
 {
     let q = queue_view(v);
-    let put = q.items_put;
-    let taken = q.items_taken;
+    let put = q.last_put;
+    let taken = q.last_taken;
     match side {
         Side::Putting => {
             let able = minus(put, taken) < g.rows;

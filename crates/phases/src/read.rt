@@ -11,6 +11,7 @@ use rules::Phase;
 use rules::Settings;
 use rules::Side;
 use rules::Slot;
+use rules::Span;
 use rules::Version;
 use rules::View;
 ghost use mathlib.Core.Path.{_≡_};
@@ -20,11 +21,11 @@ ghost use Rattle.laws.specs.Choice.{cond};
 ghost use Rattle.laws.specs.Wrap.{add32};
 ghost use Rattle.rules.specs.Read.{missOf, queuePutRead, afterTakes, queueTakeMiss, queueTakeRead, stackHit, stackRead};
 
-// The phase after a miss: `again` to read on, or `after` at w misses.
-fn missed(g: Settings, scan: u32, again: Phase, after: Phase) -> Phase
-    ensures { λ r. ⌜ r ≡ cond (ltb (add32 scan 1) (g .width)) again after ⌝ }
+// The phase after a miss: `again` to read on, or `after` at so many misses.
+fn missed(width: u32, scan: u32, again: Phase, after: Phase) -> Phase
+    ensures { λ r. ⌜ r ≡ cond (ltb (add32 scan 1) width) again after ⌝ }
 {
-    if plus(scan, 1) < g.width {
+    if plus(scan, 1) < width {
         return again;
     }
     after
@@ -32,24 +33,25 @@ fn missed(g: Settings, scan: u32, again: Phase, after: Phase) -> Phase
 
 // To the next sub. The phase is picked first, so that the worker is written in one place: written in two, this function is
 // too long to be inlined, and steps are slower.
-fn miss(g: Settings, v: View, scan: u32, again: Phase, after: Phase, kept: Slot) -> Effect
-    requires { ⌜ v .worker .index < g .width ⌝ }
-    ensures { λ r. ⌜ r ≡ missOf g v scan again after kept ⌝ }
+fn miss(width: u32, v: View, scan: u32, again: Phase, after: Phase, kept: Slot) -> Effect
+    requires { ⌜ v .worker .index < width ⌝ }
+    ensures { λ r. ⌜ r ≡ missOf width v scan again after kept ⌝ }
 {
-    let index = next(g, v.worker.index);
-    moved(v, index, missed(g, scan, again, after), kept)
+    let index = next(width, v.worker.index);
+    moved(v, index, missed(width, scan, again, after), kept)
 }
 
-pub fn queue_put_read(g: Settings, v: View, window: u32, scan: u32) -> Effect
-    requires { ⌜ v .worker .index < g .width ⌝ }
-    ensures { λ r. ⌜ r ≡ queuePutRead g v window scan ⌝ }
+pub fn queue_put_read(v: View, window: Span, scan: u32) -> Effect
+    requires { ⌜ v .worker .index < window .width ⌝ }
+    ensures { λ r. ⌜ r ≡ queuePutRead v window scan ⌝ }
 {
     let q = queue_view(v);
     let side = Side::Putting;
-    let seen = q.items_put;
+    let seen = q.last_put;
     let kept = v.kept;
-    if seen < window {
-        return moved(v, v.worker.index, Phase::QueueCommit { side, seen }, kept);
+    if seen < window.top {
+        let commit = Phase::QueueCommit { side, window, seen };
+        return moved(v, v.worker.index, commit, kept);
     }
     let again = Phase::QueuePutRead {
         window,
@@ -57,23 +59,29 @@ pub fn queue_put_read(g: Settings, v: View, window: u32, scan: u32) -> Effect
     };
     let after = Phase::QueueShift { side, window };
     let pass = with_pass(kept, kept.extra, 0, kept.sum);
-    miss(g, v, scan, again, after, pass)
+    miss(window.width, v, scan, again, after, pass)
 }
 
 // All subs missed by a take.
-fn after_takes(window: u32, bare: u32, sum: u32) -> Phase
+fn after_takes(window: Span, bare: u32, sum: u32) -> Phase
     ensures { λ r. ⌜ r ≡ afterTakes window bare sum ⌝ }
 {
-    let side = Side::Taking;
     if bare == 0 {
-        return Phase::QueueShift { side, window };
+        return Phase::QueueShift {
+            side: Side::Taking,
+            window,
+        };
     }
-    Phase::Confirm { side, scan: 0, sum }
+    Phase::QueueConfirm {
+        window,
+        scan: 0,
+        sum,
+    }
 }
 
-fn queue_take_miss(g: Settings, v: View, window: u32, bare: u32, scan: u32, sum: u32) -> Effect
-    requires { ⌜ v .worker .index < g .width ⌝ }
-    ensures { λ r. ⌜ r ≡ queueTakeMiss g v window bare scan sum ⌝ }
+fn queue_take_miss(v: View, window: Span, bare: u32, scan: u32, sum: u32) -> Effect
+    requires { ⌜ v .worker .index < window .width ⌝ }
+    ensures { λ r. ⌜ r ≡ queueTakeMiss v window bare scan sum ⌝ }
 {
     let again = Phase::QueueTakeRead {
         window,
@@ -83,26 +91,28 @@ fn queue_take_miss(g: Settings, v: View, window: u32, bare: u32, scan: u32, sum:
     };
     let after = after_takes(window, bare, sum);
     let kept = v.kept;
-    miss(g, v, scan, again, after, with_pass(kept, bare, 0, sum))
+    let pass = with_pass(kept, bare, 0, sum);
+    miss(window.width, v, scan, again, after, pass)
 }
 
-pub fn queue_take_read(g: Settings, v: View, window: u32, bare: u32, scan: u32, sum: u32) -> Effect
-    requires { ⌜ v .worker .index < g .width ⌝ }
-    ensures { λ r. ⌜ r ≡ queueTakeRead g v window bare scan sum ⌝ }
+pub fn queue_take_read(v: View, window: Span, bare: u32, scan: u32, sum: u32) -> Effect
+    requires { ⌜ v .worker .index < window .width ⌝ }
+    ensures { λ r. ⌜ r ≡ queueTakeRead v window bare scan sum ⌝ }
 {
     let q = queue_view(v);
     let side = Side::Taking;
-    let seen = q.items_taken;
-    let total = plus(sum, q.items_put);
-    if window <= seen {
-        return queue_take_miss(g, v, window, bare, scan, total);
+    let seen = q.last_taken;
+    let total = plus(sum, q.last_put);
+    if window.top <= seen {
+        return queue_take_miss(v, window, bare, scan, total);
     }
-    if q.items_put == seen {
-        return queue_take_miss(g, v, window, plus(bare, 1), scan, total);
+    if q.last_put == seen {
+        return queue_take_miss(v, window, plus(bare, 1), scan, total);
     }
     let kept = v.kept;
     let pass = with_pass(kept, bare, scan, total);
-    moved(v, v.worker.index, Phase::QueueCommit { side, seen }, pass)
+    let commit = Phase::QueueCommit { side, window, seen };
+    moved(v, v.worker.index, commit, pass)
 }
 
 fn stack_hit(g: Settings, v: View, side: Side, window: u32) -> bool
@@ -153,5 +163,5 @@ pub fn stack_read(
         scan: 0,
         sum: total,
     };
-    miss(g, v, scan, again, after, kept)
+    miss(g.width, v, scan, again, after, kept)
 }

@@ -2,7 +2,8 @@
 use crate::check::check;
 use crate::commit::queue_commit;
 use crate::commit::stack_commit;
-use crate::confirm::confirm;
+use crate::confirm::queue_confirm;
+use crate::confirm::stack_confirm;
 use crate::read::queue_put_read;
 use crate::read::queue_take_read;
 use crate::read::stack_read;
@@ -19,10 +20,12 @@ ghost use mathlib.Core.Path.{_≡_};
 ghost use Prim.Native.Nat.{_<_};
 ghost use Rattle.rules.specs.Limits.{Bounds};
 ghost use Rattle.rules.specs.Step.{ruleOf};
+ghost use Rattle.phases.specs.Inside.{Inside};
 
 pub fn rule(g: Settings, v: View) -> Effect
     requires { ⌜ Bounds g ⌝ }
     requires { ⌜ v .worker .index < g .width ⌝ }
+    requires { ⌜ Inside v ⌝ }
     ensures { λ r. ⌜ r ≡ ruleOf g v ⌝ }
 {
     let worker = v.worker;
@@ -30,13 +33,13 @@ pub fn rule(g: Settings, v: View) -> Effect
     match phase {
         Phase::Idle => refused(v, WORKER_IDLE),
         Phase::Window(side) => window(g, v, side),
-        Phase::QueuePutRead { window, scan } => queue_put_read(g, v, window, scan),
+        Phase::QueuePutRead { window, scan } => queue_put_read(v, window, scan),
         Phase::QueueTakeRead {
             window,
             bare,
             scan,
             sum,
-        } => queue_take_read(g, v, window, bare, scan, sum),
+        } => queue_take_read(v, window, bare, scan, sum),
         Phase::StackRead {
             side,
             window,
@@ -49,7 +52,11 @@ pub fn rule(g: Settings, v: View) -> Effect
             version,
             seen,
         } => check(v, side, version, seen),
-        Phase::QueueCommit { side, seen } => queue_commit(g, v, side, seen),
+        Phase::QueueCommit {
+            side,
+            window: _,
+            seen,
+        } => queue_commit(g, v, side, seen),
         Phase::StackCommit { side, seen } => stack_commit(g, v, side, seen),
         Phase::QueueShift { side, window } => queue_shift(g, v, side, window),
         Phase::StackShift {
@@ -58,6 +65,7 @@ pub fn rule(g: Settings, v: View) -> Effect
             scan,
             sum,
         } => stack_shift(g, v, side, version, scan, sum),
-        Phase::Confirm { side, scan, sum } => confirm(g, v, side, scan, sum),
+        Phase::QueueConfirm { window, scan, sum } => queue_confirm(v, window, scan, sum),
+        Phase::StackConfirm { side, scan, sum } => stack_confirm(g, v, side, scan, sum),
     }
 }

@@ -9,15 +9,16 @@ use effects::shifted;
 use laws::num::minus;
 use laws::num::plus;
 use rules::Effect;
+use rules::Outcome;
 use rules::Phase;
+use rules::QueueView;
 use rules::Settings;
 use rules::Side;
+use rules::Span;
 use rules::Version;
 use rules::View;
 ghost use mathlib.Core.Path.{_≡_};
-ghost use Prim.Native.Nat.{_≤_};
-ghost use Rattle.rules.specs.Limits.{deepest};
-ghost use Rattle.rules.specs.Shift.{shiftBy, queueShift, stackShift};
+ghost use Rattle.rules.specs.Shift.{shiftBy, queuePutShift, queueTakeShift, queueShift, stackShift};
 
 // A window that is the seen one moves where it can, with what stands for a window that cannot.
 fn shift_by(v: View, side: Side, same: bool, able: bool, moved: Effect, stuck: Effect) -> Effect
@@ -32,24 +33,38 @@ fn shift_by(v: View, side: Side, same: bool, able: bool, moved: Effect, stuck: E
     restart(v, v.worker.index, side)
 }
 
-pub fn queue_shift(g: Settings, v: View, side: Side, window: u32) -> Effect
-    requires { ⌜ g .depth ≤ deepest ⌝ }
+// The put window moves on where the rows from the take window's bottom to its new top have a cell each.
+fn queue_put_shift(g: Settings, v: View, q: QueueView, window: Span) -> Effect
+    ensures { λ r. ⌜ r ≡ queuePutShift g v q window ⌝ }
+{
+    let side = Side::Putting;
+    let put = q.put.top;
+    let top = plus(put, q.next);
+    let able = minus(top, q.take.bottom) <= g.rows;
+    let moved = shifted(v, Outcome::Raised, side, top, v.mark);
+    let stuck = finished(v, nothing_for(side), v.worker.index);
+    shift_by(v, side, put == window.top, able, moved, stuck)
+}
+
+// The take window follows the put window.
+fn queue_take_shift(v: View, q: QueueView, window: Span) -> Effect
+    ensures { λ r. ⌜ r ≡ queueTakeShift v q window ⌝ }
+{
+    let side = Side::Taking;
+    let put = q.put.top;
+    let take = q.take.top;
+    let moved = shifted(v, Outcome::Dropped, side, v.top, plus(take, q.after));
+    let stuck = finished(v, nothing_for(side), v.worker.index);
+    shift_by(v, side, take == window.top, take < put, moved, stuck)
+}
+
+pub fn queue_shift(g: Settings, v: View, side: Side, window: Span) -> Effect
     ensures { λ r. ⌜ r ≡ queueShift g v side window ⌝ }
 {
     let q = queue_view(v);
-    let put = q.put_window;
-    let take = q.take_window;
-    let stuck = finished(v, nothing_for(side), v.worker.index);
     match side {
-        Side::Putting => {
-            let able = minus(plus(put, 2 * g.depth), take) <= g.rows;
-            let moved = shifted(v, side, plus(put, g.depth), take);
-            shift_by(v, side, put == window, able, moved, stuck)
-        }
-        Side::Taking => {
-            let moved = shifted(v, side, put, plus(take, g.depth));
-            shift_by(v, side, take == window, take < put, moved, stuck)
-        }
+        Side::Putting => queue_put_shift(g, v, q, window),
+        Side::Taking => queue_take_shift(v, q, window),
     }
 }
 
@@ -67,7 +82,12 @@ pub fn stack_shift(
     let same = s.version.0 == version.0;
     let newer = plus(s.version.0, 1);
     let kept = v.kept;
-    let stuck = moved(v, v.worker.index, Phase::Confirm { side, scan, sum }, kept);
+    let stuck = moved(
+        v,
+        v.worker.index,
+        Phase::StackConfirm { side, scan, sum },
+        kept,
+    );
     match side {
         Side::Putting => {
             let up = plus(s.window, g.shift);
@@ -76,7 +96,7 @@ pub fn stack_shift(
                 side,
                 same,
                 up <= g.rows,
-                shifted(v, side, up, newer),
+                shifted(v, Outcome::Shifted, side, up, newer),
                 stuck,
             )
         }
@@ -87,7 +107,7 @@ pub fn stack_shift(
                 side,
                 same,
                 g.depth < s.window,
-                shifted(v, side, down, newer),
+                shifted(v, Outcome::Shifted, side, down, newer),
                 stuck,
             )
         }

@@ -1,19 +1,23 @@
-// The shared words of a view, by their names for a rule.
+// What the rules read of a view, by its names for a rule.
 use rules::QueueView;
 use rules::StackView;
 use rules::Version;
 use rules::View;
+use worker::span_of;
 ghost use mathlib.Core.Path.{_≡_};
 ghost use Rattle.rules.specs.Effects.{queueView, stackView};
 
 pub fn queue_view(v: View) -> QueueView
     ensures { λ r. ⌜ r ≡ queueView v ⌝ }
 {
+    let sizes = v.sizes;
     QueueView {
-        put_window: v.top,
-        take_window: v.mark,
-        items_put: v.first,
-        items_taken: v.second,
+        put: span_of(v.top, sizes.put),
+        take: span_of(v.mark, sizes.take),
+        next: sizes.next.depth,
+        after: sizes.after.depth,
+        last_put: v.first,
+        last_taken: v.second,
     }
 }
 

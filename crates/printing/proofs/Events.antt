@@ -21,18 +21,17 @@ use Rattle.rules.specs.Held.{Item, heldItems, heldBy, heldOf, countItems}
 use Rattle.rules.specs.Layout.{workerWords}
 use Rattle.rules.specs.Limits.{settingsFit}
 use Rattle.rules.specs.Run.{Call, beginPut, beginTake, step, callOf, Event, run, at, distanceIn}
-use Rattle.rules.specs.Sequential.{mostPassed}
+use Rattle.rules.specs.Sequential.{boundBy, demand3Rows, mostPassed}
 use Rattle.rules.specs.declared.Settings.{Settings}
+use Rattle.rules.specs.declared.Size.{Size}
 use Rattle.rules.specs.declared.Answer.{Answer}
 use Rattle.rules.specs.declared.Side.{Side}
 use Rattle.rules.specs.declared.Side.the-variants.{Putting, Taking}
 use Rattle.rules.specs.declared.Answer.the-variants.{Moving, Put, Taken, Empty, Full, Refused}
-use Rattle.rules.proofs.Corollaries.{within-bound, nothing-lost, stamps-once}
-use Rattle.rules.proofs.Fitness.{settings-bounds}
+use Rattle.rules.proofs.Corollaries.{within-bound, own-sizes, nothing-lost, stamps-once}
 use Rattle.rules.proofs.Theorem.{kindOf}
-use Rattle.rules.proofs.Transfer.{made-related, related-after}
+use Rattle.rules.proofs.Transfer.{related-fit, made-related, related-after}
 use Rattle.rules.proofs.counts.Held.{count-none, count-all}
-use Rattle.rules.proofs.words.Fit.{checked-fit}
 use Rattle.rules.proofs.words.Made.{accepted}
 use Rattle.runfile.specs.Items.{itemOf}
 use Rattle.runfile.specs.Faults.{faultOf}
@@ -92,17 +91,18 @@ Within t (x ∷ xs) = (distanceIn (x .event .answer) ≤ tallyAfter t (x .event)
 abbrev CloseCalls : ℕ → List Event → Type 0
 CloseCalls most es = All (λ (e : Event). distanceIn (e .answer) ≤ most) es
 
-close-more : (most : ℕ) (a : Answer) (q : Asked) (rest : List Event) → Quiet q a → CloseCalls most (withCall q a rest) → (distanceIn a ≤ most) × CloseCalls most rest
-close-more most a nothing rest h c = (omega (arith, no-distance a (λ u. omega arith)), c)
-close-more most a (making g) rest h c = (omega (arith, no-distance a (λ u. omega arith)), c)
-close-more most a (calling k) rest h c = c
+close-more : (most : ℕ) (ws : List ℕ) (a : Answer) (q : Asked) (rest : List Event) → Quiet q a → CloseCalls most (withCall ws q a rest)
+    → (distanceIn a ≤ most) × CloseCalls most rest
+close-more most ws a nothing rest h c = (omega (arith, no-distance a (λ u. omega arith)), c)
+close-more most ws a (making g) rest h c = (omega (arith, no-distance a (λ u. omega arith)), c)
+close-more most ws a (calling k) rest h c = c
 
-close-all : (most : ℕ) (xs : List Happened) → AllQuiet xs → CloseCalls most (eventsIn xs) → Close most xs
+close-all : (most : ℕ) (ws : List ℕ) (xs : List Happened) → AllQuiet xs → CloseCalls most (eventsIn ws xs) → Close most xs
 unfolding eventsIn
-close-all most [] h c = tt
-close-all most (x ∷ xs) h c =
-    let t = close-more most (x .event .answer) (askedOf (x .event .item)) (eventsIn xs) (h .0) c in
-    (t .0, close-all most xs (h .1) (t .1))
+close-all most ws [] h c = tt
+close-all most ws (x ∷ xs) h c =
+    let t = close-more most ws (x .event .answer) (askedOf (x .event .item)) (eventsIn (x .words) xs) (h .0) c in
+    (t .0, close-all most (x .words) xs (h .1) (t .1))
 
 -- ---- a run's distances
 begin-no-distance : (e : ℕ) (ws : List ℕ) (i : ℕ) (side : Side) (value : ℕ) → distanceIn (beginOf e ws i side value .answer) ≡ 0
@@ -170,9 +170,18 @@ fit-after : (g : Settings) (cs : List Call) → numberOf (makeOf lent g .answer)
 fit-after g cs made =
     let a = accepted lent g made in
     let k = kindOf g (a .limits) in
-    let after = related-after g (a .limits) k (made-related g (a .limits) k lent a) cs in
-    let r = after .related in
-    checked-fit g (a .limits) (settings-bounds g (a .limits) .kind1) _ (after .state) (r .says) (r .whole .common) (k .counts (after .state) (r .list) (r .whole .inv) .sub)
+    related-fit g (a .limits) k (related-after g (a .limits) k (made-related g (a .limits) k lent a) cs .related)
+
+-- a take's window has the pool's size, so that its distance is within the pool's own bound
+within-most : (g : Settings) (cs : List Call) → numberOf (makeOf lent g .answer) ≡ 0
+    → (i f : ℕ) → at (run (g .edition) (makeOf lent g .words) cs) f .call ≡ step i
+    → numberOf (at (run (g .edition) (makeOf lent g .words) cs) f .answer) ≡ 2
+    → distanceIn (at (run (g .edition) (makeOf lent g .words) cs) f .answer) ≤ mostPassed g
+unfolding mostPassed
+within-most g cs made i f e two =
+    subst (λ (size : Size). distanceIn (at (run (g .edition) (makeOf lent g .words) cs) f .answer) ≤ boundBy g (demand3Rows g) size)
+    (own-sizes lent g cs made i f e two)
+    (within-bound lent g cs made i f e two)
 
 fit-held : (e : ℕ) (ws : List ℕ) (g : Settings) → checkedOf e ws ≡ Fit g → heldOf e ws ≡ length (heldItems ws g)
 unfolding heldOf heldBy
@@ -192,9 +201,9 @@ pub record Known (xs : List Happened) : Type 0 where
   pub close : Close (tallyOver noTally xs .bound) xs
   pub pool : (g : Settings) → poolIn xs ≡ some g → Close (mostPassed g) xs × (tallyOver noTally xs .bound ≡ mostPassed g)
   -- items
-  pub held : heldOf shipped (wordsIn lent xs) + length (itemsIn 2 (eventsIn xs)) ≡ length (itemsIn 1 (eventsIn xs))
-  pub taken : (p : Item → Bool) → countItems p (itemsIn 2 (eventsIn xs)) ≤ countItems p (itemsIn 1 (eventsIn xs))
-  pub once : (stamp : ℕ) → (countItems (hasStamp stamp) (itemsIn 1 (eventsIn xs)) ≤ 1) × (countItems (hasStamp stamp) (itemsIn 2 (eventsIn xs)) ≤ 1)
+  pub held : heldOf shipped (wordsIn lent xs) + length (itemsIn 2 (eventsIn lent xs)) ≡ length (itemsIn 1 (eventsIn lent xs))
+  pub taken : (p : Item → Bool) → countItems p (itemsIn 2 (eventsIn lent xs)) ≤ countItems p (itemsIn 1 (eventsIn lent xs))
+  pub once : (stamp : ℕ) → (countItems (hasStamp stamp) (itemsIn 1 (eventsIn lent xs)) ≤ 1) × (countItems (hasStamp stamp) (itemsIn 2 (eventsIn lent xs)) ≤ 1)
 
 -- without a pool there is no call
 no-distances : (t : Tally) (xs : List Happened) → Close 0 xs → Within t xs
@@ -205,9 +214,9 @@ no-items : (n : ℕ) → itemsIn n [] ≡ []
 unfolding itemsIn
 no-items n = refl
 
-known-none : (xs : List Happened) → AllQuiet xs → eventsIn xs ≡ [] → poolIn xs ≡ none → wordsIn lent xs ≡ lent → Known xs
+known-none : (xs : List Happened) → AllQuiet xs → eventsIn lent xs ≡ [] → poolIn xs ≡ none → wordsIn lent xs ≡ lent → Known xs
 known-none xs quiet calls pool words =
-    let close : (most : ℕ) → Close most xs = λ most. close-all most xs quiet (rw calls tt) in
+    let close : (most : ℕ) → Close most xs = λ most. close-all most lent xs quiet (rw calls tt) in
     record {
       quiet = quiet;
       within = no-distances noTally xs (close 0);
@@ -236,8 +245,8 @@ module _ (x y : Happened) (xs : List Happened) (opens : Opens x) (makes : Makes 
 
   whole-close : Close (mostPassed g) whole
   whole-close =
-      close-all (mostPassed g) whole whole-quiet
-      (rw (runs .answers) (run-close (mostPassed g) (g .edition) (makeOf lent g .words) (callsIn whole) (within-bound lent g (callsIn whole) (runs .made))))
+      close-all (mostPassed g) lent whole whole-quiet
+      (rw (runs .answers) (run-close (mostPassed g) (g .edition) (makeOf lent g .words) (callsIn whole) (within-most g (callsIn whole) (runs .made))))
 
   abbrev opened : Tally
   opened = tallyAfter (tallyAfter noTally (x .event)) (y .event)
@@ -259,7 +268,7 @@ module _ (x y : Happened) (xs : List Happened) (opens : Opens x) (makes : Makes 
     ),
   )
 
-  account : (p : Item → Bool) → countItems p (heldItems (wordsIn lent whole) g) + countItems p (itemsIn 2 (eventsIn whole)) ≡ countItems p (itemsIn 1 (eventsIn whole))
+  account : (p : Item → Bool) → countItems p (heldItems (wordsIn lent whole) g) + countItems p (itemsIn 2 (eventsIn lent whole)) ≡ countItems p (itemsIn 1 (eventsIn lent whole))
   account p = rw (runs .answers, runs .words) (nothing-lost lent g (callsIn whole) (runs .made) p)
 
   known-pool : Known whole
@@ -274,8 +283,8 @@ module _ (x y : Happened) (xs : List Happened) (opens : Opens x) (makes : Makes 
           held,
           account (λ z. true),
           count-all (heldItems (wordsIn lent whole) g),
-          count-all (itemsIn 1 (eventsIn whole)),
-          count-all (itemsIn 2 (eventsIn whole)),
+          count-all (itemsIn 1 (eventsIn lent whole)),
+          count-all (itemsIn 2 (eventsIn lent whole)),
         );
         taken = λ p. omega (arith, account p);
         once = λ stamp. rw (runs .answers) (stamps-once lent g (callsIn whole) (runs .made) stamp);

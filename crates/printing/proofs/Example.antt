@@ -3,11 +3,11 @@ use mathlib.Core.List.{List, [], _∷_}
 use mathlib.Core.Path.{_≡_, refl, ap}
 use Prim.Native.Nat.{ℕ, _/_, _%_}
 use Rattle.laws.specs.Choice.{cond, allBelow}
-use Rattle.rules.specs.Apply.{putItem, putSub, putLanded, putShifted, countLost, putWorker, takenOf, applyBy, applyOf}
+use Rattle.rules.specs.Apply.{putItem, putSub, putLanded, putShifted, putRaised, putDropped, countLost, putWorker, takenOf, applyBy, applyOf}
 use Rattle.rules.specs.Begin.{slotBegin, fitBegin, checkedBegin, beginOf}
 use Rattle.rules.specs.Check.{checkRule}
 use Rattle.rules.specs.Commit.{commitBy, queueCommit, stackCommit}
-use Rattle.rules.specs.Confirm.{confirmedOf, confirmRule}
+use Rattle.rules.specs.Confirm.{confirmedOf, confirmBy, queueConfirm, stackConfirm}
 use Rattle.rules.specs.Effects.{viewOf, nextOf}
 use Rattle.rules.specs.Fit.{subFit, subsFit, phaseFit, wordFit, workersFit, bodyChecked, headChecked, checkedBy}
 use Rattle.rules.specs.Held.{itemsAbove, heldSub, heldBelow, countItems, distanceOf, heldBy, heldOf}
@@ -51,7 +51,7 @@ take-line = Line (itemEntry 9 2 0 7 0 (record { 0 = 1 }) (record { 0 = 1 }) 0)
 -- of the words that are answered 0 nothing is printed
 lines-are : printedOf Listing file
     ≡ Nothing ∷ Nothing ∷ Nothing ∷ Nothing ∷ Nothing ∷ put-line ∷ Nothing ∷ Nothing ∷ Nothing ∷ take-line ∷ Nothing ∷ Closing 0 0 ∷ []
-unfolding stored file cond allBelow putItem putSub putLanded putShifted countLost putWorker takenOf applyBy applyOf slotBegin fitBegin checkedBegin beginOf checkRule commitBy queueCommit stackCommit confirmedOf confirmRule viewOf nextOf subFit subsFit phaseFit wordFit workersFit bodyChecked headChecked checkedBy itemsAbove heldSub heldBelow countItems distanceOf settingsFit zeroed indexed madeWords makeOf missOf queuePutRead queueTakeRead stackRead shiftBy queueShift stackShift ruleBy ruleOf slotStep fitStep checkedStep stepOf windowRule slotAt putSlot queuePhase stackPhase phaseOf encodePhase encode firstOf secondOf laterOf itemOf readsOf readAt mostPassed boundIn tallyAfter heldBy heldOf workerWords callOf outOf itemNext nextEvent replayFrom replayOf answerPrinted listedOf listedEnd eventPrinted endPrinted printFrom printedOf put-line take-line
+unfolding stored file cond allBelow putItem putSub putLanded putShifted putRaised putDropped countLost putWorker takenOf applyBy applyOf slotBegin fitBegin checkedBegin beginOf checkRule commitBy queueCommit stackCommit confirmedOf confirmBy queueConfirm stackConfirm viewOf nextOf subFit subsFit phaseFit wordFit workersFit bodyChecked headChecked checkedBy itemsAbove heldSub heldBelow countItems distanceOf settingsFit zeroed indexed madeWords makeOf missOf queuePutRead queueTakeRead stackRead shiftBy queueShift stackShift ruleBy ruleOf slotStep fitStep checkedStep stepOf windowRule slotAt putSlot queuePhase stackPhase phaseOf encodePhase encode firstOf secondOf laterOf itemOf readsOf readAt mostPassed boundIn tallyAfter heldBy heldOf workerWords callOf outOf itemNext nextEvent replayFrom replayOf answerPrinted listedOf listedEnd eventPrinted endPrinted printFrom printedOf put-line take-line
 lines-are = refl
 
 -- "5 1 0 7 0 1 1 0", "9 2 0 7 0 1 1 0", "held 0 worst 0", a newline after each

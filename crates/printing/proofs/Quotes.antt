@@ -166,21 +166,21 @@ unfolding endPrinted listedEnd
 end-no-line among t position fault ws = cases (λ (x : Printed). lineIf among x ≡ []) (eqb fault 0) _ _ (λ _. refl) (λ _. refl)
 
 -- so the lines have the items of the calls' answers
-items-more : (n position worker : ℕ) (a : Answer) (q : Asked) (es : List Entry) (rest : List Event) → 1 ≤ n → Quiet q a → map itemOn es ≡ itemsIn n rest
-    → map itemOn (cond (eqb (numberOf a) n) (entryOf position worker a ∷ es) es) ≡ itemsIn n (withCall q a rest)
+items-more : (n position worker : ℕ) (ws : List ℕ) (a : Answer) (q : Asked) (es : List Entry) (rest : List Event) → 1 ≤ n → Quiet q a → map itemOn es ≡ itemsIn n rest
+    → map itemOn (cond (eqb (numberOf a) n) (entryOf position worker a ∷ es) es) ≡ itemsIn n (withCall ws q a rest)
 unfolding itemsIn
-items-more n position worker a nothing es rest l h e = rw (ne-eqb (numberOf a) n (λ u. omega arith), cond-false (entryOf position worker a ∷ es) es) e
-items-more n position worker a (making g) es rest l h e = rw (ne-eqb (numberOf a) n (λ u. omega arith), cond-false (entryOf position worker a ∷ es) es) e
-items-more n position worker a (calling c) es rest l h e =
+items-more n position worker ws a nothing es rest l h e = rw (ne-eqb (numberOf a) n (λ u. omega arith), cond-false (entryOf position worker a ∷ es) es) e
+items-more n position worker ws a (making g) es rest l h e = rw (ne-eqb (numberOf a) n (λ u. omega arith), cond-false (entryOf position worker a ∷ es) es) e
+items-more n position worker ws a (calling c) es rest l h e =
     cond-both (λ (ls : List Entry) (xs : List Item). map itemOn ls ≡ xs ++ itemsIn n rest) (eqb (numberOf a) n)
     (λ _. ap (λ (xs : List Item). record { value = valueIn a; stamp = stampIn a } ∷ xs) e) (λ _. e)
 
-items-same : (n : ℕ) (xs : List Happened) → 1 ≤ n → AllQuiet xs → map itemOn (linesOf (only n) xs) ≡ itemsIn n (eventsIn xs)
+items-same : (n : ℕ) (ws : List ℕ) (xs : List Happened) → 1 ≤ n → AllQuiet xs → map itemOn (linesOf (only n) xs) ≡ itemsIn n (eventsIn ws xs)
 unfolding eventsIn itemsIn
-items-same n [] l h = rw (no-lines (only n))
-items-same n (x ∷ xs) l h =
+items-same n ws [] l h = rw (no-lines (only n))
+items-same n ws (x ∷ xs) l h =
     rw (lines-more (only n) x xs (ne-eqb 0 n (λ e. omega arith)))
-    (items-more n _ _ (x .event .answer) (askedOf (x .event .item)) (linesOf (only n) xs) (eventsIn xs) l (h .0) (items-same n xs l (h .1)))
+    (items-more n _ _ ws (x .event .answer) (askedOf (x .event .item)) (linesOf (only n) xs) (eventsIn (x .words) xs) l (h .0) (items-same n (x .words) xs l (h .1)))
 
 -- ---- the theorems
 pub lists-all : ListsAll
@@ -191,8 +191,8 @@ lists-all bytes = let r = replayOf bytes in lists-from noTally (r .events) (r .e
 lines-are : (among : ℕ → Bool) (bytes : List ℕ) → listedIf among bytes ≡ linesOf among (replayOf bytes .events)
 lines-are among bytes = let r = replayOf bytes in rw (lists-all bytes) (lines-end among (map answerLine (r .events)) (endOf Listing bytes) (end-no-line among _ _ _ _))
 
-items-are : (n : ℕ) (bytes : List ℕ) → 1 ≤ n → itemsListed n bytes ≡ itemsIn n (eventsIn (replayOf bytes .events))
-items-are n bytes l = rw (lines-are (only n) bytes) (items-same n (replayOf bytes .events) l (known-file bytes .quiet))
+items-are : (n : ℕ) (bytes : List ℕ) → 1 ≤ n → itemsListed n bytes ≡ itemsIn n (eventsIn lent (replayOf bytes .events))
+items-are n bytes l = rw (lines-are (only n) bytes) (items-same n lent (replayOf bytes .events) l (known-file bytes .quiet))
 
 pub distances-within : DistancesWithin
 distances-within bytes g e = rw (lines-are (only 2) bytes) (lines-close (mostPassed g) (replayOf bytes .events) (known-file bytes .pool g e .0))
@@ -209,7 +209,7 @@ takes-are-puts bytes =
 -- as many lines as items
 adds-up : (bytes : List ℕ) → heldOf shipped (replayOf bytes .end .words) + length (listed 2 bytes) ≡ length (listed 1 bytes)
 adds-up bytes =
-    let lines : (n : ℕ) → 1 ≤ n → length (listed n bytes) ≡ length (itemsIn n (eventsIn (replayOf bytes .events))) =
+    let lines : (n : ℕ) → 1 ≤ n → length (listed n bytes) ≡ length (itemsIn n (eventsIn lent (replayOf bytes .events))) =
     λ n l. sym (length-map (listed n bytes) itemOn) ∙ ap length (items-are n bytes l) in
     rw (positions-count bytes .words) (omega (arith, known-file bytes .held, lines 1 (omega arith), lines 2 (omega arith)))
 

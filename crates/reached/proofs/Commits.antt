@@ -127,21 +127,21 @@ module _ (g : Settings) (limits : settingsFit g ≡ true) (kind : g .kind ≡ 1)
         → Later 1 s (committed s i Putting (suc (s .puts)) (upd (s .item) j (upd (s .item j) (suc (s .first j)) (record { value = s .slot i .value; stamp = suc (s .puts) }))))
     later-landed e =
         let it : Item = record { value = s .slot i .value; stamp = suc (s .puts) } in
-        let put : Added (s .first) (s .item) j it _ _ = added (s .first) (s .item) j it in
+        let put : Added (s .first) (s .item) j (suc (s .first j)) it _ _ = added (s .first) (s .item) j (suc (s .first j)) it (le-refl _) in
         record {
           got =
-              got-call g limits kind got (step i) tt _ _
+              got-call g limits kind got (step i) tt _
               (step-is g s i l time (StackCommit Putting seen) e tt
               ∙ ap (applyIn g s i) (put-rule g s i seen (eq-eqb _ _ (sym live)) (lt-ltb _ _ (put-room (got .live .inv) i seen e live)))
               ∙ apply-landed a seen e live);
           steps = omega arith;
           puts = omega arith;
-          old = λ m r x y. put .old m r x;
+          old = λ m r x y. put .old m r (λ e e′. let x′ : r ≤ s .first j = rw e at x in omega arith);
           new = λ m r x y. new m r x y (ℕ-discrete m j) put;
         }
       where
         new : (m r : ℕ) → s .first m < r → r ≤ upd (s .first) j (suc (s .first j)) m → Dec (m ≡ j)
-            → Added (s .first) (s .item) j (record { value = s .slot i .value; stamp = suc (s .puts) }) (upd (s .first) j (suc (s .first j)))
+            → Added (s .first) (s .item) j (suc (s .first j)) (record { value = s .slot i .value; stamp = suc (s .puts) }) (upd (s .first) j (suc (s .first j)))
             (upd (s .item) j (upd (s .item j) (suc (s .first j)) (record { value = s .slot i .value; stamp = suc (s .puts) })))
             → s .puts < upd (s .item) j (upd (s .item j) (suc (s .first j)) (record { value = s .slot i .value; stamp = suc (s .puts) })) m r .stamp
         new m r x y (yes e) put =
@@ -156,7 +156,7 @@ module _ (g : Settings) (limits : settingsFit g ≡ true) (kind : g .kind ≡ 1)
         let some : 1 ≤ s .first j = take-row (got .live .inv) i seen e live in
         record {
           got =
-              got-call g limits kind got (step i) tt _ _
+              got-call g limits kind got (step i) tt _
               (step-is g s i l time (StackCommit Taking seen) e tt
               ∙ ap (applyIn g s i) (take-rule g s i seen (eq-eqb _ _ (sym live)) (lt-ltb _ _ some))
               ∙ apply-removed a seen e live);

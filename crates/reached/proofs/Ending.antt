@@ -51,7 +51,7 @@ module _ (g : Settings) (limits : settingsFit g ≡ true) (kind : g .kind ≡ 1)
       → About (ComesTo g last) Waits x row top top top (n + 81920) (b .to)
   lowered {top = top} {at = at} {s = s} u o h b =
       let deep : g .depth ≤ top = omega (arith, window-ge (o .got .live .inv .pool), o .top-is) in
-      let next : nextOf g (subIn (b .to) mover) ≡ last = ap (nextOf g) (b .index-is) ∙ next-up g (last - 1) (omega arith) ∙ omega arith in
+      let next : nextOf (g .width) (subIn (b .to) mover) ≡ last = ap (nextOf (g .width)) (b .index-is) ∙ next-up g (last - 1) (omega arith) ∙ omega arith in
       let missed : Missed g Taking (b .to .top) (b .to .first (subIn (b .to) mover)) =
       rw (b .index-is, b .held (last - 1) (omega arith) (le-refl _), b .top, o .top-is) (omega arith) in
       record {

@@ -68,7 +68,7 @@ module _ (g : Settings) (limits : settingsFit g ≡ true) (kind : g .kind ≡ 1)
       → (b : Brought g limits kind (5120 * suc (last - 1)) s mover 0 (last - 1) 0 (last - 1))
       → Only (ComesTo g last) Waits (g .depth) (g .depth) 163857 (b .to)
   emptied {s} o b =
-      let next : nextOf g (subIn (b .to) mover) ≡ last = ap (nextOf g) (b .index-is) ∙ next-up g (last - 1) (omega arith) ∙ omega arith in
+      let next : nextOf (g .width) (subIn (b .to) mover) ≡ last = ap (nextOf (g .width)) (b .index-is) ∙ next-up g (last - 1) (omega arith) ∙ omega arith in
       let missed : Missed g Taking (b .to .top) (b .to .first (subIn (b .to) mover)) =
       rw (b .index-is, b .held (last - 1) (omega arith) (le-refl _), b .top, o .top-is) (omega arith) in
       record {
@@ -184,7 +184,7 @@ module _ (g : Settings) (limits : settingsFit g ≡ true) (kind : g .kind ≡ 1)
 
   opens : (s : State) → Only AtLast Looks row row 164188 s → Opened
   opens s o =
-      let next : nextOf g (subIn s mover) ≡ 0 = ap (nextOf g) (o .mover-is .1) ∙ next-around g last last-is in
+      let next : nextOf (g .width) (subIn s mover) ≡ 0 = ap (nextOf (g .width)) (o .mover-is .1) ∙ next-around g last last-is in
       let full : Missed g Putting (s .top) (s .first (subIn s mover)) = rw (o .mover-is .1) (omega (arith, o .held, o .top-is)) in
       let b =
       sweep g limits kind Putting mover row two (last - 1) 0 (last - 1) s (omega arith) (omega arith) (o .got) (omega (arith, o .few, bounds .width16))

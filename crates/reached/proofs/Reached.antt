@@ -12,13 +12,15 @@ use native.Mathlib.Omega.{arith}
 use Rattle.rules.specs.Answers.{numberOf}
 use Rattle.rules.specs.Consequences.{wordsAfter}
 use Rattle.rules.specs.Limits.{settingsFit, Bounds}
+use Rattle.rules.specs.Windows.{sizeOf}
+use Rattle.rules.specs.Sequential.{boundBy}
 use Rattle.rules.specs.Newer.{highestWindow, exactRows, exactBound}
 use Rattle.rules.specs.Make.{makeOf}
 use Rattle.rules.specs.Run.{Call, step, callOf, stampIn, distanceIn}
-use Rattle.rules.specs.Spacers.{answerAfter}
+use Rattle.rules.specs.Spacers.{answerAfter, measuresAfter}
 use Rattle.rules.specs.declared.Stamp.{Stamp}
 use Rattle.reached.specs.Reached.{Reached, FrameworkExceeded}
-use Rattle.reached.proofs.Types.{Settings, Putting, Taking, StackCommit}
+use Rattle.reached.proofs.Types.{Settings, Putting, Taking, StackCommit, Size}
 use Rattle.rules.proofs.Fitness.{settings-bounds}
 use Rattle.rules.proofs.machine.Machine.{State, subIn, phaseIn, nextIn, madeIn}
 use Rattle.rules.proofs.machine.Turns.{Kind}
@@ -49,7 +51,7 @@ module _ (g : Settings) (limits : settingsFit g ≡ true) (kind : g .kind ≡ 1)
   module _ (one : g .width ≡ 1) where
     nothing : exactBound g ≡ 0
     unfolding exactBound
-    nothing = bound-stack g _ kind ∙ (let w : g .width - 1 ≡ 0 = omega arith in rw w (omega arith))
+    nothing = bound-stack g _ _ kind ∙ (let w : g .width - 1 ≡ 0 = omega arith in rw w (omega arith))
 
     taken-again : (b : BroughtOne g limits kind 5 (madeIn g) 0 0 1) → Found g
     taken-again b =
@@ -153,6 +155,11 @@ unfolding wordsAfter after
 answer-same g limits k r [] c = next-related g limits k r c .answer
 answer-same g limits k r (d ∷ cs) c = answer-same g limits k (next-related g limits k r d .related) cs c
 
+-- a stack's figure looks at no window's size
+exact-of-any : (g : Settings) → g .kind ≡ 1 → (size : Size) → boundBy g (exactRows g) size ≡ exactBound g
+unfolding exactBound
+exact-of-any g kind size = bound-stack g (exactRows g) size kind ∙ sym (bound-stack g (exactRows g) (sizeOf g) kind)
+
 -- what is reported is passed over, and no more is
 pub reached : Reached
 reached ws g made kind two =
@@ -168,7 +175,7 @@ reached ws g made kind two =
       calls = m .calls;
       worker = m .worker;
       taken = taken;
-      passes = le-antisymm (t .passes) (omega (arith, t .reports, reports, never-above g .held (wordsAfter (g .edition) (makeOf ws g .words) (m .calls)) stamp));
+      passes = le-antisymm (omega (arith, t .passes, exact-of-any g kind (measuresAfter (g .edition) (makeOf ws g .words) (m .calls) (m .worker) .size))) (omega (arith, t .reports, reports, never-above g .held (wordsAfter (g .edition) (makeOf ws g .words) (m .calls)) stamp));
       reports = reports;
     }
 

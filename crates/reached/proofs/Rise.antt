@@ -14,7 +14,7 @@ use Rattle.rules.specs.declared.Answer.the-variants.{Moving}
 use Rattle.rules.proofs.Fitness.{settings-bounds}
 use Rattle.rules.proofs.counts.Sums.{upd-same, upd-other}
 use Rattle.rules.proofs.counts.Wraps.{add32-is}
-use Rattle.rules.proofs.machine.Machine.{State, subIn, phaseIn, applyIn, turnedIn, apply-shifted}
+use Rattle.rules.proofs.machine.Machine.{State, next, subIn, phaseIn, applyIn, turnedIn, apply-shifted}
 use Rattle.rules.proofs.machine.Phases.{worker, stack-phase, encode-index}
 use Rattle.reached.proofs.Run.{Got, got-call}
 use Rattle.reached.proofs.Rules.{step-is, shift-rule}
@@ -38,10 +38,10 @@ module _ (g : Settings) (limits : settingsFit g ≡ true) (kind : g .kind ≡ 1)
       let x : Slot = encode k (s .slot i) in
       let up : add32 (s .top) (g .shift) ≡ s .top + g .shift = add32-is (s .top) (g .shift) (omega (arith, settings-bounds g limits .rows1024)) in
       record {
-        to = turnedIn s i (add32 (s .top) (g .shift)) (add32 (s .mark) 1) x;
+        to = turnedIn s i (add32 (s .top) (g .shift)) (add32 (s .mark) 1) (s .frame) x;
         later =
             later-same g limits kind
-            (got-call g limits kind got (step i) tt Moving (turnedIn s i (add32 (s .top) (g .shift)) (add32 (s .mark) 1) x)
+            (got-call g limits kind got (step i) tt (next Moving (turnedIn s i (add32 (s .top) (g .shift)) (add32 (s .mark) 1) (s .frame) x))
             (step-is g s i l time _ e tt
             ∙ ap (applyIn g s i)
             (shift-rule g s i (record { 0 = s .mark }) scan sum (eq-eqb (s .mark) (s .mark) refl) (le-leb (add32 (s .top) (g .shift)) (g .rows) (omega arith)))

@@ -19,8 +19,9 @@ use Rattle.rules.specs.Shift.{stackShift, shiftBy, shiftedOf}
 use Rattle.rules.specs.Step.{ruleBy, ruleOf}
 use Rattle.rules.specs.Run.{Call, beginPut, beginTake, step}
 use Rattle.rules.specs.Spacers.{NoSpacer}
-use Rattle.reached.proofs.Types.{Settings, Side, Putting, Taking, Phase, Idle, Window, QueuePutRead, QueueTakeRead, StackRead, Check, QueueCommit, StackCommit, QueueShift, StackShift, Confirm, Version}
+use Rattle.reached.proofs.Types.{Settings, Side, Putting, Taking, Phase, Idle, Window, QueuePutRead, QueueTakeRead, StackRead, Check, QueueCommit, StackCommit, QueueShift, StackShift, QueueConfirm, StackConfirm, Version}
 use Rattle.rules.specs.declared.Answer.the-variants.{Moving}
+use Rattle.rules.specs.declared.Outcome.the-variants.{Shifted}
 use Rattle.rules.proofs.machine.Machine.{State, next, subIn, viewIn, phaseIn, applyIn, nextIn}
 use Rattle.rules.proofs.machine.Calls.{able-does, step-called, begun, begin-called}
 use Rattle.rules.proofs.machine.Phases.{idle-phase}
@@ -33,11 +34,12 @@ Busy (QueuePutRead window scan) = Unit {0}
 Busy (QueueTakeRead window bare scan sum) = Unit {0}
 Busy (StackRead side window version scan sum) = Unit {0}
 Busy (Check side version seen) = Unit {0}
-Busy (QueueCommit side seen) = Unit {0}
+Busy (QueueCommit side window seen) = Unit {0}
 Busy (StackCommit side seen) = Unit {0}
 Busy (QueueShift side window) = Unit {0}
 Busy (StackShift side version scan sum) = Unit {0}
-Busy (Confirm side scan sum) = Unit {0}
+Busy (QueueConfirm window scan sum) = Unit {0}
+Busy (StackConfirm side scan sum) = Unit {0}
 
 -- a pass' sum after worker i's read
 abbrev pub sumAfter : State → ℕ → ℕ → ℕ
@@ -61,7 +63,7 @@ module _ (g : Settings) (s : State) (i : ℕ) where
       → nextIn g s (step i) ≡ applyIn g s i (ruleBy g (viewIn g s i) p)
   unfolding nextIn ruleOf
   step-is l time p e busy =
-      let awake : s .slot i .number ≢ 0 = λ z. subst Busy (sym e ∙ idle-phase (g .kind) (s .slot i) z) busy in
+      let awake : s .slot i .number ≢ 0 = λ z. subst Busy (sym e ∙ idle-phase g (s .slot i) z) busy in
       able-does (record { worker = l; busy = awake; time = time }) (step-called g s i) ∙ ap (λ (x : Phase). applyIn g s i (ruleBy g (viewIn g s i) x)) e
 
   -- ---- a begin
@@ -86,13 +88,13 @@ module _ (g : Settings) (s : State) (i : ℕ) where
 
     pub miss-rule : stackHit g (viewIn g s i) side window ≡ false → ltb (add32 scan 1) (g .width) ≡ true
         → ruleBy g (viewIn g s i) (StackRead side window version scan sum)
-        ≡ movedOf (viewIn g s i) (nextOf g (subIn s i)) (StackRead side window version (add32 scan 1) (sumAfter s i sum)) (s .slot i)
+        ≡ movedOf (viewIn g s i) (nextOf (g .width) (subIn s i)) (StackRead side window version (add32 scan 1) (sumAfter s i sum)) (s .slot i)
     unfolding ruleBy stackRead missOf cond
     miss-rule h more = rw (h, more) refl
 
     pub last-rule : stackHit g (viewIn g s i) side window ≡ false → ltb (add32 scan 1) (g .width) ≡ false
         → ruleBy g (viewIn g s i) (StackRead side window version scan sum)
-        ≡ movedOf (viewIn g s i) (nextOf g (subIn s i)) (StackShift side version 0 (sumAfter s i sum)) (s .slot i)
+        ≡ movedOf (viewIn g s i) (nextOf (g .width) (subIn s i)) (StackShift side version 0 (sumAfter s i sum)) (s .slot i)
     unfolding ruleBy stackRead missOf cond
     last-rule h more = rw (h, more) refl
 
@@ -102,7 +104,7 @@ module _ (g : Settings) (s : State) (i : ℕ) where
   check-rule side version seen h = rw h refl
 
   pub shift-rule : (version : Version) (scan sum : ℕ) → eqb (s .mark) (version .0) ≡ true → leb (add32 (s .top) (g .shift)) (g .rows) ≡ true
-      → ruleBy g (viewIn g s i) (StackShift Putting version scan sum) ≡ shiftedOf (viewIn g s i) Putting (add32 (s .top) (g .shift)) (add32 (s .mark) 1)
+      → ruleBy g (viewIn g s i) (StackShift Putting version scan sum) ≡ shiftedOf (viewIn g s i) Shifted Putting (add32 (s .top) (g .shift)) (add32 (s .mark) 1)
   unfolding ruleBy stackShift shiftBy cond
   shift-rule version scan sum h able = rw (h, able) refl
 

@@ -9,9 +9,9 @@ use Rattle.rules.specs.Limits.{settingsFit}
 use Rattle.rules.specs.Sequential.{Contents}
 use Rattle.rules.specs.Run.{Call}
 use Rattle.rules.specs.Spacers.{NoSpacer}
-use Rattle.reached.proofs.Types.{Settings, Answer}
+use Rattle.reached.proofs.Types.{Settings}
 use Rattle.rules.proofs.order.Law.{Next}
-use Rattle.rules.proofs.machine.Machine.{State, next, subIn, nextIn, madeIn}
+use Rattle.rules.proofs.machine.Machine.{State, subIn, nextIn, madeIn}
 use Rattle.rules.proofs.machine.Good.{good}
 use Rattle.rules.proofs.machine.Turns.{Common}
 use Rattle.rules.proofs.stack.Inv.{Inv}
@@ -65,9 +65,9 @@ module _ (g : Settings) (limits : settingsFit g ≡ true) (kind : g .kind ≡ 1)
       record { list = n .list; common = n .whole .common; inv = n .whole .inv; no-spacers = n .no-spacers plain (l .no-spacers) }
 
   -- one call more
-  pub got-call : {s : State} → Got s → (c : Call) → NoSpacer c → (a : Answer) (t : State) → nextIn g s c ≡ next a t → Got t
-  got-call {s} got c plain a t e =
-      let u : nextIn g s c .state ≡ t = ap (λ (o : Next State). o .state) e in
+  pub got-call : {s : State} → Got s → (c : Call) → NoSpacer c → (n : Next State) → nextIn g s c ≡ n → Got (n .state)
+  got-call {s} got c plain n e =
+      let u : nextIn g s c .state ≡ n .state = ap (λ (o : Next State). o .state) e in
       record {
         calls = got .calls ++ (c ∷ []);
         ends = after-more g (madeIn g) (got .calls) c ∙ ap (λ (x : State). nextIn g x c .state) (got .ends) ∙ u;

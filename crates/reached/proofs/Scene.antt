@@ -42,8 +42,8 @@ abbrev pub ComesTo : Settings → ℕ → State → Type 0
 ComesTo g last s = Comes g Taking s mover last
 
 -- ---- a worker that others leave alone
-pub phase-kept : (g : Settings) {x y : Slot} → x ≡ y → phaseOf (g .kind) x ≡ phaseOf (g .kind) y
-phase-kept g e = ap (λ (z : Slot). phaseOf (g .kind) z) e
+pub phase-kept : (g : Settings) {x y : Slot} → x ≡ y → phaseOf g x ≡ phaseOf g y
+phase-kept g e = ap (λ (z : Slot). phaseOf g z) e
 
 pub index-kept : {x y : Slot} → x ≡ y → x .index ≡ y .index
 index-kept e = ap (λ (z : Slot). z .index) e

@@ -14,7 +14,6 @@ use Rattle.rules.specs.Read.{stackHit}
 use Rattle.rules.specs.Step.{ruleBy}
 use Rattle.rules.specs.Run.{step}
 use Rattle.reached.proofs.Types.{Settings, Side, Putting, Taking, Phase, Window, StackRead, Check, StackCommit, StackShift, Version, Worker, Slot}
-use Rattle.rules.specs.declared.Answer.the-variants.{Moving}
 use Rattle.rules.proofs.Fitness.{settings-bounds}
 use Rattle.rules.proofs.counts.Sums.{upd-same, upd-other}
 use Rattle.rules.proofs.counts.Wraps.{add32-suc, sub32-is}
@@ -126,11 +125,11 @@ module _ (g : Settings) (limits : settingsFit g ≡ true) (kind : g .kind ≡ 1)
 
   -- ---- a call that changes worker i's slot alone, and the steps counted
   in-slot : {n : ℕ} (s : State) (i steps : ℕ) (k : Worker) (kept : Slot) → OfStack (k .phase) → steps ≤ s .steps + n
-      → Reaches (slotIn s i steps (s .top) (s .mark) (encode k kept)) → Walked n s i (k .index) (k .phase)
+      → Reaches (slotIn s i steps (s .top) (s .mark) (s .frame) (encode k kept)) → Walked n s i (k .index) (k .phase)
   in-slot s i steps k kept of l got =
       let x : Slot = encode k kept in
       record {
-        to = slotIn s i steps (s .top) (s .mark) x;
+        to = slotIn s i steps (s .top) (s .mark) (s .frame) x;
         got = got;
         steps = l;
         puts = refl;
@@ -150,12 +149,12 @@ module _ (g : Settings) (limits : settingsFit g ≡ true) (kind : g .kind ≡ 1)
         → ruleBy g (viewIn g s i) p₀ ≡ movedOf (viewIn g s i) index p kept → Walked 1 s i index p
     moved p₀ e busy index p kept of rule =
         in-slot s i (suc (s .steps)) (worker (s .slot i .value) index p) kept of (omega arith)
-        (got-call g limits kind got (step i) tt Moving _ (step-is g s i l time p₀ e busy ∙ ap (applyIn g s i) rule ∙ apply-moved g s i index p kept))
+        (got-call g limits kind got (step i) tt _ (step-is g s i l time p₀ e busy ∙ ap (applyIn g s i) rule ∙ apply-moved g s i index p kept))
 
     pub begin : (side : Side) → s .slot i .number ≡ 0 → Walked 0 s i (subIn s i) (Window side)
     begin side z =
         in-slot s i (s .steps) (worker (valueBegun side) (subIn s i) (Window side)) zeroSlot tt (omega arith)
-        (got-call g limits kind got (begins i side) (begins-no-spacer i side) Moving _ (begin-is g s i side l time z))
+        (got-call g limits kind got (begins i side) (begins-no-spacer i side) _ (begin-is g s i side l time z))
 
     pub window : (side : Side) → phaseIn g s i ≡ Window side → Walked 1 s i (subIn s i) (Reads s side 0 0)
     window side e = moved (Window side) e tt (subIn s i) _ zeroSlot tt (window-rule g s i kind side)
@@ -165,18 +164,18 @@ module _ (g : Settings) (limits : settingsFit g ≡ true) (kind : g .kind ≡ 1)
       hit h = moved _ e tt (subIn s i) _ _ tt (hit-rule g s i side (s .top) (record { 0 = s .mark }) scan sum (hits s got i side h))
 
       pub miss : Missed g side (s .top) (s .first (subIn s i)) → suc scan < g .width
-          → Walked 1 s i (nextOf g (subIn s i)) (Reads s side (suc scan) (sumAfter s i sum))
+          → Walked 1 s i (nextOf (g .width) (subIn s i)) (Reads s side (suc scan) (sumAfter s i sum))
       miss h more =
           let up : add32 scan 1 ≡ suc scan = add32-suc scan (omega (arith, bounds .width16)) in
-          subst (λ (y : ℕ). Walked 1 s i (nextOf g (subIn s i)) (Reads s side y (sumAfter s i sum))) up
-          (moved _ e tt (nextOf g (subIn s i)) _ (s .slot i) tt
+          subst (λ (y : ℕ). Walked 1 s i (nextOf (g .width) (subIn s i)) (Reads s side y (sumAfter s i sum))) up
+          (moved _ e tt (nextOf (g .width) (subIn s i)) _ (s .slot i) tt
           (miss-rule g s i side (s .top) (record { 0 = s .mark }) scan sum (misses s got i side h) (lt-ltb (add32 scan 1) (g .width) (omega arith))))
 
       pub miss-last : Missed g side (s .top) (s .first (subIn s i)) → suc scan ≡ g .width
-          → Walked 1 s i (nextOf g (subIn s i)) (StackShift side (record { 0 = s .mark }) 0 (sumAfter s i sum))
+          → Walked 1 s i (nextOf (g .width) (subIn s i)) (StackShift side (record { 0 = s .mark }) 0 (sumAfter s i sum))
       miss-last h last =
           let up : add32 scan 1 ≡ suc scan = add32-suc scan (omega (arith, bounds .width16)) in
-          moved _ e tt (nextOf g (subIn s i)) _ (s .slot i) tt
+          moved _ e tt (nextOf (g .width) (subIn s i)) _ (s .slot i) tt
           (last-rule g s i side (s .top) (record { 0 = s .mark }) scan sum (misses s got i side h) (le-ltb (add32 scan 1) (g .width) (omega arith)))
 
     pub check : (side : Side) (seen : Version) → phaseIn g s i ≡ Check side (record { 0 = s .mark }) seen → Walked 1 s i (subIn s i) (StackCommit side seen)

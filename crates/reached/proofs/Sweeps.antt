@@ -196,7 +196,7 @@ module _ (g : Settings) (limits : settingsFit g ≡ true) (kind : g .kind ≡ 1)
         in-steps (omega arith) (subst (λ (y : ℕ). Brings 5120 s i low y c y) x (sub low s got (omega arith) (omega arith) comes target (short low (le-refl _) (omega arith))))
     sweep (suc k) low last s e w got time comes target short =
         let a = sub low s got (omega arith) (omega arith) comes target (short low (le-refl _) (omega arith)) in
-        let next : nextOf g (subIn (a .to) i) ≡ suc low = ap (nextOf g) (a .index-is) ∙ next-up g low (omega arith) in
+        let next : nextOf (g .width) (subIn (a .to) i) ≡ suc low = ap (nextOf (g .width)) (a .index-is) ∙ next-up g low (omega arith) in
         let done : Missed g side (a .to .top) (a .to .first (subIn (a .to) i)) = rw (a .index-is, a .held low (le-refl _) (le-refl _), a .top) (target-missed g side (s .top) c target) in
         both i c (omega arith) (upwards low low last (omega arith) (omega arith)) a
         (sweep k (suc low) last (a .to) (omega arith) w (a .later .got) (omega (arith, a .later .steps)) (before (a .rests) next (omega arith) done)
@@ -210,7 +210,7 @@ module _ (g : Settings) (limits : settingsFit g ≡ true) (kind : g .kind ≡ 1)
     fill-around : (n : ℕ) (s : State) → suc n ≤ last → s .steps + 81920 ≤ stepLimit → ((m : ℕ) → m ≤ last → s .first m < s .top)
         → (a : Brings (5120 * suc (last - suc n)) s i (suc n) last (s .top) last) → Brings 81920 s i 0 last (s .top) n
     fill-around n s u time low a =
-        let next : nextOf g (subIn (a .to) i) ≡ 0 = ap (nextOf g) (a .index-is) ∙ next-around g last last-is in
+        let next : nextOf (g .width) (subIn (a .to) i) ≡ 0 = ap (nextOf (g .width)) (a .index-is) ∙ next-around g last last-is in
         let full : a .to .top ≤ a .to .first (subIn (a .to) i) = rw (a .index-is, a .held last u (le-refl _), a .top) (le-refl _) in
         both i (s .top) (omega (arith, bounds .width16)) (around 0 n last (omega arith) (omega arith)) a
         (sweep Putting i (s .top) l n 0 n (a .to) (omega arith) (omega arith) (a .later .got) (omega (arith, a .later .steps, bounds .width16))

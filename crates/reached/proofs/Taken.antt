@@ -2,7 +2,7 @@
 -- passes over as many: nothing has to be known of the last sub's other items. The take of x does, for every item of the other subs is newer.
 -- No spacer was put, so it reports them all.
 use mathlib.Core.Path.{_≡_, refl, sym, ap, _∙_, subst}
-use mathlib.Core.Bool.{Bool, true}
+use mathlib.Core.Bool.{Bool, true, _&&_}
 use mathlib.Core.List.{List}
 use Prim.Native.Nat.{ℕ, suc, _+_, _-_, _≤_, _<_}
 use native.Mathlib.Nat.{le-antisymm}
@@ -11,6 +11,7 @@ use borrow.Author.Tests.{lt-ltb, eq-eqb}
 use Rattle.laws.specs.Choice.{cond-false}
 use Rattle.rules.specs.Answers.{numberOf}
 use Rattle.rules.specs.Held.{passedOver}
+use Rattle.rules.proofs.counts.Held.{real}
 use Rattle.rules.specs.Limits.{settingsFit, stepLimit}
 use Rattle.rules.specs.Newer.{exactRows, exactBound}
 use Rattle.rules.specs.Sequential.{passedBy}
@@ -64,6 +65,7 @@ module _ (g : Settings) (limits : settingsFit g ≡ true) (kind : g .kind ≡ 1)
         ∙ apply-removed stepping seen waits refl)
 
     exactly : distanceAt g s (s .item (subIn s i) (s .first (subIn s i)) .stamp) ≡ exactBound g
+    unfolding exactBound
     exactly =
         distance-is g kind (got .live .inv .pool) _
         ∙ without-spacers (g .kind) (s .item (subIn s i) (s .first (subIn s i)) .stamp) (got .live .list .items) (got .live .no-spacers .listed)
@@ -79,8 +81,10 @@ module _ (g : Settings) (limits : settingsFit g ≡ true) (kind : g .kind ≡ 1)
   module _ (last : ℕ) (last-is : suc last ≡ g .width) (two : 2 ≤ g .workers) (another : 1 ≤ last) where
     -- every item of another sub is newer than x, and each of these subs is filled up to the figure
     module _ (x row high : ℕ) (exact : high ≡ exactRows g) (s : State) (o : Last g limits kind last last-is two another x row high s) where
-      newer-row : (m r : ℕ) → m < last → 1 ≤ r → r ≤ s .first m → passedOver (g .kind) x (s .item m r) ≡ true
-      newer-row m r l u v = rw kind (cond-false _ _ ∙ lt-ltb _ _ (o .scene .newer m r l u v))
+      newer-row : (m r : ℕ) → m < last → 1 ≤ r → r ≤ s .first m → (real (s .item m r) && passedOver (g .kind) x (s .item m r)) ≡ true
+      newer-row m r l u v =
+          let after = o .scene .newer m r l u v in
+          rw (kind, lt-ltb 0 (s .item m r .stamp) (omega arith)) (cond-false _ _ ∙ lt-ltb _ _ after)
 
       all-rows : (p : ℕ → Bool) (n : ℕ) → ((r : ℕ) → 1 ≤ r → r ≤ n → p r ≡ true) → upTo p n ≡ n
       all-rows p n h = upTo-ext p (λ r. true) n h ∙ upTo-true n
@@ -90,8 +94,8 @@ module _ (g : Settings) (limits : settingsFit g ≡ true) (kind : g .kind ≡ 1)
           rw (stack-below g kind (s .second m))
           (omega (
             arith,
-            all-rows (λ r. passedOver (g .kind) x (s .item m r)) (s .first m) (λ r u v. newer-row m r l u v),
-            upTo-none (λ r. passedOver (g .kind) x (s .item m r)),
+            all-rows (λ r. real (s .item m r) && passedOver (g .kind) x (s .item m r)) (s .first m) (λ r u v. newer-row m r l u v),
+            upTo-none (λ r. real (s .item m r) && passedOver (g .kind) x (s .item m r)),
             o .full m l,
           ))
 
@@ -100,7 +104,7 @@ module _ (g : Settings) (limits : settingsFit g ≡ true) (kind : g .kind ≡ 1)
       at-least =
           let f : ℕ → ℕ = countIn g s (passedOver (g .kind) x) in
           let w : g .width - 1 ≡ last = omega arith in
-          rw (bound-stack g _ kind, passed-is g kind (o .got .live .inv .pool) x, w, ← last-is) (omega (arith, sum-gap (λ m. 0) f last (exactRows g) newer-sub, sum-zero last, sum-more f last))
+          rw (bound-stack g _ _ kind, passed-is g kind (o .got .live .inv .pool) x, w, ← last-is) (omega (arith, sum-gap (λ m. 0) f last (exactRows g) newer-sub, sum-zero last, sum-more f last))
 
       pub found : Found g
       found =

@@ -16,24 +16,24 @@ use Rattle.reached.proofs.Run.{Got}
 use Rattle.reached.proofs.Steps.{Walked, stay, slower, then, Reads, still-reads, begin, window, hit, miss, miss-last, check}
 use Rattle.reached.proofs.Rules.{sumAfter}
 
-pub next-up : (g : Settings) (x : ℕ) → suc x < g .width → nextOf g x ≡ suc x
-next-up g x l = go (next-cases g x (omega arith))
+pub next-up : (g : Settings) (x : ℕ) → suc x < g .width → nextOf (g .width) x ≡ suc x
+next-up g x l = go (next-cases (g .width) x (omega arith))
   where
-    go : ((suc x < g .width) × (nextOf g x ≡ suc x)) ⊎ ((suc x ≡ g .width) × (nextOf g x ≡ 0)) → nextOf g x ≡ suc x
+    go : ((suc x < g .width) × (nextOf (g .width) x ≡ suc x)) ⊎ ((suc x ≡ g .width) × (nextOf (g .width) x ≡ 0)) → nextOf (g .width) x ≡ suc x
     go (inl h) = h .1
     go (inr h) = absurd (omega (arith, h .0))
 
-pub next-around : (g : Settings) (x : ℕ) → suc x ≡ g .width → nextOf g x ≡ 0
-next-around g x l = go (next-cases g x (omega arith))
+pub next-around : (g : Settings) (x : ℕ) → suc x ≡ g .width → nextOf (g .width) x ≡ 0
+next-around g x l = go (next-cases (g .width) x (omega arith))
   where
-    go : ((suc x < g .width) × (nextOf g x ≡ suc x)) ⊎ ((suc x ≡ g .width) × (nextOf g x ≡ 0)) → nextOf g x ≡ 0
+    go : ((suc x < g .width) × (nextOf (g .width) x ≡ suc x)) ⊎ ((suc x ≡ g .width) × (nextOf (g .width) x ≡ 0)) → nextOf (g .width) x ≡ 0
     go (inl h) = absurd (omega (arith, h .0))
     go (inr h) = h .1
 
 -- worker i comes to sub j: it rests there; or it rests at the sub before, which it will miss; or it has begun and is to look at the window
 pub data Comes (g : Settings) (side : Side) (s : State) (i j : ℕ) : Type 0 where
   there : s .slot i .number ≡ 0 → subIn s i ≡ j → Comes g side s i j
-  before : s .slot i .number ≡ 0 → nextOf g (subIn s i) ≡ j → 2 ≤ g .width → Missed g side (s .top) (s .first (subIn s i)) → Comes g side s i j
+  before : s .slot i .number ≡ 0 → nextOf (g .width) (subIn s i) ≡ j → 2 ≤ g .width → Missed g side (s .top) (s .first (subIn s i)) → Comes g side s i j
   begun : phaseIn g s i ≡ Window side → subIn s i ≡ j → Comes g side s i j
 
 module _ (g : Settings) (limits : settingsFit g ≡ true) (kind : g .kind ≡ 1) where
@@ -54,11 +54,11 @@ module _ (g : Settings) (limits : settingsFit g ≡ true) (kind : g .kind ≡ 1)
         rw (← a .index-is, ← a .top, ← a .mark) (window g limits kind (a .to) (a .got) i l (omega (arith, a .steps)) side (a .phase)) in
         then g limits kind (omega arith) a b
 
-    arrive-next : Walk 1 s i (subIn s i) (Reads s side 0 0) → s .steps + 1 < stepLimit → 2 ≤ g .width → nextOf g (subIn s i) ≡ j
+    arrive-next : Walk 1 s i (subIn s i) (Reads s side 0 0) → s .steps + 1 < stepLimit → 2 ≤ g .width → nextOf (g .width) (subIn s i) ≡ j
         → Missed g side (s .top) (s .first (subIn s i)) → Arrives
     arrive-next a time w x h =
         let h′ : Missed g side (a .to .top) (a .to .first (subIn (a .to) i)) = rw (a .top, a .first, a .index-is) h in
-        let x′ : nextOf g (subIn (a .to) i) ≡ j = rw (a .index-is) x in
+        let x′ : nextOf (g .width) (subIn (a .to) i) ≡ j = rw (a .index-is) x in
         let sum : ℕ = sumAfter (a .to) i 0 in
         let b : Walk 1 (a .to) i j (Reads s side 1 sum) =
         rw (← x′, ← a .top, ← a .mark) (miss g limits kind (a .to) (a .got) i l (omega (arith, a .steps)) side 0 0 (still-reads g limits kind a) h′ (omega arith)) in
@@ -106,14 +106,14 @@ module _ (g : Settings) (limits : settingsFit g ≡ true) (kind : g .kind ≡ 1)
         → phaseIn g s i ≡ Reads s Putting scan sum → subIn s i ≡ scan → ((j : ℕ) → j < g .width → s .top ≤ s .first j) → Passed (suc rest) s
     pass-from zero scan sum s got w time e x full = (
       sumAfter s i sum,
-      subst (λ (y : ℕ). Walk 1 s i y (StackShift Putting (record { 0 = s .mark }) 0 (sumAfter s i sum))) (ap (nextOf g) x ∙ next-around g scan (omega arith))
+      subst (λ (y : ℕ). Walk 1 s i y (StackShift Putting (record { 0 = s .mark }) 0 (sumAfter s i sum))) (ap (nextOf (g .width)) x ∙ next-around g scan (omega arith))
           (miss-last g limits kind s got i l (omega arith) Putting scan sum e (full (subIn s i) (omega arith)) (omega arith)),
     )
     pass-from (suc rest) scan sum s got w time e x full =
         let a = miss g limits kind s got i l (omega arith) Putting scan sum e (full (subIn s i) (omega arith)) (omega arith) in
-        pass-on (suc rest) (suc (suc rest)) s (nextOf g (subIn s i)) _ (omega arith) a
+        pass-on (suc rest) (suc (suc rest)) s (nextOf (g .width) (subIn s i)) _ (omega arith) a
         (pass-from rest (suc scan) (sumAfter s i sum) (a .to) (a .got) (omega arith) (omega (arith, a .steps)) (still-reads g limits kind a)
-        (a .index-is ∙ ap (nextOf g) x ∙ next-up g scan (omega arith)) (λ j u. rw (a .first, a .top) (full j u)))
+        (a .index-is ∙ ap (nextOf (g .width)) x ∙ next-up g scan (omega arith)) (λ j u. rw (a .first, a .top) (full j u)))
 
     pub passes : (s : State) → Got g limits kind s → s .steps + 17 ≤ stepLimit → phaseIn g s i ≡ Window Putting → subIn s i ≡ 0
         → ((j : ℕ) → j < g .width → s .top ≤ s .first j) → Passed 17 s

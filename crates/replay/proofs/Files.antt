@@ -16,7 +16,7 @@ use Rattle.rules.specs.Answers.{Out, numberOf}
 use Rattle.rules.specs.Consequences.{wordsAfter}
 use Rattle.rules.specs.Limits.{settingsFit}
 use Rattle.rules.specs.Make.{shipped, shippedFrom, makeOf}
-use Rattle.rules.specs.Run.{Event, callOf, run}
+use Rattle.rules.specs.Run.{Event, eventOf, callOf, run}
 use Rattle.rules.specs.Statement.{All}
 use Rattle.rules.specs.declared.Settings.{Settings}
 use Rattle.rules.specs.declared.Answer.{Answer}
@@ -78,20 +78,20 @@ abbrev Runs : List ℕ → List ℕ → List Event → Type 0
 Runs ws after es = (es ≡ run shipped ws (map (λ (e : Event). e .call) es)) × (after ≡ wordsAfter shipped ws (map (λ (e : Event). e .call) es))
 
 run-on : (a : Asked) (ws : List ℕ) (answer : Answer) (ws′ after : List ℕ) (es : List Event) → answer ≡ outOf ws a .answer → ws′ ≡ outOf ws a .words → NoMake a
-    → Runs ws′ after es → Runs ws after (withCall a answer es)
+    → Runs ws′ after es → Runs ws after (withCall ws a answer es)
 unfolding outOf run wordsAfter
 run-on nothing ws answer ws′ after es e w less h = rw w at h
 run-on (making g) ws answer ws′ after es e w less h = absurd less
 run-on (calling c) ws answer ws′ after es e w less h =
     let h′ : Runs (callOf shipped ws c .words) after es = rw w at h in
-    (rw e (ap (λ (l : List Event). record { call = c; answer = callOf shipped ws c .answer } ∷ l) (h′ .0)), h′ .1)
+    (rw e (ap (λ (l : List Event). eventOf ws c (callOf shipped ws c .answer) ∷ l) (h′ .0)), h′ .1)
 
 -- events that follow each other without a make
-chain-runs : (position : ℕ) (ws : List ℕ) (xs : List Happened) → Chain position ws xs → Makeless xs → Runs ws (wordsIn ws xs) (eventsIn xs)
+chain-runs : (position : ℕ) (ws : List ℕ) (xs : List Happened) → Chain position ws xs → Makeless xs → Runs ws (wordsIn ws xs) (eventsIn ws xs)
 unfolding eventsIn wordsIn run wordsAfter
 chain-runs position ws [] h less = (refl, refl)
 chain-runs position ws (x ∷ xs) h less =
-    run-on (askedOf (x .event .item)) ws (x .event .answer) (x .words) (wordsIn (x .words) xs) (eventsIn xs) (h .0) (h .1) (less .0)
+    run-on (askedOf (x .event .item)) ws (x .event .answer) (x .words) (wordsIn (x .words) xs) (eventsIn (x .words) xs) (h .0) (h .1) (less .0)
     (chain-runs (position + 1) (x .words) xs (h .3) (less .1))
 
 -- ---- how a file begins
@@ -138,7 +138,7 @@ opened-front (x ∷ xs) rest h = (h .0, made-front xs rest (h .1))
 -- ---- the theorem
 -- the two opening words make no call
 opening-events : (x y : Happened) (xs : List Happened) (g : Settings) → askedOf (x .event .item) ≡ nothing → askedOf (y .event .item) ≡ making g
-    → eventsIn (x ∷ y ∷ xs) ≡ eventsIn xs
+    → eventsIn lent (x ∷ y ∷ xs) ≡ eventsIn (y .words) xs
 unfolding eventsIn
 opening-events x y xs g ex ey = rw (ex, ey)
 
@@ -162,20 +162,20 @@ opened-runs : (x y : Happened) (xs : List Happened) (h : Chain 0 lent (x ∷ y �
 opened-runs x y xs h o =
     let g = shippedFrom (o .1 .0) in
     let m = make-out x y g (h .0, h .1, h .2, (h .3 .0, h .3 .1, h .3 .2, tt)) (o .0) (o .1 .1) in
-    let r : Runs (makeOf lent g .words) (wordsIn (makeOf lent g .words) xs) (eventsIn xs) = rw (m .1) at (chain-runs 2 (y .words) xs (h .3 .3) (o .1 .3)) in
+    let r : Runs (makeOf lent g .words) (wordsIn (makeOf lent g .words) xs) (eventsIn (makeOf lent g .words) xs) = rw (m .1) at (chain-runs 2 (y .words) xs (h .3 .3) (o .1 .3)) in
     let same = opening-events x y xs g (o .0) (o .1 .1) in
     record {
       made = rw (m .0) at (o .1 .2);
-      answers = rw same (r .0);
+      answers = rw (same, m .1) (r .0);
       words = rw same (opening-words x y xs ∙ (rw (m .1) (r .1)));
     }
 
 -- before them there is neither a pool nor a call
-none-yet : eventsIn [] ≡ []
+none-yet : eventsIn lent [] ≡ []
 unfolding eventsIn
 none-yet = refl
 
-events-alone : (x : Happened) → askedOf (x .event .item) ≡ nothing → eventsIn (x ∷ []) ≡ []
+events-alone : (x : Happened) → askedOf (x .event .item) ≡ nothing → eventsIn lent (x ∷ []) ≡ []
 unfolding eventsIn
 events-alone x e = rw e
 

@@ -8,7 +8,7 @@ use lib.ListN.{length}
 use Rattle.rules.specs.Answers.{numberOf}
 use Rattle.rules.specs.Consequences.{wordsAfter, OfEveryRun}
 use Rattle.rules.specs.Make.{makeOf}
-use Rattle.rules.specs.Run.{Call, Event, run}
+use Rattle.rules.specs.Run.{Call, Event, eventOf, run}
 use Rattle.rules.specs.declared.Settings.{Settings}
 use Rattle.rules.specs.declared.Answer.{Answer}
 use Rattle.replay.specs.Replay.{Asked, nothing, making, calling, askedOf, Happened, replayOf, lent}
@@ -27,18 +27,18 @@ unfoldable pub poolIn : List Happened → Option Settings
 poolIn [] = none
 poolIn (x ∷ xs) = settingsOr (poolIn xs) (asked x)
 
--- the calls, each with its answer
-abbrev pub withCall : Asked → Answer → List Event → List Event
-withCall nothing a rest = rest
-withCall (making g) a rest = rest
-withCall (calling c) a rest = record { call = c; answer = a } ∷ rest
+-- the calls, each with its answer, on the words just before it
+abbrev pub withCall : List ℕ → Asked → Answer → List Event → List Event
+withCall ws nothing a rest = rest
+withCall ws (making g) a rest = rest
+withCall ws (calling c) a rest = eventOf ws c a ∷ rest
 
-unfoldable pub eventsIn : List Happened → List Event
-eventsIn [] = []
-eventsIn (x ∷ xs) = withCall (asked x) (x .event .answer) (eventsIn xs)
+unfoldable pub eventsIn : List ℕ → List Happened → List Event
+eventsIn ws [] = []
+eventsIn ws (x ∷ xs) = withCall ws (asked x) (x .event .answer) (eventsIn (x .words) xs)
 
 abbrev pub callsIn : List Happened → List Call
-callsIn xs = map (λ (e : Event). e .call) (eventsIn xs)
+callsIn xs = map (λ (e : Event). e .call) (eventsIn lent xs)
 
 -- the pool's words after the last of them
 unfoldable pub wordsIn : List ℕ → List Happened → List ℕ
@@ -49,12 +49,12 @@ wordsIn ws (x ∷ xs) = wordsIn (x .words) xs
 -- the events of a file, or a front part of them, are a run on a new pool of these settings
 pub record RunsOn (g : Settings) (xs : List Happened) : Type 0 where
   pub made : numberOf (makeOf lent g .answer) ≡ 0
-  pub answers : eventsIn xs ≡ run (g .edition) (makeOf lent g .words) (callsIn xs)
+  pub answers : eventsIn lent xs ≡ run (g .edition) (makeOf lent g .words) (callsIn xs)
   pub words : wordsIn lent xs ≡ wordsAfter (g .edition) (makeOf lent g .words) (callsIn xs)
 
 -- before there is a pool there is no call
 abbrev pub RunsOnPool : Option Settings → List Happened → Type 0
-RunsOnPool none xs = eventsIn xs ≡ []
+RunsOnPool none xs = eventsIn lent xs ≡ []
 RunsOnPool (some g) xs = RunsOn g xs
 
 -- the first words of a file that did something: all of them, or those before some others

@@ -1,7 +1,7 @@
 -- Two pools whose settings differ in stride and edition alone, and whose words read alike: the shared words, the subs, the workers' words and the
 -- cells of either are the same, each at its place. Then whatever is read of them is the same: what a worker sees, the items held, the fitness. The
 -- rules ask for the stride only where a commit failed, and never for the edition.
-use Prim.Native.Nat.{ℕ, zero, suc, _+_, _≤_, _<_}
+use Prim.Native.Nat.{ℕ, zero, suc, _+_, _-_, _*_, _≤_, _<_}
 use mathlib.Core.Path.{_≡_, refl, sym, ap, _∙_}
 use mathlib.Core.Bool.{Bool}
 use mathlib.Core.List.{List}
@@ -10,23 +10,38 @@ use lib.ListN.{getD, length}
 use lib.Dec.{ltb}
 use Rattle.laws.specs.Choice.{cond-under, allBelow-same}
 use Rattle.rules.specs.Layout.{kindAt, widthAt, depthAt, shiftAt, rowsAt, workerCountAt, strideAt, editionAt, settingsOf, putsAt, topAt, markAt, slotWords, firstOf, secondOf, subAt, secondAt, workerAt, indexAt, indexWord, needed}
-use Rattle.rules.specs.Worker.{slotAt, decode}
+use Rattle.rules.specs.Windows.{ownSizes}
+use Rattle.rules.specs.Worker.{slotAt, phaseOf, queuePhase, decode}
 use Rattle.rules.specs.Fit.{Checked, Unfit, Fit, subFit, subsFit, wordFit, workersFit, bodyChecked}
-use Rattle.rules.specs.Effects.{nextOf, hopOf, viewOf}
+use Rattle.rules.specs.Effects.{hopOf, viewOf}
 use Rattle.rules.specs.Held.{itemAt, itemsAbove, heldSub, heldBelow, countItems, reported, distanceOf}
 use Rattle.rules.specs.Window.{windowRule}
-use Rattle.rules.specs.Read.{missOf, queuePutRead, queueTakeRead, stackRead}
+use Rattle.rules.specs.Read.{missOf, stackRead}
 use Rattle.rules.specs.Commit.{commitBy, queueCommit, stackCommit}
 use Rattle.rules.specs.Shift.{queueShift, stackShift}
-use Rattle.rules.specs.Confirm.{confirmedOf, confirmRule}
+use Rattle.rules.specs.Confirm.{stackConfirm}
 use Rattle.rules.specs.Apply.{takenOf}
 use Rattle.rules.specs.Step.{ruleBy}
+use Rattle.rules.specs.Measures.{measured, measuresOf, placesOf}
+use Rattle.rules.specs.Run.{Call, beginPut, beginTake, step, measuresAt}
 use Rattle.rules.specs.Make.{inEdition}
 use Rattle.rules.specs.Stride.{withStride}
 use Rattle.rules.specs.declared.Answer.the-variants.{Taken}
-use Rattle.rules.proofs.Types.{Settings, Side, Putting, Taking, Phase, Idle, Window, QueuePutRead, QueueTakeRead, StackRead, Check, QueueCommit, StackCommit, QueueShift, StackShift, Confirm, View, Row, Effect}
+use Rattle.rules.proofs.Types.{Settings, Side, Putting, Taking, Phase, Idle, Window, QueuePutRead, QueueTakeRead, StackRead, Check, QueueCommit, StackCommit, QueueShift, StackShift, QueueConfirm, StackConfirm, View, Row, Effect, Answer}
 use Rattle.rules.proofs.Fitness.{slots-fit}
 use Rattle.rules.proofs.words.Writes.{slot-same}
+
+-- what an answer is held to, by the words before the stride
+pub measures-alike : (ws vs : List ℕ) → ((m : ℕ) → m < strideAt → getD vs m 0 ≡ getD ws m 0) → (c : Call) (a : Answer) → measuresAt vs c a ≡ measuresAt ws c a
+unfolding measuresAt measuresOf placesOf
+measures-alike ws vs same (beginPut i v) a = refl
+measures-alike ws vs same (beginTake i) a = refl
+measures-alike ws vs same (step i) a =
+    let width = same widthAt (omega arith) in
+    let depth = same depthAt (omega arith) in
+    let top = same topAt (omega arith) in
+    let mark = same markAt (omega arith) in
+    λ u. measured (record { width = width u; depth = depth u }) (width u * (top u - mark u)) a
 
 -- settings by their words
 pub settings-alike : (ws vs : List ℕ) (y e : ℕ)
@@ -60,7 +75,7 @@ module _ (g : Settings) (y e : ℕ) where
     commit-same v side matches able done = rw (hops (v .worker .index)) refl
 
     pub rule-same : (v : View) (phase : Phase) → ruleBy h v phase ≡ ruleBy g v phase
-    unfolding ruleBy windowRule missOf queuePutRead queueTakeRead stackRead queueCommit stackCommit queueShift stackShift confirmedOf confirmRule nextOf
+    unfolding ruleBy windowRule missOf stackRead queueCommit stackCommit queueShift stackShift stackConfirm
     rule-same v Idle = refl
     rule-same v (Window side) = refl
     rule-same v (QueuePutRead window scan) = refl
@@ -68,15 +83,16 @@ module _ (g : Settings) (y e : ℕ) where
     rule-same v (StackRead Putting window version scan sum) = refl
     rule-same v (StackRead Taking window version scan sum) = refl
     rule-same v (Check side version seen) = refl
-    rule-same v (QueueCommit Putting seen) = commit-same v Putting _ _ _
-    rule-same v (QueueCommit Taking seen) = commit-same v Taking _ _ _
+    rule-same v (QueueCommit Putting window seen) = commit-same v Putting _ _ _
+    rule-same v (QueueCommit Taking window seen) = commit-same v Taking _ _ _
     rule-same v (StackCommit Putting seen) = commit-same v Putting _ _ _
     rule-same v (StackCommit Taking seen) = commit-same v Taking _ _ _
     rule-same v (QueueShift Putting window) = refl
     rule-same v (QueueShift Taking window) = refl
     rule-same v (StackShift Putting version scan sum) = refl
     rule-same v (StackShift Taking version scan sum) = refl
-    rule-same v (Confirm side scan sum) = refl
+    rule-same v (QueueConfirm window scan sum) = refl
+    rule-same v (StackConfirm side scan sum) = refl
 
   -- ---- the words
   pub record Alike (ws vs : List ℕ) : Type 0 where
@@ -92,7 +108,7 @@ module _ (g : Settings) (y e : ℕ) where
     slots-same i l = slot-same ws vs (workerAt g i) (workerAt h i) (λ k m. alike .word i k l m)
 
     pub view-same : (i : ℕ) → i < g .workers → getD ws (indexAt (workerAt g i)) 0 < g .width → viewOf vs h (workerAt h i) ≡ viewOf ws g (workerAt g i)
-    unfolding viewOf
+    unfolding viewOf phaseOf queuePhase
     view-same i l low =
         let index = alike .word i indexWord l (omega arith) in
         let first = ap (λ (x : ℕ). getD vs (subAt x) 0) index ∙ alike .first _ low in
@@ -100,10 +116,11 @@ module _ (g : Settings) (y e : ℕ) where
         λ u. record {
           top = alike .top u;
           mark = alike .mark u;
+          sizes = ownSizes g;
           puts = alike .puts u;
           first = first u;
           second = second u;
-          worker = decode (g .kind) (slots-same i l u);
+          worker = decode g (slots-same i l u);
           kept = slots-same i l u;
         }
 

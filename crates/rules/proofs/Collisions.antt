@@ -18,7 +18,7 @@ use Rattle.laws.specs.Wrap.{add32}
 use Rattle.rules.specs.Answers.{Out, refuse, noSuchWorker, workerIdle, stepsSpent, numberOf}
 use Rattle.rules.specs.Limits.{settingsFit, stepLimit}
 use Rattle.rules.specs.Layout.{stepsAt, putsAt, topAt, markAt, firstAt, secondAt, workerAt, indexAt, lostAt, cellsAt, cellAt, stampAt, lostWord}
-use Rattle.rules.specs.Fit.{Fit, checkedOf, FitPool}
+use Rattle.rules.specs.Fit.{FitPool}
 use Rattle.rules.specs.Begin.{outOfSteps, idleAt, slotBegin, fitBegin, checkedBegin, beginOf}
 use Rattle.rules.specs.Effects.{viewOf}
 use Rattle.rules.specs.Window.{windowRule}
@@ -26,26 +26,25 @@ use Rattle.rules.specs.Read.{missOf, queuePutRead, queueTakeRead, stackR
 use Rattle.rules.specs.Check.{checkRule}
 use Rattle.rules.specs.Commit.{commitBy, queueCommit, stackCommit}
 use Rattle.rules.specs.Shift.{shiftBy, queueShift, stackShift}
-use Rattle.rules.specs.Confirm.{confirmedOf, confirmRule}
-use Rattle.rules.specs.Apply.{countLost, putItem, putSub, putLanded, putShifted, putWorker, applyBy, applyOf}
+use Rattle.rules.specs.Confirm.{confirmBy, confirmedOf, queueConfirm, stackConfirm}
+use Rattle.rules.specs.Apply.{countLost, putItem, putSub, putLanded, putShifted, putRaised, putDropped, putWorker, applyBy, applyOf}
 use Rattle.rules.specs.Step.{ruleBy, ruleOf, slotStep, fitStep, checkedStep, stepOf}
 use Rattle.rules.specs.Make.{makeOf}
 use Rattle.rules.specs.Run.{Call, beginPut, beginTake, step, callOf}
 use Rattle.rules.specs.Consequences.{wordsAfter}
 use Rattle.rules.specs.Collisions.{finds, findsOther, fails, failedCommits, HasCards, CardsFromOne, cardOf, OneMore, CardsTrue}
-use Rattle.rules.proofs.Types.{Settings, Side, Putting, Taking, Phase, Idle, Window, QueuePutRead, QueueTakeRead, StackRead, Check, QueueCommit, StackCommit, QueueShift, StackShift, Confirm, View, Effect, Outcome}
-use Rattle.rules.specs.declared.Outcome.the-variants.{Refused, Moving, Lost, Shifted, Landed, Removed, Empty, Full}
+use Rattle.rules.proofs.Types.{Settings, Side, Putting, Taking, Phase, Idle, Window, QueuePutRead, QueueTakeRead, StackRead, Check, QueueCommit, StackCommit, QueueShift, StackShift, QueueConfirm, StackConfirm, View, Effect, Outcome}
+use Rattle.rules.specs.declared.Outcome.the-variants.{Refused, Moving, Lost, Shifted, Raised, Dropped, Landed, Removed, Empty, Full}
 use Rattle.rules.proofs.Workers.{words-lost, worker-within, same-worker, lost-beside}
-use Rattle.rules.proofs.Fitness.{settings-bounds, fit-pool}
+use Rattle.rules.proofs.Fitness.{fit-pool}
 use Rattle.rules.proofs.counts.Wraps.{add32-suc}
 use Rattle.rules.proofs.order.Law.{Next}
 use Rattle.rules.proofs.machine.Machine.{State, viewIn, applyIn, applyInBy, stepIn, nextIn}
 use Rattle.rules.proofs.machine.Calls.{Called, refuses, does, Steps, step-called, begin-called}
 use Rattle.rules.proofs.machine.Turns.{Kind}
 use Rattle.rules.proofs.words.Writes.{slot-off}
-use Rattle.rules.proofs.words.Fit.{checked-fit}
 use Rattle.rules.proofs.words.Stores.{view-same}
-use Rattle.rules.proofs.Transfer.{Related, next-related, made-related}
+use Rattle.rules.proofs.Transfer.{Related, related-fit, next-related, made-related}
 use Rattle.rules.proofs.Theorem.{kindOf}
 use Rattle.rules.proofs.words.Made.{accepted, made-card}
 
@@ -58,6 +57,8 @@ isLost (Refused n) = false
 isLost Moving = false
 isLost Lost = true
 isLost Shifted = false
+isLost Raised = false
+isLost Dropped = false
 isLost (Landed value row stamp) = false
 isLost (Removed row) = false
 isLost Empty = false
@@ -74,25 +75,26 @@ commit-lost g v side true false done e = refl
 commit-lost g v side false able done e = refl
 
 rule-lost : (g : Settings) (v : View) (p : Phase) → Lost-if (finds v p) (ruleBy g v p)
-unfolding ruleBy windowRule missOf queuePutRead queueTakeRead stackRead checkRule queueCommit stackCommit shiftBy queueShift stackShift confirmedOf confirmRule
+unfolding ruleBy windowRule missOf queuePutRead queueTakeRead stackRead checkRule queueCommit stackCommit shiftBy queueShift stackShift confirmBy confirmedOf queueConfirm stackConfirm
 rule-lost g v Idle = refl
-rule-lost g v (Window side) = refl
+rule-lost g v (Window side) = cases (Lost-if false) _ _ _ (λ e. refl) (λ e. refl)
 rule-lost g v (QueuePutRead window scan) = cases (Lost-if false) _ _ _ (λ e. refl) (λ e. cases (Lost-if false) _ _ _ (λ f. refl) (λ f. refl))
 rule-lost g v (QueueTakeRead window bare scan sum) =
     cases (Lost-if false) _ _ _ (λ e. cases (Lost-if false) _ _ _ (λ f. refl) (λ f. refl))
     (λ e. cases (Lost-if false) _ _ _ (λ f. cases (Lost-if false) _ _ _ (λ h. refl) (λ h. refl)) (λ f. refl))
 rule-lost g v (StackRead side window version scan sum) = cases (Lost-if false) _ _ _ (λ e. refl) (λ e. cases (Lost-if false) _ _ _ (λ f. refl) (λ f. refl))
 rule-lost g v (Check side version seen) = cases (Lost-if false) _ _ _ (λ e. refl) (λ e. refl)
-rule-lost g v (QueueCommit Putting seen) = commit-lost g v Putting _ _ _ refl
-rule-lost g v (QueueCommit Taking seen) = commit-lost g v Taking _ _ _ refl
+rule-lost g v (QueueCommit Putting window seen) = commit-lost g v Putting _ _ _ refl
+rule-lost g v (QueueCommit Taking window seen) = commit-lost g v Taking _ _ _ refl
 rule-lost g v (StackCommit Putting seen) = commit-lost g v Putting _ _ _ refl
 rule-lost g v (StackCommit Taking seen) = commit-lost g v Taking _ _ _ refl
 rule-lost g v (QueueShift Putting window) = cases (Lost-if false) _ _ _ (λ e. cases (Lost-if false) _ _ _ (λ f. refl) (λ f. refl)) (λ e. refl)
 rule-lost g v (QueueShift Taking window) = cases (Lost-if false) _ _ _ (λ e. cases (Lost-if false) _ _ _ (λ f. refl) (λ f. refl)) (λ e. refl)
 rule-lost g v (StackShift Putting version scan sum) = cases (Lost-if false) _ _ _ (λ e. cases (Lost-if false) _ _ _ (λ f. refl) (λ f. refl)) (λ e. refl)
 rule-lost g v (StackShift Taking version scan sum) = cases (Lost-if false) _ _ _ (λ e. cases (Lost-if false) _ _ _ (λ f. refl) (λ f. refl)) (λ e. refl)
-rule-lost g v (Confirm Putting scan sum) = cases (Lost-if false) _ _ _ (λ e. refl) (λ e. cases (Lost-if false) _ _ _ (λ f. refl) (λ f. refl))
-rule-lost g v (Confirm Taking scan sum) = cases (Lost-if false) _ _ _ (λ e. refl) (λ e. cases (Lost-if false) _ _ _ (λ f. refl) (λ f. refl))
+rule-lost g v (QueueConfirm window scan sum) = cases (Lost-if false) _ _ _ (λ e. refl) (λ e. cases (Lost-if false) _ _ _ (λ f. refl) (λ f. refl))
+rule-lost g v (StackConfirm Putting scan sum) = cases (Lost-if false) _ _ _ (λ e. refl) (λ e. cases (Lost-if false) _ _ _ (λ f. refl) (λ f. refl))
+rule-lost g v (StackConfirm Taking scan sum) = cases (Lost-if false) _ _ _ (λ e. refl) (λ e. cases (Lost-if false) _ _ _ (λ f. refl) (λ f. refl))
 
 -- ---- what a call leaves of worker i's card
 module _ (ws : List ℕ) (g : Settings) (pool : FitPool g ws) (cards : HasCards g) (i : ℕ) (li : i < g .workers) where
@@ -115,6 +117,14 @@ module _ (ws : List ℕ) (g : Settings) (pool : FitPool g ws) (cards : HasCards 
     unfolding putShifted
     off-shifted = let a : card ≢ topAt = λ u. omega arith in let b : card ≢ markAt = λ u. omega arith in simp getD-set-other
 
+    off-raised : getD (putRaised ws e) card 0 ≡ getD ws card 0
+    unfolding putRaised
+    off-raised = getD-set-other ws topAt card _ 0 (λ u. omega arith)
+
+    off-dropped : getD (putDropped ws e) card 0 ≡ getD ws card 0
+    unfolding putDropped
+    off-dropped = getD-set-other ws markAt card _ 0 (λ u. omega arith)
+
     off-sub : (vs : List ℕ) → getD (putSub vs sub e) card 0 ≡ getD vs card 0
     unfolding putSub
     off-sub vs = let a : card ≢ firstAt sub = λ u. omega arith in let b : card ≢ secondAt sub = λ u. omega arith in simp getD-set-other
@@ -125,6 +135,8 @@ module _ (ws : List ℕ) (g : Settings) (pool : FitPool g ws) (cards : HasCards 
     stays-by Moving h = off-worker ws
     stays-by Lost h = absurd (false≢true (sym h))
     stays-by Shifted h = off-worker _ ∙ off-shifted
+    stays-by Raised h = off-worker _ ∙ off-raised
+    stays-by Dropped h = off-worker _ ∙ off-dropped
     stays-by (Landed value row stamp) h =
         let cell = cellAt g sub (row .0) in
         let a : card ≢ putsAt = λ u. omega arith in
@@ -168,6 +180,8 @@ module _ (ws : List ℕ) (g : Settings) (pool : FitPool g ws) (cards : HasCards 
     applied Moving = other Moving refl
     applied Lost = rw (both-one (eqb j i)) (off-worker _ ∙ counts-one)
     applied Shifted = other Shifted refl
+    applied Raised = other Raised refl
+    applied Dropped = other Dropped refl
     applied (Landed value row stamp) = other (Landed value row stamp) refl
     applied (Removed row) = other (Removed row) refl
     applied Empty = other Empty refl
@@ -223,6 +237,8 @@ module _ (g : Settings) (s : State) where
   kept-by i e Moving = omega arith
   kept-by i e Lost = omega arith
   kept-by i e Shifted = omega arith
+  kept-by i e Raised = omega arith
+  kept-by i e Dropped = omega arith
   kept-by i e (Landed value row stamp) = omega arith
   kept-by i e (Removed row) = omega arith
   kept-by i e Empty = omega arith
@@ -244,6 +260,8 @@ module _ (g : Settings) (s : State) where
   lost-counted i e Moving h = absurd (false≢true h)
   lost-counted i e Lost h = refl
   lost-counted i e Shifted h = absurd (false≢true h)
+  lost-counted i e Raised h = absurd (false≢true h)
+  lost-counted i e Dropped h = absurd (false≢true h)
   lost-counted i e (Landed value row stamp) h = absurd (false≢true h)
   lost-counted i e (Removed row) h = absurd (false≢true h)
   lost-counted i e Empty h = absurd (false≢true h)
@@ -262,9 +280,6 @@ one-after before now end rest steps more false few limit one counted kept on = o
 module _ (g : Settings) (limits : settingsFit g ≡ true) (k : Kind g) (cards : HasCards g) (i : ℕ) (li : i < g .workers) where
   abbrev Rel : List ℕ → State → Type 0
   Rel ws s = Related g limits k ws s
-
-  fit : {ws : List ℕ} {s : State} → Rel ws s → checkedOf (g .edition) ws ≡ Fit g
-  fit {ws} {s} r = checked-fit g limits (settings-bounds g limits .kind1) ws s (r .says) (r .whole .common) (k .counts s (r .list) (r .whole .inv) .sub)
 
   -- a step that fails is counted
   fails-counted : {ws : List ℕ} {s : State} (r : Rel ws s) (c : Call) → fails g ws i c ≡ true → nextIn g s c .state .steps ≡ suc (s .steps)
@@ -293,7 +308,7 @@ module _ (g : Settings) (limits : settingsFit g ≡ true) (k : Kind g) (cards : 
   cards-after r [] few = omega arith
   cards-after {ws} {s} r (c ∷ cs) few =
       let n = next-related g limits k r c in
-      one-after _ _ _ _ (s .steps) (nextIn g s c .state .steps) (fails g ws i c) few (r .whole .common .steps-few) (one-more ws g c i (fit r) cards li)
+      one-after _ _ _ _ (s .steps) (nextIn g s c .state .steps) (fails g ws i c) few (r .whole .common .steps-few) (one-more ws g c i (related-fit g limits k r) cards li)
       (fails-counted r c) (steps-kept g s c) (λ l. cards-after (n .related) cs l)
 
 pub cards-true : CardsTrue

@@ -5,18 +5,18 @@ use mathlib.Core.Path.{_∙_}
 use native.Mathlib.Omega.{arith}
 use Rattle.rules.specs.Make.{makeOf}
 use Rattle.rules.specs.Held.{passedOf, distanceOf}
-use Rattle.rules.specs.Sequential.{mostPassed}
-use Rattle.rules.specs.Newer.{exactBound}
+use Rattle.rules.specs.Sequential.{demand3Rows}
+use Rattle.rules.specs.Newer.{exactRows}
 use Rattle.rules.specs.Run.{Call, run, stampIn}
-use Rattle.rules.specs.Consequences.{wordsAfter, OfEveryRun, NothingLost, StampsOnce, hasStamp, WithinBound, InRealTime, NoSumWraps, NeverUnfit}
-use Rattle.rules.specs.Spacers.{answerAfter, TakesWithin, AllReported}
+use Rattle.rules.specs.Consequences.{wordsAfter, OfEveryRun, NothingLost, StampsOnce, hasStamp, WithinBound, OwnSizes, OwnPlaces, InRealTime, NoSumWraps, NeverUnfit}
+use Rattle.rules.specs.Spacers.{answerAfter, measuresAfter, TakesWithin, AllReported}
 use Rattle.rules.proofs.Types.{Settings}
 use Rattle.rules.proofs.counts.Held.{count-none}
 use Rattle.rules.proofs.Fitness.{settings-bounds}
 use Rattle.rules.proofs.Spacers.{without-spacers}
-use Rattle.rules.proofs.figures.Figures.{exact-thesis, thesis-k14, k14-most}
+use Rattle.rules.proofs.figures.Figures.{bound-le, exact-most}
 use Rattle.rules.proofs.Transfer.{made-related, made-no-spacers}
-use Rattle.rules.proofs.Runs.{accounted, takes-within-after, no-spacers-after, stamped-once, safe-after, fine-at}
+use Rattle.rules.proofs.Runs.{accounted, takes-within-after, no-spacers-after, stamped-once, sizes-at, places-at, safe-after, fine-at}
 use Rattle.rules.proofs.order.Orders.{bounded, in-real-time}
 use Rattle.rules.proofs.Theorem.{kindOf, exact, demand3}
 use Rattle.rules.proofs.words.Made.{accepted}
@@ -36,23 +36,35 @@ stamps-once ws g cs made stamp =
     (omega arith, omega (arith, nothing-lost ws g cs made (hasStamp stamp)))
 
 -- each distance reported is within demand 3's bound, and within the exact figure
-pub within-bound : OfEveryRun (WithinBound mostPassed)
-within-bound ws g cs made = bounded (mostPassed g) g (run (g .edition) (makeOf ws g .words) cs) (demand3 ws g cs made)
+pub within-bound : OfEveryRun (WithinBound demand3Rows)
+within-bound ws g cs made = bounded (demand3Rows g) g (run (g .edition) (makeOf ws g .words) cs) (demand3 ws g cs made)
 
-pub within-exact : OfEveryRun (WithinBound exactBound)
-within-exact ws g cs made = bounded (exactBound g) g (run (g .edition) (makeOf ws g .words) cs) (exact ws g cs made)
+pub within-exact : OfEveryRun (WithinBound exactRows)
+within-exact ws g cs made = bounded (exactRows g) g (run (g .edition) (makeOf ws g .words) cs) (exact ws g cs made)
+
+-- a take's window has the pool's size
+pub own-sizes : OfEveryRun OwnSizes
+own-sizes ws g cs made =
+    let a = accepted ws g made in
+    sizes-at g (a .limits) (kindOf g (a .limits)) (made-related g (a .limits) (kindOf g (a .limits)) ws a) cs
+
+-- and "full" has demand 3's number of places
+pub own-places : OfEveryRun OwnPlaces
+own-places ws g cs made =
+    let a = accepted ws g made in
+    places-at g (a .limits) (kindOf g (a .limits)) (made-related g (a .limits) (kindOf g (a .limits)) ws a) cs
 
 -- what each take reports and passes over is counted in the pool just before it, the second within the same bounds
-pub takes-within-exact : OfEveryRun (TakesWithin exactBound)
+pub takes-within-exact : OfEveryRun (TakesWithin exactRows)
 takes-within-exact ws g cs made =
     let a = accepted ws g made in
     takes-within-after g (a .limits) (kindOf g (a .limits)) (made-related g (a .limits) (kindOf g (a .limits)) ws a) cs
 
-pub takes-within : OfEveryRun (TakesWithin mostPassed)
+pub takes-within : OfEveryRun (TakesWithin demand3Rows)
 takes-within ws g cs made i two =
     let t = takes-within-exact ws g cs made i two in
     let depth = settings-bounds g (accepted ws g made .limits) .depth1 in
-    record { reports = t .reports; passes = omega (arith, t .passes, exact-thesis g, thesis-k14 g depth, k14-most g) }
+    record { reports = t .reports; passes = omega (arith, t .passes, bound-le g (exactRows g) (demand3Rows g) (measuresAfter (g .edition) (makeOf ws g .words) cs i .size) (exact-most g depth)) }
 
 -- where no call begins a put of 0, all that is passed over is reported
 pub all-reported : OfEveryRun AllReported
@@ -64,8 +76,8 @@ all-reported ws g cs made all i two =
     ∙ without-spacers (g .kind) (stampIn (answerAfter (g .edition) (makeOf ws g .words) cs i)) _ (no-spacers-after g (a .limits) k (made-related g (a .limits) k ws a) (made-no-spacers g (a .limits) k) cs all)
 
 -- an operation that finished before another began stands before it
-pub real-time : (ws : List ℕ) (g : Settings) (cs : List Call) (made : _) → InRealTime (mostPassed g) g (run (g .edition) (makeOf ws g .words) cs) (demand3 ws g cs made)
-real-time ws g cs made = in-real-time (mostPassed g) g (run (g .edition) (makeOf ws g .words) cs) (demand3 ws g cs made)
+pub real-time : (ws : List ℕ) (g : Settings) (cs : List Call) (made : _) → InRealTime (demand3Rows g) g (run (g .edition) (makeOf ws g .words) cs) (demand3 ws g cs made)
+real-time ws g cs made = in-real-time (demand3Rows g) g (run (g .edition) (makeOf ws g .words) cs) (demand3 ws g cs made)
 
 -- no count and no sum of a step reaches 2^32, and no difference but confirm's passes below 0
 pub no-sum-wraps : OfEveryRun (λ g ws cs. NoSumWraps g (wordsAfter (g .edition) ws cs))

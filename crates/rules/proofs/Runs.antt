@@ -10,30 +10,36 @@ use native.Mathlib.Omega.{arith}
 use lib.Dec.{leb, eqb}
 use borrow.Author.Tests.{leb-true, leb-false, eqb-true}
 use Rattle.rules.specs.Answers.{numberOf, tooFewWords, notFit}
+use Rattle.rules.specs.Layout.{settingsOf}
 use Rattle.rules.specs.Limits.{settingsFit}
+use Rattle.rules.specs.Windows.{sizeOf}
+use Rattle.rules.specs.Measures.{measured, placesOf, measuresOf}
 use Rattle.rules.specs.Held.{Item, heldItems, countItems, isSpacer, passedOver, reported, passedOf, distanceOf}
-use Rattle.rules.specs.Step.{ruleOf}
-use Rattle.rules.specs.Sequential.{Contents}
-use Rattle.rules.specs.Run.{Call, beginPut, beginTake, step, callOf, run, at, stampIn}
+use Rattle.rules.specs.Step.{ruleOf, checkedStep, stepOf}
+use Rattle.rules.specs.Sequential.{Contents, boundBy, leastBy, leastFull}
+use Rattle.rules.specs.Run.{Call, beginPut, beginTake, step, callOf, Event, measuresAt, eventOf, run, nothing, at, stampIn}
 use Rattle.rules.specs.Statement.{All}
-use Rattle.rules.specs.Newer.{exactBound}
+use Rattle.rules.specs.Newer.{exactRows}
 use Rattle.rules.specs.Spacers.{TakenWithin, TakesWithin, NoSpacer}
-use Rattle.rules.specs.Consequences.{wordsAfter, itemIn, itemsIn, hasStamp, NoSumWraps}
-use Rattle.rules.proofs.Types.{Settings, Putting, Taking, Effect, Outcome}
-use Rattle.rules.specs.declared.Outcome.the-variants.{Refused, Moving, Lost, Shifted, Landed, Removed, Empty, Full}
+use Rattle.rules.specs.Consequences.{wordsAfter, itemIn, itemsIn, hasStamp, OwnSizes, OwnPlaces, NoSumWraps}
+use Rattle.rules.proofs.Types.{Settings, Size, Putting, Taking, Effect, Outcome, Answer}
+use Rattle.rules.specs.declared.Outcome.the-variants.{Refused, Moving, Lost, Shifted, Raised, Dropped, Landed, Removed, Empty, Full}
+use Rattle.rules.specs.declared.Answer.the-variants.{Moving as Goes, Put, Taken, Empty as NoItem, Full as NoRoom, Refused as Stopped}
 use Rattle.rules.proofs.counts.Sums.{bit, bit-le}
 use Rattle.rules.proofs.order.Law.{Next}
 use Rattle.rules.proofs.Fitness.{settings-bounds}
 use Rattle.rules.proofs.Cells.{count-append, held-fits}
-use Rattle.rules.proofs.machine.Machine.{State, viewIn, belowIn, applyIn, applyInBy, nextIn}
-use Rattle.rules.proofs.machine.Calls.{Called, refuses, does, step-called, begin-called}
+use Rattle.rules.proofs.machine.Machine.{State, placesIn, viewIn, belowIn, applyIn, applyInBy, stepIn, nextIn}
+use Rattle.rules.proofs.machine.Calls.{Called, refuses, does, Steps, step-called, begin-called}
 use Rattle.rules.proofs.counts.Held.{count-none, held-count}
 use Rattle.rules.proofs.machine.Turns.{Common, Counts, Safe, Kind}
 use Rattle.rules.proofs.machine.Does.{SharedAfter, rule-in}
 use Rattle.rules.proofs.order.Given.{item-of, item-not}
-use Rattle.rules.proofs.Transfer.{NoSpacers, Related, next-related, related-after}
+use Rattle.rules.proofs.Transfer.{NoSpacers, Related, related-fit, next-related, related-after}
 use Rattle.rules.proofs.words.Says.{held-same}
 use Rattle.rules.proofs.words.Stores.{view-same}
+use Rattle.rules.proofs.words.Told.{places-said}
+use Rattle.rules.proofs.words.Stays.{Numbered, step-numbered}
 
 -- a stamp up to the next one is that one, or is up to the last
 next-stamp : (c stamp : ℕ) → bit (eqb (suc c) stamp) + bit (leb stamp c) ≤ bit (leb stamp (suc c))
@@ -56,7 +62,7 @@ module _ (g : Settings) (limits : settingsFit g ≡ true) (k : Kind g) where
   held-listed {ws} {s} r p =
       let order : (j : ℕ) → j < g .width → belowIn g s j ≤ s .first j =
       λ j l. held-fits g (s .first j) (s .second j) (k .counts s (r .list) (r .whole .inv) .sub j l) .0 in
-      held-same g ws s (r .says) order p ∙ sym (held-count (k .holding s (r .list) (r .whole .inv) .held) order p)
+      held-same g ws s (r .says) order (k .counts s (r .list) (r .whole .inv) .stamped) p ∙ sym (held-count (k .holding s (r .list) (r .whole .inv) .held) order p)
 
   pub accounted : {ws : List ℕ} {s : State} (r : Rel ws s) (cs : List Call) (p : Item → Bool)
       → countItems p (heldItems (wordsAfter (g .edition) ws cs) g) + countItems p (itemsIn 2 (run (g .edition) ws cs))
@@ -75,7 +81,7 @@ module _ (g : Settings) (limits : settingsFit g ≡ true) (k : Kind g) where
 
   -- ---- both counts of a take are those of the pool just before
   taken-within : {ws : List ℕ} {s : State} (r : Rel ws s) (i : ℕ) → numberOf (callOf (g .edition) ws (step i) .answer) ≡ 2
-      → TakenWithin (exactBound g) g ws (callOf (g .edition) ws (step i) .answer)
+      → TakenWithin (boundBy g (exactRows g) (measuresAt ws (step i) (callOf (g .edition) ws (step i) .answer) .size)) g ws (callOf (g .edition) ws (step i) .answer)
   unfolding distanceOf passedOf
   taken-within {ws} r i two =
       let stamp = stampIn (callOf (g .edition) ws (step i) .answer) in
@@ -85,8 +91,71 @@ module _ (g : Settings) (limits : settingsFit g ≡ true) (k : Kind g) where
         passes = rw (held-listed r (passedOver (g .kind) stamp)) (t .1);
       }
 
-  pub takes-within-after : {ws : List ℕ} {s : State} → Rel ws s → (cs : List Call) → TakesWithin exactBound g ws cs
+  pub takes-within-after : {ws : List ℕ} {s : State} → Rel ws s → (cs : List Call) → TakesWithin exactRows g ws cs
   takes-within-after r cs i two = taken-within (related-after g limits k r cs .related) i two
+
+  -- ---- what an answer is held to: of a take the pool's size, of a "full" demand 3's number
+  numbered : {ws : List ℕ} {s : State} → Rel ws s → (i : ℕ) → Numbered (stepOf (g .edition) ws i .answer)
+  unfolding stepOf checkedStep
+  numbered {ws} r i = let fit = related-fit g limits k r in rw fit (step-numbered ws g fit i)
+
+  take-size : (size : Size) (places : ℕ) (a : Answer) → Numbered a → numberOf a ≡ 2 → measured size places a .size ≡ size
+  take-size size places Goes n e = absurd (omega arith)
+  take-size size places (Put value sub row stamp) n e = absurd (omega arith)
+  take-size size places (Taken value sub row stamp distance) n e = refl
+  take-size size places NoItem n e = absurd (omega arith)
+  take-size size places NoRoom n e = absurd (omega arith)
+  take-size size places (Stopped m) n e = absurd (omega arith)
+
+  full-places : (size : Size) (places : ℕ) (a : Answer) → Numbered a → numberOf a ≡ 4 → measured size places a .places ≡ places
+  full-places size places Goes n e = absurd (omega arith)
+  full-places size places (Put value sub row stamp) n e = absurd (omega arith)
+  full-places size places (Taken value sub row stamp distance) n e = absurd (omega arith)
+  full-places size places NoItem n e = absurd (omega arith)
+  full-places size places NoRoom n e = refl
+  full-places size places (Stopped m) n e = absurd (omega arith)
+
+  -- what holds of each step's event
+  each-step : (P : Event → Type 0) → P nothing → ((ws : List ℕ) (s : State) → Rel ws s → (i : ℕ) → P (eventOf ws (step i) (callOf (g .edition) ws (step i) .answer)))
+      → {ws : List ℕ} {s : State} → Rel ws s → (cs : List Call) (i f : ℕ) → at (run (g .edition) ws cs) f .call ≡ step i → P (at (run (g .edition) ws cs) f)
+  unfolding run
+  each-step P none here r [] i f e = none
+  each-step P none here r (beginPut j v ∷ cs) i zero e = let z : _≡_ {A = ℕ} 0 1 = cc in absurd (omega arith)
+  each-step P none here r (beginTake j ∷ cs) i zero e = let z : _≡_ {A = ℕ} 0 1 = cc in absurd (omega arith)
+  each-step P none here r (step j ∷ cs) i zero e = here _ _ r j
+  each-step P none here r (c ∷ cs) i (suc f) e = each-step P none here (next-related g limits k r c .related) cs i f e
+
+  abbrev OwnSize : Event → Type 0
+  OwnSize e = numberOf (e .answer) ≡ 2 → e .measures .size ≡ sizeOf g
+
+  abbrev OwnPlace : Event → Type 0
+  OwnPlace e = numberOf (e .answer) ≡ 4 → leastBy g (e .measures .places) ≡ leastFull g
+
+  step-size : (ws : List ℕ) (s : State) → Rel ws s → (i : ℕ) → OwnSize (eventOf ws (step i) (callOf (g .edition) ws (step i) .answer))
+  unfolding measuresAt measuresOf callOf
+  step-size ws s r i two =
+      take-size (sizeOf (settingsOf ws)) (placesOf ws (settingsOf ws)) (stepOf (g .edition) ws i .answer) (numbered r i) two ∙ ap sizeOf (r .says .settings)
+
+  full-here : (s : State) (q : Contents) → Common g s → k .Inv s q → (i : ℕ) → numberOf (stepIn g s i .answer) ≡ 4 → leastBy g (placesIn g s) ≡ leastFull g
+  full-here s q common inv i four = by (step-called g s i)
+    where
+      by : Called s (Steps g s i) (applyIn g s i (ruleOf g (viewIn g s i))) (stepIn g s i) → leastBy g (placesIn g s) ≡ leastFull g
+      by (refuses n l unable e) = let m = ap (λ (o : Next State). numberOf (o .answer)) e in absurd (omega arith)
+      by (does able e) = k .full s q common inv i (sym (ap (λ (o : Next State). numberOf (o .answer)) e) ∙ four)
+
+  step-places : (ws : List ℕ) (s : State) → Rel ws s → (i : ℕ) → OwnPlace (eventOf ws (step i) (callOf (g .edition) ws (step i) .answer))
+  unfolding measuresAt measuresOf callOf nextIn
+  step-places ws s r i four =
+      let same : stepOf (g .edition) ws i .answer ≡ stepIn g s i .answer = next-related g limits k r (step i) .answer in
+      let places = full-places (sizeOf (settingsOf ws)) (placesOf ws (settingsOf ws)) (stepOf (g .edition) ws i .answer) (numbered r i) four in
+      ap (leastBy g) (places ∙ ap (placesOf ws) (r .says .settings) ∙ places-said g s ws (r .says))
+      ∙ full-here s (r .list) (r .whole .common) (r .whole .inv) i (ap numberOf (sym same) ∙ four)
+
+  pub sizes-at : {ws : List ℕ} {s : State} → Rel ws s → (cs : List Call) → OwnSizes g ws cs
+  sizes-at r cs = each-step OwnSize (λ e. absurd (omega arith)) step-size r cs
+
+  pub places-at : {ws : List ℕ} {s : State} → Rel ws s → (cs : List Call) → OwnPlaces g ws cs
+  places-at r cs = each-step OwnPlace (λ e. absurd (omega arith)) step-places r cs
 
   -- where no call begins a put of a spacer, none is held
   pub no-spacers-after : {ws : List ℕ} {s : State} (r : Rel ws s) → NoSpacers g limits k s (r .list) → (cs : List Call) → All NoSpacer cs
@@ -151,6 +220,8 @@ module _ (g : Settings) (limits : settingsFit g ≡ true) (k : Kind g) where
   not-21 s i e Moving h u = omega arith
   not-21 s i e Lost h u = omega arith
   not-21 s i e Shifted h u = omega arith
+  not-21 s i e Raised h u = omega arith
+  not-21 s i e Dropped h u = omega arith
   not-21 s i e (Landed value row stamp) h u = omega arith
   not-21 s i e (Removed row) h u = omega arith
   not-21 s i e Empty h u = omega arith

@@ -10,7 +10,7 @@ use borrow.Author.Tests.{eq-eqb}
 use Rattle.laws.specs.Choice.{cond}
 use Rattle.rules.specs.Held.{Item, heldItems, isSpacer, passedOver, reported, countItems, passedOf, distanceOf}
 use Rattle.rules.specs.Apply.{takenOf}
-use Rattle.rules.specs.Sequential.{find, Given, giveBy, give, reportedBy}
+use Rattle.rules.specs.Sequential.{find, Given, giveBy, give, boundBy, reportedBy}
 use Rattle.rules.specs.Spacers.{spacerPassed, fedTake, PassedInTwo, NeverAbove, EveryTakeHasDistance, GivenBoth, NotAllowedBeyond, SpacersReportNothing}
 use Rattle.rules.proofs.Types.{Settings}
 use Rattle.rules.proofs.counts.Sums.{bit}
@@ -84,14 +84,15 @@ every-take-has-distance ws g j row = refl
 
 pub given-both : GivenBoth
 unfolding giveBy cond
-given-both most least g q stamp r e =
+given-both each g q m stamp r e =
+    let most : ℕ = boundBy g each (m .size) in
     let h : Leaves most g q 2 stamp r = leaves most g q 2 stamp r (find stamp (q .items)) refl e in
     let there : h .0 .item .stamp ≡ stamp = found-is isSpacer stamp (q .items) (h .0) (h .1) .0 in
     (sym (ap (λ (x : Given). x .distance) (h .2)) ∙ ap (reportedBy g q) there, rw there at (h .3))
 
 pub not-allowed-beyond : NotAllowedBeyond
-not-allowed-beyond most least g q stamp l = by (give g q (fedTake most least stamp)) refl
+not-allowed-beyond each g q m stamp l = by (give each g q (fedTake m stamp)) refl
   where
-    by : (o : Option Given) → give g q (fedTake most least stamp) ≡ o → o ≡ none
+    by : (o : Option Given) → give each g q (fedTake m stamp) ≡ o → o ≡ none
     by none e = refl
-    by (some r) e = absurd (omega (arith, given-both most least g q stamp r e .1))
+    by (some r) e = absurd (omega (arith, given-both each g q m stamp r e .1))

@@ -6,9 +6,9 @@ use mathlib.Core.Bool.{true}
 use native.Mathlib.Decide.{ℕ-discrete}
 use native.Mathlib.Omega.{arith}
 use Rattle.rules.specs.Limits.{settingsFit}
-use Rattle.rules.specs.Sequential.{mostPassed}
+use Rattle.rules.specs.Sequential.{demand3Rows}
 use Rattle.rules.specs.Statement.{Demand3}
-use Rattle.rules.specs.Newer.{k14Bound, thesisBound, exactBound, K14, Thesis, Exact}
+use Rattle.rules.specs.Newer.{k14Rows, thesisRows, exactRows, K14, Thesis, Exact}
 use Rattle.rules.proofs.Types.{Settings}
 use Rattle.rules.proofs.Fitness.{settings-bounds}
 use Rattle.rules.proofs.machine.Good.{good}
@@ -34,11 +34,11 @@ exact ws g cs made =
     words-order g (a .limits) (kindOf g (a .limits)) ws a cs
 
 pub thesis : Thesis
-thesis ws g cs made = relaxed (exactBound g) (thesisBound g) (exact-thesis g) g _ (exact ws g cs made)
+thesis ws g cs made = relaxed g (exactRows g) (thesisRows g) (exact-thesis g) _ (exact ws g cs made)
 
 pub k14 : K14
 k14 ws g cs made =
-    relaxed (thesisBound g) (k14Bound g) (thesis-k14 g (settings-bounds g (accepted ws g made .limits) .depth1)) g _ (thesis ws g cs made)
+    relaxed g (thesisRows g) (k14Rows g) (thesis-k14 g (settings-bounds g (accepted ws g made .limits) .depth1)) _ (thesis ws g cs made)
 
 pub demand3 : Demand3
-demand3 ws g cs made = relaxed (k14Bound g) (mostPassed g) (k14-most g) g _ (k14 ws g cs made)
+demand3 ws g cs made = relaxed g (k14Rows g) (demand3Rows g) (k14-most g) _ (k14 ws g cs made)

@@ -17,7 +17,7 @@ use Rattle.rules.specs.Worker.{putSlot, wordsOf}
 use Rattle.rules.specs.Fit.{Checked, Unfit, Fit, checkedOf, FitPool}
 use Rattle.rules.specs.Make.{zeroed, newHead, indexed, madeWords, makeOf}
 use Rattle.rules.specs.Begin.{outOfSteps, slotBegin, fitBegin, checkedBegin, beginOf}
-use Rattle.rules.specs.Apply.{countLost, putItem, putSub, putLanded, putShifted, putWorker, applyBy, applyOf}
+use Rattle.rules.specs.Apply.{countLost, putItem, putSub, putLanded, putShifted, putRaised, putDropped, putWorker, applyBy, applyOf}
 use Rattle.rules.specs.Step.{slotStep, fitStep, checkedStep, stepOf}
 use Rattle.rules.specs.Untouched.{Beyond, MakeKeeps, BeginKeeps, StepKeeps}
 use Rattle.rules.specs.declared.Settings.{Settings}
@@ -27,7 +27,7 @@ use Rattle.rules.specs.declared.Row.{Row}
 use Rattle.rules.specs.declared.Stamp.{Stamp}
 use Rattle.rules.specs.declared.Effect.{Effect}
 use Rattle.rules.specs.declared.Outcome.{Outcome}
-use Rattle.rules.specs.declared.Outcome.the-variants.{Refused, Moving, Lost, Shifted, Landed, Removed, Empty, Full}
+use Rattle.rules.specs.declared.Outcome.the-variants.{Refused, Moving, Lost, Shifted, Raised, Dropped, Landed, Removed, Empty, Full}
 use Rattle.rules.proofs.Workers.{slot-within, worker-within}
 use Rattle.rules.proofs.Cells.{cell-lt}
 use Rattle.rules.proofs.Fitness.{fit-pool}
@@ -109,6 +109,14 @@ module _ (g : Settings) (ws : List ℕ) (fit : FitPool g ws) (i j : ℕ) (li : i
   unfolding putShifted
   shifted-keeps e = store-keeps _ _ _ ws _ (omega arith) (store-keeps _ _ _ ws ws (omega arith) (unchanged _ ws))
 
+  raised-keeps : (e : Effect) → Beyond (needed g) ws (putRaised ws e)
+  unfolding putRaised
+  raised-keeps e = store-keeps _ _ _ ws ws (omega arith) (unchanged _ ws)
+
+  dropped-keeps : (e : Effect) → Beyond (needed g) ws (putDropped ws e)
+  unfolding putDropped
+  dropped-keeps e = store-keeps _ _ _ ws ws (omega arith) (unchanged _ ws)
+
   worker-keeps : (e : Effect) (after : List ℕ) → Beyond (needed g) ws after → Beyond (needed g) ws (putWorker after (workerAt g i) e)
   unfolding putWorker
   worker-keeps e after b = slot-keeps g i (e .slot) ws _ li (store-keeps _ _ _ ws after (omega arith) b)
@@ -136,6 +144,8 @@ module _ (g : Settings) (ws : List ℕ) (fit : FitPool g ws) (i j : ℕ) (li : i
   apply-keeps e Moving = worker-keeps e ws (unchanged _ ws)
   apply-keeps e Lost = worker-keeps e _ lost-keeps
   apply-keeps e Shifted = worker-keeps e _ (shifted-keeps e)
+  apply-keeps e Raised = worker-keeps e _ (raised-keeps e)
+  apply-keeps e Dropped = worker-keeps e _ (dropped-keeps e)
   apply-keeps e (Landed value row stamp) = worker-keeps e _ (landed-keeps value row stamp e)
   apply-keeps e (Removed row) = worker-keeps e _ (sub-keeps e ws (unchanged _ ws))
   apply-keeps e Empty = worker-keeps e ws (unchanged _ ws)

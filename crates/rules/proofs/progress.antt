@@ -2,6 +2,7 @@
 pub mod Clean
 pub mod Steps
 pub mod Confirm
+pub mod QueueSeen
 pub mod QueueLeft
 pub mod QueueResult
 pub mod QueuePut

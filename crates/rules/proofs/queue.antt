@@ -1,14 +1,14 @@
 -- The queue's invariant, and why each of its steps keeps it.
 pub mod Inv
-pub mod Others
 pub mod Moves
-pub mod Window
-pub mod Pass
-pub mod Read
+pub mod Raise
+pub mod Drop
+pub mod Empty
+pub mod Full
+pub mod View
+pub mod Put
+pub mod Take
 pub mod CommitPut
-pub mod Distance
 pub mod CommitTake
-pub mod Shift
-pub mod Confirm
 pub mod Safe
 pub mod Turn

@@ -2,6 +2,7 @@
 pub mod Lists
 pub mod Writes
 pub mod Says
+pub mod Told
 pub mod Places
 pub mod Fit
 pub mod After

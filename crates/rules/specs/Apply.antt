@@ -14,7 +14,7 @@ use Rattle.rules.specs.declared.Row.{Row}
 use Rattle.rules.specs.declared.Stamp.{Stamp}
 use Rattle.rules.specs.declared.Effect.{Effect}
 use Rattle.rules.specs.declared.Outcome.{Outcome}
-use Rattle.rules.specs.declared.Outcome.the-variants.{Refused as Stays, Moving as Moves, Lost, Shifted, Landed, Removed, Empty as NoItem, Full as NoRoom}
+use Rattle.rules.specs.declared.Outcome.the-variants.{Refused as Stays, Moving as Moves, Lost, Shifted, Raised, Dropped, Landed, Removed, Empty as NoItem, Full as NoRoom}
 use Rattle.rules.specs.declared.Answer.{Answer}
 use Rattle.rules.specs.declared.Answer.the-variants.{Moving, Put, Taken, Empty, Full}
 
@@ -30,9 +30,17 @@ putSub ws j e = set (set ws (firstAt j) (e .first)) (secondAt j) (e .second)
 unfoldable pub putLanded : List ℕ → Settings → ℕ → ℕ → Row → Stamp → Effect → List ℕ
 putLanded ws g j value row stamp e = putSub (set (putItem ws g j value row stamp) putsAt (e .puts)) j e
 
--- the window's two words
+-- the two words of a stack's window
 unfoldable pub putShifted : List ℕ → Effect → List ℕ
 putShifted ws e = set (set ws topAt (e .top)) markAt (e .mark)
+
+-- a queue's put window
+unfoldable pub putRaised : List ℕ → Effect → List ℕ
+putRaised ws e = set ws topAt (e .top)
+
+-- and its take window
+unfoldable pub putDropped : List ℕ → Effect → List ℕ
+putDropped ws e = set ws markAt (e .mark)
 
 -- one failed commit more, "modulo 2^32", in the editions that count them
 unfoldable pub countLost : List ℕ → Settings → ℕ → List ℕ
@@ -56,6 +64,8 @@ applyBy ws g at j e (Stays n) = refuse n ws
 applyBy ws g at j e Moves = out Moving (putWorker ws at e)
 applyBy ws g at j e Lost = out Moving (putWorker (countLost ws g at) at e)
 applyBy ws g at j e Shifted = out Moving (putWorker (putShifted ws e) at e)
+applyBy ws g at j e Raised = out Moving (putWorker (putRaised ws e) at e)
+applyBy ws g at j e Dropped = out Moving (putWorker (putDropped ws e) at e)
 applyBy ws g at j e (Landed value row stamp) = out (Put value j row stamp) (putWorker (putLanded ws g j value row stamp e) at e)
 applyBy ws g at j e (Removed row) = out (takenOf ws g j row) (putWorker (putSub ws j e) at e)
 applyBy ws g at j e NoItem = out Empty (putWorker ws at e)

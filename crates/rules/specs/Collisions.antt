@@ -14,14 +14,14 @@ use Rattle.laws.specs.Wrap.{add32}
 use Rattle.rules.specs.Answers.{numberOf}
 use Rattle.rules.specs.Layout.{workerWords, lostWord, workerAt, lostAt}
 use Rattle.rules.specs.Fit.{Fit, checkedOf}
-use Rattle.rules.specs.Effects.{viewOf, itemsPut, itemsTaken, subVersion}
+use Rattle.rules.specs.Effects.{viewOf, lastPut, lastTaken, subVersion}
 use Rattle.rules.specs.Step.{stepOf}
 use Rattle.rules.specs.Run.{Call, beginPut, beginTake, step, callOf}
 use Rattle.rules.specs.Consequences.{wordsAfter, OfEveryRun}
 use Rattle.rules.specs.declared.Settings.{Settings}
 use Rattle.rules.specs.declared.Side.the-variants.{Putting, Taking}
 use Rattle.rules.specs.declared.Phase.{Phase}
-use Rattle.rules.specs.declared.Phase.the-variants.{Idle, Window, QueuePutRead, QueueTakeRead, StackRead, Check, QueueCommit, StackCommit, QueueShift, StackShift, Confirm}
+use Rattle.rules.specs.declared.Phase.the-variants.{Idle, Window, QueuePutRead, QueueTakeRead, StackRead, Check, QueueCommit, StackCommit, QueueShift, StackShift, QueueConfirm, StackConfirm}
 use Rattle.rules.specs.declared.View.{View}
 
 -- ---- a failed commit
@@ -36,12 +36,13 @@ finds v (QueuePutRead window scan) = false
 finds v (QueueTakeRead window bare scan sum) = false
 finds v (StackRead side window version scan sum) = false
 finds v (Check side version seen) = false
-finds v (QueueCommit Putting seen) = differ (itemsPut v) seen
-finds v (QueueCommit Taking seen) = differ (itemsTaken v) seen
+finds v (QueueCommit Putting window seen) = differ (lastPut v) seen
+finds v (QueueCommit Taking window seen) = differ (lastTaken v) seen
 finds v (StackCommit side seen) = differ (subVersion v .0) (seen .0)
 finds v (QueueShift side window) = false
 finds v (StackShift side version scan sum) = false
-finds v (Confirm side scan sum) = false
+finds v (QueueConfirm window scan sum) = false
+finds v (StackConfirm side scan sum) = false
 
 -- a step of worker j finds it so, in the words just before it
 abbrev pub findsOther : Settings → List ℕ → ℕ → Bool

@@ -8,7 +8,7 @@ use Rattle.laws.specs.Choice.{cond}
 use Rattle.laws.specs.Wrap.{add32, sub32}
 use Rattle.rules.specs.Answers.{notFit}
 use Rattle.rules.specs.Worker.{fresh}
-use Rattle.rules.specs.Effects.{keepOf, refusedOf, restartOf, hopOf, itemsPut, itemsTaken, itemsHeld, subVersion}
+use Rattle.rules.specs.Effects.{keepOf, refusedOf, restartOf, hopOf, lastPut, lastTaken, itemsHeld, subVersion}
 use Rattle.rules.specs.declared.Settings.{Settings}
 use Rattle.rules.specs.declared.Side.{Side}
 use Rattle.rules.specs.declared.Side.the-variants.{Putting, Taking}
@@ -65,11 +65,11 @@ commitBy g v side matches able done =
 
 unfoldable pub queueCommit : Settings → View → Side → ℕ → Effect
 queueCommit g v Putting seen =
-    commitBy g v Putting (eqb (itemsPut v) seen) (ltb (sub32 (itemsPut v) (itemsTaken v)) (g .rows))
-    (landedOf v (add32 (itemsPut v) 1) (itemsTaken v) (rowAbove (itemsPut v)))
+    commitBy g v Putting (eqb (lastPut v) seen) (ltb (sub32 (lastPut v) (lastTaken v)) (g .rows))
+    (landedOf v (add32 (lastPut v) 1) (lastTaken v) (rowAbove (lastPut v)))
 queueCommit g v Taking seen =
-    commitBy g v Taking (eqb (itemsTaken v) seen) (ltb (itemsTaken v) (itemsPut v))
-    (removedOf v (itemsPut v) (add32 (itemsTaken v) 1) (rowAbove (itemsTaken v)))
+    commitBy g v Taking (eqb (lastTaken v) seen) (ltb (lastTaken v) (lastPut v))
+    (removedOf v (lastPut v) (add32 (lastTaken v) 1) (rowAbove (lastTaken v)))
 
 unfoldable pub stackCommit : Settings → View → Side → Version → Effect
 stackCommit g v Putting seen =

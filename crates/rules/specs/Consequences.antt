@@ -9,15 +9,17 @@ use lib.Dec.{eqb}
 use Rattle.laws.specs.Choice.{cond}
 use Rattle.rules.specs.Answers.{tooFewWords, notFit, numberOf}
 use Rattle.rules.specs.Layout.{stepsAt, putsAt, topAt, markAt, firstOf, secondOf, workerAt}
-use Rattle.rules.specs.Effects.{viewOf, putWindow, takeWindow, stackWindow, windowVersion, itemsPut, itemsTaken, itemsHeld, subVersion}
+use Rattle.rules.specs.Effects.{viewOf, takeWindow, stackWindow, windowVersion, lastPut, lastTaken, itemsHeld, subVersion}
+use Rattle.rules.specs.Windows.{sizeOf}
 use Rattle.rules.specs.Held.{Item, heldItems, countItems}
 use Rattle.rules.specs.Make.{makeOf}
+use Rattle.rules.specs.Sequential.{boundBy, leastBy, leastFull}
 use Rattle.rules.specs.Run.{Call, step, callOf, Event, run, at, valueIn, stampIn, distanceIn}
 use Rattle.rules.specs.Statement.{Placement, OneAtATimeWithin}
 use Rattle.rules.specs.declared.Settings.{Settings}
 use Rattle.rules.specs.declared.Side.the-variants.{Putting, Taking}
 use Rattle.rules.specs.declared.Phase.{Phase}
-use Rattle.rules.specs.declared.Phase.the-variants.{Idle, Window, QueuePutRead, QueueTakeRead, StackRead, Check, QueueCommit, StackCommit, QueueShift, StackShift, Confirm}
+use Rattle.rules.specs.declared.Phase.the-variants.{Idle, Window, QueuePutRead, QueueTakeRead, StackRead, Check, QueueCommit, StackCommit, QueueShift, StackShift, QueueConfirm, StackConfirm}
 use Rattle.rules.specs.declared.View.{View}
 use Rattle.rules.specs.declared.Answer.{Answer}
 
@@ -55,15 +57,31 @@ StampsOnce g ws cs =
     (stamp : ℕ)
     → (countItems (hasStamp stamp) (itemsIn 1 (run (g .edition) ws cs)) ≤ 1) × (countItems (hasStamp stamp) (itemsIn 2 (run (g .edition) ws cs)) ≤ 1)
 
--- ---- each distance reported is within a bound; so is what is passed over, spacers too: specs/Spacers, `TakesWithin`
+-- ---- each distance reported is within a bound, in a queue by the sizes of the take's own window; so is what is passed over, spacers too: specs/Spacers,
+-- `TakesWithin`
+abbrev pub DistanceWithin : (Settings → ℕ) → Settings → Event → Type 0
+DistanceWithin each g e = distanceIn (e .answer) ≤ boundBy g (each g) (e .measures .size)
+
 abbrev pub WithinBound : (Settings → ℕ) → Settings → List ℕ → List Call → Type 0
-WithinBound most g ws cs =
+WithinBound each g ws cs =
     (i f : ℕ) → at (run (g .edition) ws cs) f .call ≡ step i → numberOf (at (run (g .edition) ws cs) f .answer) ≡ 2
-    → distanceIn (at (run (g .edition) ws cs) f .answer) ≤ most g
+    → DistanceWithin each g (at (run (g .edition) ws cs) f)
+
+-- that window has the pool's size
+abbrev pub OwnSizes : Settings → List ℕ → List Call → Type 0
+OwnSizes g ws cs =
+    (i f : ℕ) → at (run (g .edition) ws cs) f .call ≡ step i → numberOf (at (run (g .edition) ws cs) f .answer) ≡ 2
+    → at (run (g .edition) ws cs) f .measures .size ≡ sizeOf g
+
+-- and "full" is answered with w (R - d) places after a queue's take window
+abbrev pub OwnPlaces : Settings → List ℕ → List Call → Type 0
+OwnPlaces g ws cs =
+    (i f : ℕ) → at (run (g .edition) ws cs) f .call ≡ step i → numberOf (at (run (g .edition) ws cs) f .answer) ≡ 4
+    → leastBy g (at (run (g .edition) ws cs) f .measures .places) ≡ leastFull g
 
 -- ---- an operation that finished before another began stands before it in the order
-abbrev pub InRealTime : (most : ℕ) → (g : Settings) → (es : List Event) → OneAtATimeWithin most g es → Type 0
-InRealTime most g es r =
+abbrev pub InRealTime : (each : ℕ) → (g : Settings) → (es : List Event) → OneAtATimeWithin each g es → Type 0
+InRealTime each g es r =
     (x y : Placement) → List·Memᴰ x (r .order) → List·Memᴰ y (r .order) → x .finished < y .begun → x .chosen < y .chosen
 
 -- ---- no sum that a step adds up reaches 2^32, and no difference that it takes, but confirm's, passes below 0
@@ -74,22 +92,25 @@ NoWrap g v Idle = Unit {0}
 NoWrap g v (Window side) = Unit {0}
 -- read: what is read joins the sum, and a miss is counted; a queue's take counts a bare sub, a stack's looks above the seen window - d
 NoWrap g v (QueuePutRead window scan) = scan + 1 < 2 ^ 32
-NoWrap g v (QueueTakeRead window bare scan sum) = (sum + itemsPut v < 2 ^ 32) × (bare + 1 < 2 ^ 32) × (scan + 1 < 2 ^ 32)
+NoWrap g v (QueueTakeRead window bare scan sum) = (sum + lastPut v < 2 ^ 32) × (bare + 1 < 2 ^ 32) × (scan + 1 < 2 ^ 32)
 NoWrap g v (StackRead side window version scan sum) = (sum + subVersion v .0 < 2 ^ 32) × (scan + 1 < 2 ^ 32) × (g .depth ≤ window)
 -- check: nothing is added up
 NoWrap g v (Check side version seen) = Unit {0}
 -- commit: the counts change by one, and a put's stamp is the next; a queue's put looks at put - taken, a stack's take leaves held - 1
-NoWrap g v (QueueCommit Putting seen) = (itemsTaken v ≤ itemsPut v) × (itemsPut v + 1 < 2 ^ 32) × (v .puts + 1 < 2 ^ 32)
-NoWrap g v (QueueCommit Taking seen) = itemsTaken v + 1 < 2 ^ 32
+NoWrap g v (QueueCommit Putting window seen) = (lastTaken v ≤ lastPut v) × (lastPut v + 1 < 2 ^ 32) × (v .puts + 1 < 2 ^ 32)
+NoWrap g v (QueueCommit Taking window seen) = lastTaken v + 1 < 2 ^ 32
 NoWrap g v (StackCommit Putting seen) = (itemsHeld v + 1 < 2 ^ 32) × (subVersion v .0 + 1 < 2 ^ 32) × (v .puts + 1 < 2 ^ 32)
 NoWrap g v (StackCommit Taking seen) = (subVersion v .0 ≡ seen .0 → 1 ≤ itemsHeld v) × (subVersion v .0 + 1 < 2 ^ 32)
--- shift: a queue's put looks at P + 2d - T; P and T grow by d; G grows or falls by s, and its version grows
-NoWrap g v (QueueShift Putting window) = (putWindow v + 2 * g .depth < 2 ^ 32) × (takeWindow v ≤ putWindow v + 2 * g .depth)
-NoWrap g v (QueueShift Taking window) = takeWindow v + g .depth < 2 ^ 32
+-- shift: P and T grow by a window's depth, and a queue's put looks at the rows from the take window's bottom, which is T less that window's depth, to
+-- the new top; G grows or falls by s, and its version grows
+NoWrap g v (QueueShift Putting window) =
+    (v .top + v .sizes .next .depth < 2 ^ 32) × (v .sizes .take .depth ≤ v .mark) × (takeWindow v .bottom ≤ v .top + v .sizes .next .depth)
+NoWrap g v (QueueShift Taking window) = v .mark + v .sizes .after .depth < 2 ^ 32
 NoWrap g v (StackShift Putting version scan sum) = (stackWindow v + g .shift < 2 ^ 32) × (windowVersion v .0 + 1 < 2 ^ 32)
 NoWrap g v (StackShift Taking version scan sum) = (g .shift ≤ stackWindow v) × (windowVersion v .0 + 1 < 2 ^ 32)
 -- confirm: a sub is counted; what is left of the sum may pass below 0
-NoWrap g v (Confirm side scan sum) = scan + 1 < 2 ^ 32
+NoWrap g v (QueueConfirm window scan sum) = scan + 1 < 2 ^ 32
+NoWrap g v (StackConfirm side scan sum) = scan + 1 < 2 ^ 32
 
 pub record NoSumWraps (g : Settings) (ws : List ℕ) : Type 0 where
   -- every step not refused is counted

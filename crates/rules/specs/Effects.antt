@@ -5,12 +5,14 @@ use lib.ListN.{getD}
 use lib.Dec.{eqb}
 use Rattle.laws.specs.Choice.{cond}
 use Rattle.rules.specs.Layout.{putsAt, topAt, markAt, indexAt, firstOf, secondOf}
+use Rattle.rules.specs.Windows.{ownSizes, spanOf}
 use Rattle.rules.specs.Worker.{slotAt, decode, encode, fresh}
 use Rattle.rules.specs.declared.Settings.{Settings}
 use Rattle.rules.specs.declared.Side.{Side}
 use Rattle.rules.specs.declared.Side.the-variants.{Putting, Taking}
 use Rattle.rules.specs.declared.Phase.{Phase}
 use Rattle.rules.specs.declared.Phase.the-variants.{Idle, Window}
+use Rattle.rules.specs.declared.Span.{Span}
 use Rattle.rules.specs.declared.Version.{Version}
 use Rattle.rules.specs.declared.Worker.{Worker}
 use Rattle.rules.specs.declared.Slot.{Slot}
@@ -27,27 +29,29 @@ viewOf ws g at =
     record {
       top = getD ws topAt 0;
       mark = getD ws markAt 0;
+      sizes = ownSizes g;
       puts = getD ws putsAt 0;
       first = firstOf ws (getD ws (indexAt at) 0);
       second = secondOf ws (getD ws (indexAt at) 0);
-      worker = decode (g .kind) (slotAt ws at);
+      worker = decode g (slotAt ws at);
       kept = slotAt ws at;
     }
 
 -- ---- the words of a view, by their names in the paper
--- P
-abbrev pub putWindow : View → ℕ
-putWindow v = v .top
+-- the put window, whose top is P
+abbrev pub putWindow : View → Span
+putWindow v = spanOf (v .top) (v .sizes .put)
 
--- T
-abbrev pub takeWindow : View → ℕ
-takeWindow v = v .mark
+-- the take window, whose top is T
+abbrev pub takeWindow : View → Span
+takeWindow v = spanOf (v .mark) (v .sizes .take)
 
-abbrev pub itemsPut : View → ℕ
-itemsPut v = v .first
+-- items put, and items taken: the last rows that were put into and taken from
+abbrev pub lastPut : View → ℕ
+lastPut v = v .first
 
-abbrev pub itemsTaken : View → ℕ
-itemsTaken v = v .second
+abbrev pub lastTaken : View → ℕ
+lastTaken v = v .second
 
 -- G
 abbrev pub stackWindow : View → ℕ
@@ -64,21 +68,29 @@ subVersion v = record { 0 = v .second }
 
 -- as a rule of either kind reads them
 abbrev pub queueView : View → QueueView
-queueView v = record { «put_window» = putWindow v; «take_window» = takeWindow v; «items_put» = itemsPut v; «items_taken» = itemsTaken v }
+queueView v =
+    record {
+      put = putWindow v;
+      take = takeWindow v;
+      next = v .sizes .next .depth;
+      after = v .sizes .after .depth;
+      «last_put» = lastPut v;
+      «last_taken» = lastTaken v;
+    }
 
 abbrev pub stackView : View → StackView
 stackView v = record { window = stackWindow v; version = windowVersion v; «items_held» = itemsHeld v; «sub_version» = subVersion v }
 
 -- ---- indices
--- "Next" is index + 1 mod w
-unfoldable pub nextOf : Settings → ℕ → ℕ
-nextOf g x = (x + 1) % g .width
+-- "Next" is index + 1 mod w; "that width is w in a step's rules" where a window has one of its own
+unfoldable pub nextOf : ℕ → ℕ → ℕ
+nextOf w x = (x + 1) % w
 
 -- how far a worker moves on that lost a commit: "0 stands for 1"
 abbrev pub strideOf : Settings → ℕ
 strideOf g = cond (eqb (g .stride) 0) 1 (g .stride)
 
--- where it goes: "the index moves on by the stride instead of by 1"
+-- where it goes: "the index moves on by the stride instead of by 1"; "the hop after a failed commit is mod the pool's w"
 unfoldable pub hopOf : Settings → ℕ → ℕ
 hopOf g x = (x + strideOf g) % g .width
 

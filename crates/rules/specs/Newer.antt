@@ -5,11 +5,12 @@ use Prim.Native.Nat.{ℕ, _+_, _-_, _*_, _/_, _%_, _≤_, _<_, min}
 use mathlib.Core.Path.{_≡_}
 use mathlib.Core.Bool.{true}
 use Rattle.rules.specs.Limits.{settingsFit}
+use Rattle.rules.specs.Windows.{sizeOf}
 use Rattle.rules.specs.Sequential.{boundBy}
 use Rattle.rules.specs.Statement.{Demand3Within}
 use Rattle.rules.specs.declared.Settings.{Settings}
 
--- ---- the figures, as newer items of each other sub; a queue keeps its (w - 1) d in all of them
+-- ---- the figures, as newer items of each other sub; a queue keeps its own in all of them
 -- K14's, one row less than demand 3 allows
 abbrev pub k14Rows : Settings → ℕ
 k14Rows g = 2 * g .depth + 2 * g .shift - 1
@@ -31,26 +32,26 @@ abbrev pub exactRows : Settings → ℕ
 exactRows g = min (thesisRows g) (highestWindow g)
 
 unfoldable pub k14Bound : Settings → ℕ
-k14Bound g = boundBy g (k14Rows g)
+k14Bound g = boundBy g (k14Rows g) (sizeOf g)
 
 unfoldable pub frameworkBound : Settings → ℕ
-frameworkBound g = boundBy g (frameworkRows g)
+frameworkBound g = boundBy g (frameworkRows g) (sizeOf g)
 
 unfoldable pub thesisBound : Settings → ℕ
-thesisBound g = boundBy g (thesisRows g)
+thesisBound g = boundBy g (thesisRows g) (sizeOf g)
 
 unfoldable pub exactBound : Settings → ℕ
-exactBound g = boundBy g (exactRows g)
+exactBound g = boundBy g (exactRows g) (sizeOf g)
 
 -- ---- no more: demand 3's statement, with each figure in place of demand 3's own
 abbrev pub K14 : Type 0
-K14 = Demand3Within k14Bound
+K14 = Demand3Within k14Rows
 
 abbrev pub Thesis : Type 0
-Thesis = Demand3Within thesisBound
+Thesis = Demand3Within thesisRows
 
 abbrev pub Exact : Type 0
-Exact = Demand3Within exactBound
+Exact = Demand3Within exactRows
 
 -- ---- which figure is the exact one, of stacks with another sub to pass over
 abbrev pub JustWhere : Type 0 → Type 0 → Type 0

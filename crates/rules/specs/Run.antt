@@ -6,6 +6,8 @@ use lib.ListN.{getD}
 use Rattle.rules.specs.Answers.{Out, workerIdle, numberOf, fieldsOf}
 use Rattle.rules.specs.Begin.{beginPutOf, beginTakeOf}
 use Rattle.rules.specs.Step.{stepOf}
+use Rattle.rules.specs.Layout.{settingsOf}
+use Rattle.rules.specs.Measures.{Measures, noMeasures, measuresOf}
 use Rattle.rules.specs.Sequential.{Operation, putting, taking}
 use Rattle.rules.specs.declared.Answer.{Answer}
 use Rattle.rules.specs.declared.Answer.the-variants.{Refused}
@@ -27,18 +29,29 @@ callOf e ws (beginPut i v) = beginPutOf e ws i v
 callOf e ws (beginTake i) = beginTakeOf e ws i
 callOf e ws (step i) = stepOf e ws i
 
+-- a call with its answer, and what its answer is held to
 pub record Event : Type 0 where
   pub call : Call
   pub answer : Answer
+  pub measures : Measures
+
+-- by the words just before the call
+unfoldable pub measuresAt : List ℕ → Call → Answer → Measures
+measuresAt ws (beginPut i v) a = noMeasures
+measuresAt ws (beginTake i) a = noMeasures
+measuresAt ws (step i) a = measuresOf ws (settingsOf ws) a
+
+abbrev pub eventOf : List ℕ → Call → Answer → Event
+eventOf ws c a = record { call = c; answer = a; measures = measuresAt ws c a }
 
 -- the run of a list of calls from given words: each call with its answer, refused calls too
 unfoldable pub run : ℕ → List ℕ → List Call → List Event
 run e ws [] = []
-run e ws (c ∷ cs) = record { call = c; answer = callOf e ws c .answer } ∷ run e (callOf e ws c .words) cs
+run e ws (c ∷ cs) = eventOf ws c (callOf e ws c .answer) ∷ run e (callOf e ws c .words) cs
 
 -- the event at a position; past the end, a call that was refused
 abbrev pub nothing : Event
-nothing = record { call = step 0; answer = Refused workerIdle }
+nothing = record { call = step 0; answer = Refused workerIdle; measures = noMeasures }
 
 abbrev pub at : List Event → ℕ → Event
 at es p = getD es p nothing

@@ -6,8 +6,11 @@ use mathlib.Core.Option.{Option, none, some}
 use lib.ListN.{length}
 use lib.Dec.{leb, eqb}
 use Rattle.laws.specs.Choice.{cond}
+use Rattle.rules.specs.Windows.{sizeOf}
 use Rattle.rules.specs.Held.{Item, countItems, passedOver, reported}
+use Rattle.rules.specs.Measures.{Measures}
 use Rattle.rules.specs.declared.Settings.{Settings}
+use Rattle.rules.specs.declared.Size.{Size}
 
 -- what an operation is begun as: a put of a value, or a take
 pub data Operation : Type 0 where
@@ -23,14 +26,13 @@ pub record Contents : Type 0 where
 abbrev pub noItems : Contents
 noItems = record { items = []; count = 0 }
 
--- it is fed put or take, the value begun, the answer's number and, for a 2, the answer's stamp; and, with the answer, how many items a take may
--- pass over at the most, and how many are there at the least where a put answers 4
+-- it is fed put or take, the value begun, the answer's number and, for a 2, the answer's stamp; and "two things more: with a 2 the width and depth of
+-- the window seen at its commit, and with a 4 how many those places are"
 pub record Fed : Type 0 where
   pub operation : Operation
   pub number : ℕ
   pub stamp : ℕ
-  pub most : ℕ
-  pub least : ℕ
+  pub measures : Measures
 
 -- what it gives, and what it holds afterwards
 pub record Given : Type 0 where
@@ -40,17 +42,25 @@ pub record Given : Type 0 where
   pub distance : ℕ
 
 -- ---- demand 3's numbers
--- the items that a take may pass over: (w - 1) d older ones in a queue, so many newer ones of each other sub in a stack
-abbrev pub boundBy : Settings → ℕ → ℕ
-boundBy g each = cond (eqb (g .kind) 0) ((g .width - 1) * g .depth) ((g .width - 1) * each)
+-- the items that a take may pass over: (width - 1) × depth older ones in a queue, by the sizes of its own window; so many newer ones of each other
+-- sub in a stack
+abbrev pub boundBy : Settings → ℕ → Size → ℕ
+boundBy g each size = cond (eqb (g .kind) 0) ((size .width - 1) * size .depth) ((g .width - 1) * each)
 
--- the most that demand 3 allows; specs/Newer has closer figures
+-- the newer items of each other sub that demand 3 allows; specs/Newer has closer figures
+abbrev pub demand3Rows : Settings → ℕ
+demand3Rows g = 2 * g .depth + 2 * g .shift
+
+-- the least items held where a put is answered "full": in a queue as many as there are places after the take window
+abbrev pub leastBy : Settings → ℕ → ℕ
+leastBy g places = cond (eqb (g .kind) 0) places (g .width * (g .rows - g .shift + 1))
+
+-- the same of windows of the pool's size: (w - 1) d in a queue, and w (R - d)
 unfoldable pub mostPassed : Settings → ℕ
-mostPassed g = boundBy g (2 * g .depth + 2 * g .shift)
+mostPassed g = boundBy g (demand3Rows g) (sizeOf g)
 
--- the least items held where a put is answered "full"
 unfoldable pub leastFull : Settings → ℕ
-leastFull g = cond (eqb (g .kind) 0) (g .width * (g .rows - g .depth)) (g .width * (g .rows - g .shift + 1))
+leastFull g = leastBy g (g .width * (g .rows - g .depth))
 
 -- ---- what it allows and gives
 -- given only where the test holds
@@ -117,6 +127,7 @@ giveBy most least g q number stamp taking =
     cond (eqb number 2) (leaving most g q (find stamp (q .items)))
     (cond (eqb number 3) (allowed (eqb (length (q .items)) 0) (unchanged q)) none)
 
--- by the numbers that it is fed; demand 3's are `mostPassed` and `leastFull`
-abbrev pub give : Settings → Contents → Fed → Option Given
-give g q f = giveBy (f .most) (f .least) g q (f .number) (f .stamp) (f .operation)
+-- by what it is fed, with a bound on the newer items of each other sub of a stack; demand 3's is `demand3Rows`
+abbrev pub give : ℕ → Settings → Contents → Fed → Option Given
+give each g q f =
+    giveBy (boundBy g each (f .measures .size)) (leastBy g (f .measures .places)) g q (f .number) (f .stamp) (f .operation)

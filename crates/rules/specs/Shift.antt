@@ -1,26 +1,29 @@
 -- "Shift": if the window (queue) or its version (stack) isn't the seen one, restart. Else the window moves and the
 -- worker restarts; where the window cannot move, a queue gives its final answer and a stack goes to confirm.
-use Prim.Native.Nat.{ℕ, _*_}
+use Prim.Native.Nat.{ℕ}
 use mathlib.Core.Bool.{Bool}
 use lib.Dec.{ltb, leb, eqb}
 use Rattle.laws.specs.Choice.{cond}
 use Rattle.laws.specs.Wrap.{add32, sub32}
 use Rattle.rules.specs.Worker.{encode}
-use Rattle.rules.specs.Effects.{workerOf, movedOf, restartOf, finishedOf, nothingFor, putWindow, takeWindow, stackWindow, windowVersion}
+use Rattle.rules.specs.Effects.{workerOf, movedOf, restartOf, finishedOf, nothingFor, queueView, stackWindow, windowVersion}
 use Rattle.rules.specs.declared.Settings.{Settings}
 use Rattle.rules.specs.declared.Side.{Side}
 use Rattle.rules.specs.declared.Side.the-variants.{Putting, Taking}
-use Rattle.rules.specs.declared.Phase.the-variants.{Window, Confirm}
+use Rattle.rules.specs.declared.Phase.the-variants.{Window, StackConfirm}
+use Rattle.rules.specs.declared.Span.{Span}
 use Rattle.rules.specs.declared.Version.{Version}
 use Rattle.rules.specs.declared.View.{View}
+use Rattle.rules.specs.declared.QueueView.{QueueView}
 use Rattle.rules.specs.declared.Effect.{Effect}
-use Rattle.rules.specs.declared.Outcome.the-variants.{Shifted}
+use Rattle.rules.specs.declared.Outcome.{Outcome}
+use Rattle.rules.specs.declared.Outcome.the-variants.{Shifted, Raised, Dropped}
 
 -- a restart with the window words moved
-abbrev pub shiftedOf : View → Side → ℕ → ℕ → Effect
-shiftedOf v side top mark =
+abbrev pub shiftedOf : View → Outcome → Side → ℕ → ℕ → Effect
+shiftedOf v outcome side top mark =
     record {
-      outcome = Shifted;
+      outcome = outcome;
       slot = encode (workerOf v (v .worker .index) (Window side)) (v .kept);
       top = top;
       mark = mark;
@@ -33,24 +36,36 @@ shiftedOf v side top mark =
 unfoldable pub shiftBy : View → Side → Bool → Bool → Effect → Effect → Effect
 shiftBy v side same able moved stuck = cond same (cond able moved stuck) (restartOf v (v .worker .index) side)
 
--- put: if P + 2d - T <= R then P grows by d, else 4; take: if T < P then T grows by d, else 3
-unfoldable pub queueShift : Settings → View → Side → ℕ → Effect
-queueShift g v Putting window =
-    shiftBy v Putting (eqb (putWindow v) window) (leb (sub32 (add32 (putWindow v) (2 * g .depth)) (takeWindow v)) (g .rows))
-    (shiftedOf v Putting (add32 (putWindow v) (g .depth)) (takeWindow v))
+-- the top of the next put window
+abbrev pub newTop : QueueView → ℕ
+newTop q = add32 (q .put .top) (q .next)
+
+-- put: if P + 2d - T <= R then P grows by d, else 4: "a put shift needs new top minus the take window's bottom at most R", where the new top is P + d
+-- and that bottom T - d
+abbrev pub queuePutShift : Settings → View → QueueView → Span → Effect
+queuePutShift g v q window =
+    shiftBy v Putting (eqb (q .put .top) (window .top)) (leb (sub32 (newTop q) (q .take .bottom)) (g .rows))
+    (shiftedOf v Raised Putting (newTop q) (v .mark))
     (finishedOf v (nothingFor Putting) (v .worker .index))
-queueShift g v Taking window =
-    shiftBy v Taking (eqb (takeWindow v) window) (ltb (takeWindow v) (putWindow v))
-    (shiftedOf v Taking (putWindow v) (add32 (takeWindow v) (g .depth)))
+
+-- take: if T < P then T grows by d, the depth of the next window, else 3
+abbrev pub queueTakeShift : View → QueueView → Span → Effect
+queueTakeShift v q window =
+    shiftBy v Taking (eqb (q .take .top) (window .top)) (ltb (q .take .top) (q .put .top))
+    (shiftedOf v Dropped Taking (v .top) (add32 (q .take .top) (q .after)))
     (finishedOf v (nothingFor Taking) (v .worker .index))
+
+unfoldable pub queueShift : Settings → View → Side → Span → Effect
+queueShift g v Putting window = queuePutShift g v (queueView v) window
+queueShift g v Taking window = queueTakeShift v (queueView v) window
 
 -- put: if G + s <= R then G grows by s; take: if G > d then G falls by s; the version grows. Else confirm
 unfoldable pub stackShift : Settings → View → Side → Version → ℕ → ℕ → Effect
 stackShift g v Putting version scan sum =
     shiftBy v Putting (eqb (windowVersion v .0) (version .0)) (leb (add32 (stackWindow v) (g .shift)) (g .rows))
-    (shiftedOf v Putting (add32 (stackWindow v) (g .shift)) (add32 (windowVersion v .0) 1))
-    (movedOf v (v .worker .index) (Confirm Putting scan sum) (v .kept))
+    (shiftedOf v Shifted Putting (add32 (stackWindow v) (g .shift)) (add32 (windowVersion v .0) 1))
+    (movedOf v (v .worker .index) (StackConfirm Putting scan sum) (v .kept))
 stackShift g v Taking version scan sum =
     shiftBy v Taking (eqb (windowVersion v .0) (version .0)) (ltb (g .depth) (stackWindow v))
-    (shiftedOf v Taking (sub32 (stackWindow v) (g .shift)) (add32 (windowVersion v .0) 1))
-    (movedOf v (v .worker .index) (Confirm Taking scan sum) (v .kept))
+    (shiftedOf v Shifted Taking (sub32 (stackWindow v) (g .shift)) (add32 (windowVersion v .0) 1))
+    (movedOf v (v .worker .index) (StackConfirm Taking scan sum) (v .kept))

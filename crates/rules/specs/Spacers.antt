@@ -14,8 +14,9 @@ use Rattle.laws.specs.Choice.{cond}
 use Rattle.rules.specs.Answers.{numberOf}
 use Rattle.rules.specs.Apply.{stampInCell, takenOf}
 use Rattle.rules.specs.Held.{Item, isSpacer, passedOver, reported, countItems, passedOf, distanceOf}
-use Rattle.rules.specs.Sequential.{taking, Contents, Fed, Given, give, passedBy, reportedBy}
-use Rattle.rules.specs.Run.{Call, beginPut, beginTake, step, callOf, stampIn, distanceIn}
+use Rattle.rules.specs.Measures.{Measures}
+use Rattle.rules.specs.Sequential.{taking, Contents, Fed, Given, give, boundBy, passedBy, reportedBy}
+use Rattle.rules.specs.Run.{Call, beginPut, beginTake, step, callOf, measuresAt, stampIn, distanceIn}
 use Rattle.rules.specs.Statement.{All}
 use Rattle.rules.specs.Consequences.{wordsAfter}
 use Rattle.rules.specs.declared.Settings.{Settings}
@@ -51,19 +52,20 @@ EveryTakeHasDistance =
 
 -- ---- "on the one-at-a-time list"
 -- a take that answers 2 with a stamp
-abbrev pub fedTake : ℕ → ℕ → ℕ → Fed
-fedTake most least stamp = record { operation = taking; number = 2; stamp = stamp; most = most; least = least }
+abbrev pub fedTake : Measures → ℕ → Fed
+fedTake m stamp = record { operation = taking; number = 2; stamp = stamp; measures = m }
 
 -- "the reported number skips spacers, while the limit on items passed over still counts them all": what a take is given
 abbrev pub GivenBoth : Type 0
 GivenBoth =
-    (most least : ℕ) (g : Settings) (q : Contents) (stamp : ℕ) (r : Given) → give g q (fedTake most least stamp) ≡ some r
-    → (r .distance ≡ reportedBy g q stamp) × (passedBy g q stamp ≤ most)
+    (each : ℕ) (g : Settings) (q : Contents) (m : Measures) (stamp : ℕ) (r : Given) → give each g q (fedTake m stamp) ≡ some r
+    → (r .distance ≡ reportedBy g q stamp) × (passedBy g q stamp ≤ boundBy g each (m .size))
 
 -- so a take that would pass over more is not allowed, even if all that it passes over are spacers, of which 0 is reported
 abbrev pub NotAllowedBeyond : Type 0
 NotAllowedBeyond =
-    (most least : ℕ) (g : Settings) (q : Contents) (stamp : ℕ) → most < passedBy g q stamp → give g q (fedTake most least stamp) ≡ none
+    (each : ℕ) (g : Settings) (q : Contents) (m : Measures) (stamp : ℕ) → boundBy g each (m .size) < passedBy g q stamp
+    → give each g q (fedTake m stamp) ≡ none
 
 -- ---- every list of calls from a new pool, and then a take
 -- what a step of worker i answers after it
@@ -75,9 +77,14 @@ pub record TakenWithin (most : ℕ) (g : Settings) (ws : List ℕ) (a : Answer) 
   pub reports : distanceIn a ≡ distanceOf ws g (record { 0 = stampIn a })
   pub passes : passedOf ws g (record { 0 = stampIn a }) ≤ most
 
+-- what it is held to
+abbrev pub measuresAfter : ℕ → List ℕ → List Call → ℕ → Measures
+measuresAfter e ws cs i = measuresAt (wordsAfter e ws cs) (step i) (answerAfter e ws cs i)
+
 abbrev pub TakesWithin : (Settings → ℕ) → Settings → List ℕ → List Call → Type 0
-TakesWithin most g ws cs =
-    (i : ℕ) → numberOf (answerAfter (g .edition) ws cs i) ≡ 2 → TakenWithin (most g) g (wordsAfter (g .edition) ws cs) (answerAfter (g .edition) ws cs i)
+TakesWithin each g ws cs =
+    (i : ℕ) → numberOf (answerAfter (g .edition) ws cs i) ≡ 2
+    → TakenWithin (boundBy g (each g) (measuresAfter (g .edition) ws cs i .size)) g (wordsAfter (g .edition) ws cs) (answerAfter (g .edition) ws cs i)
 
 -- where no call begins a put of 0, all that is passed over is reported
 abbrev pub NoSpacer : Call → Type 0

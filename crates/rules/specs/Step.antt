@@ -14,26 +14,27 @@ use Rattle.rules.specs.Read.{queuePutRead, queueTakeRead, stackRead}
 use Rattle.rules.specs.Check.{checkRule}
 use Rattle.rules.specs.Commit.{queueCommit, stackCommit}
 use Rattle.rules.specs.Shift.{queueShift, stackShift}
-use Rattle.rules.specs.Confirm.{confirmRule}
+use Rattle.rules.specs.Confirm.{queueConfirm, stackConfirm}
 use Rattle.rules.specs.Apply.{applyOf}
 use Rattle.rules.specs.declared.Settings.{Settings}
 use Rattle.rules.specs.declared.Phase.{Phase}
-use Rattle.rules.specs.declared.Phase.the-variants.{Idle, Window, QueuePutRead, QueueTakeRead, StackRead, Check, QueueCommit, StackCommit, QueueShift, StackShift, Confirm}
+use Rattle.rules.specs.declared.Phase.the-variants.{Idle, Window, QueuePutRead, QueueTakeRead, StackRead, Check, QueueCommit, StackCommit, QueueShift, StackShift, QueueConfirm, StackConfirm}
 use Rattle.rules.specs.declared.View.{View}
 use Rattle.rules.specs.declared.Effect.{Effect}
 
 unfoldable pub ruleBy : Settings → View → Phase → Effect
 ruleBy g v Idle = refusedOf v workerIdle
 ruleBy g v (Window side) = windowRule g v side
-ruleBy g v (QueuePutRead window scan) = queuePutRead g v window scan
-ruleBy g v (QueueTakeRead window bare scan sum) = queueTakeRead g v window bare scan sum
+ruleBy g v (QueuePutRead window scan) = queuePutRead v window scan
+ruleBy g v (QueueTakeRead window bare scan sum) = queueTakeRead v window bare scan sum
 ruleBy g v (StackRead side window version scan sum) = stackRead g v side window version scan sum
 ruleBy g v (Check side version seen) = checkRule v side version seen
-ruleBy g v (QueueCommit side seen) = queueCommit g v side seen
+ruleBy g v (QueueCommit side window seen) = queueCommit g v side seen
 ruleBy g v (StackCommit side seen) = stackCommit g v side seen
 ruleBy g v (QueueShift side window) = queueShift g v side window
 ruleBy g v (StackShift side version scan sum) = stackShift g v side version scan sum
-ruleBy g v (Confirm side scan sum) = confirmRule g v side scan sum
+ruleBy g v (QueueConfirm window scan sum) = queueConfirm v window scan sum
+ruleBy g v (StackConfirm side scan sum) = stackConfirm g v side scan sum
 
 unfoldable pub ruleOf : Settings → View → Effect
 ruleOf g v = ruleBy g v (v .worker .phase)

@@ -19,8 +19,8 @@ use Rattle.rules.specs.Make.{makeOf, inEdition}
 use Rattle.rules.specs.Move.{moveOf}
 use Rattle.rules.specs.Dispatch.{DispatchOut, dispatchOf}
 use Rattle.rules.specs.Untouched.{Beyond}
-use Rattle.rules.specs.Sequential.{Operation, mostPassed}
-use Rattle.rules.specs.Run.{Call, begin, callOf, Event, run}
+use Rattle.rules.specs.Sequential.{Operation, demand3Rows}
+use Rattle.rules.specs.Run.{Call, begin, callOf, Event, eventOf, run}
 use Rattle.rules.specs.Statement.{OneAtATimeWithin}
 use Rattle.rules.specs.Solo.{Begun, Solo, EndsWithin, k3Steps, soloSteps}
 use Rattle.rules.specs.Consequences.{wordsAfter, OfEveryRun, itemsIn}
@@ -142,7 +142,7 @@ callsIn [] = []
 callsIn (x ∷ xs) = callIn x ++ callsIn xs
 
 abbrev pub eventIn : Place → Act → List Event
-eventIn p (call c) = record { call = c; answer = callOf (p .edition) (p .words) c .answer } ∷ []
+eventIn p (call c) = eventOf (p .words) c (callOf (p .edition) (p .words) c .answer) ∷ []
 eventIn p (move a b area) = []
 
 unfoldable pub runOver : Place → List Act → List Event
@@ -169,7 +169,7 @@ RunsOverMoves =
 
 -- demand 3: the begins and steps have one order, as one run
 abbrev pub Demand3OverMoves : Type 0
-Demand3OverMoves = OfEveryTurnaround (λ g ws xs. OneAtATimeWithin (mostPassed g) g (runOver (here g ws) xs))
+Demand3OverMoves = OfEveryTurnaround (λ g ws xs. OneAtATimeWithin (demand3Rows g) g (runOver (here g ws) xs))
 
 -- and no item is lost or invented: what is held where the pool lies in the end, and what was taken, is what was put
 abbrev pub NothingLostOverMoves : Type 0

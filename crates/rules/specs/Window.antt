@@ -1,22 +1,34 @@
 -- "Window": the seen window becomes P, T or G; extra becomes G's version (stack) or 0; scan, seen and sum become 0; on to read.
+use Prim.Native.Nat.{_%_}
 use lib.Dec.{eqb}
 use Rattle.laws.specs.Choice.{cond}
 use Rattle.rules.specs.Worker.{zeroSlot}
-use Rattle.rules.specs.Effects.{movedOf, putWindow, takeWindow, stackWindow, windowVersion}
+use Rattle.rules.specs.Effects.{movedOf, queueView, stackWindow, windowVersion}
 use Rattle.rules.specs.declared.Settings.{Settings}
 use Rattle.rules.specs.declared.Side.{Side}
 use Rattle.rules.specs.declared.Side.the-variants.{Putting, Taking}
 use Rattle.rules.specs.declared.Phase.{Phase}
 use Rattle.rules.specs.declared.Phase.the-variants.{QueuePutRead, QueueTakeRead, StackRead}
+use Rattle.rules.specs.declared.Span.{Span}
 use Rattle.rules.specs.declared.View.{View}
+use Rattle.rules.specs.declared.QueueView.{QueueView}
 use Rattle.rules.specs.declared.Effect.{Effect}
 
-abbrev pub queueSeen : View → Side → Phase
-queueSeen v Putting = QueuePutRead (putWindow v) 0
-queueSeen v Taking = QueueTakeRead (takeWindow v) 0 0 0
+-- the put window or the take window
+abbrev pub windowFor : QueueView → Side → Span
+windowFor q Putting = q .put
+windowFor q Taking = q .take
 
-abbrev pub stackSeen : View → Side → Phase
-stackSeen v side = StackRead side (stackWindow v) (windowVersion v) 0 0
+abbrev pub readFrom : Span → Side → Phase
+readFrom window Putting = QueuePutRead window 0
+readFrom window Taking = QueueTakeRead window 0 0 0
+
+-- "a worker whose index lies beyond it starts at index mod that width"
+abbrev pub queueSeen : View → Side → Span → Effect
+queueSeen v side window = movedOf v (v .worker .index % window .width) (readFrom window side) zeroSlot
+
+abbrev pub stackSeen : View → Side → Effect
+stackSeen v side = movedOf v (v .worker .index) (StackRead side (stackWindow v) (windowVersion v) 0 0) zeroSlot
 
 unfoldable pub windowRule : Settings → View → Side → Effect
-windowRule g v side = movedOf v (v .worker .index) (cond (eqb (g .kind) 0) (queueSeen v side) (stackSeen v side)) zeroSlot
+windowRule g v side = cond (eqb (g .kind) 0) (queueSeen v side (windowFor (queueView v) side)) (stackSeen v side)

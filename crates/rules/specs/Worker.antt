@@ -6,10 +6,13 @@ use lib.Seq.{sets}
 use lib.Dec.{eqb}
 use Rattle.laws.specs.Choice.{cond}
 use Rattle.rules.specs.Layout.{phaseAt, valueAt, indexAt, windowAt, extraAt, scanAt, seenAt, sumAt}
+use Rattle.rules.specs.Windows.{sizeOf, spanOf}
+use Rattle.rules.specs.declared.Settings.{Settings}
 use Rattle.rules.specs.declared.Side.{Side}
 use Rattle.rules.specs.declared.Side.the-variants.{Putting, Taking}
 use Rattle.rules.specs.declared.Phase.{Phase}
-use Rattle.rules.specs.declared.Phase.the-variants.{Idle, Window, QueuePutRead, QueueTakeRead, StackRead, Check, QueueCommit, StackCommit, QueueShift, StackShift, Confirm}
+use Rattle.rules.specs.declared.Phase.the-variants.{Idle, Window, QueuePutRead, QueueTakeRead, StackRead, Check, QueueCommit, StackCommit, QueueShift, StackShift, QueueConfirm, StackConfirm}
+use Rattle.rules.specs.declared.Span.{Span}
 use Rattle.rules.specs.declared.Version.{Version}
 use Rattle.rules.specs.declared.Worker.{Worker}
 use Rattle.rules.specs.declared.Slot.{Slot}
@@ -71,18 +74,22 @@ putSlot ws at s = sets ws at (wordsOf s)
 abbrev version : ℕ → Version
 version x = record { 0 = x }
 
+-- the window that a queue's worker has seen
+abbrev pub seenBy : Settings → Slot → Span
+seenBy g s = spanOf (s .window) (sizeOf g)
+
 -- the phase that a queue's worker is in; a queue has no 3, 6 or 11
-unfoldable pub queuePhase : Slot → Phase
-queuePhase s =
+unfoldable pub queuePhase : Settings → Slot → Phase
+queuePhase g s =
     cond (eqb (s .number) (numberFor Putting windowPhase)) (Window Putting)
-    (cond (eqb (s .number) (numberFor Putting readPhase)) (QueuePutRead (s .window) (s .scan))
-    (cond (eqb (s .number) (numberFor Putting commitPhase)) (QueueCommit Putting (s .seen))
-    (cond (eqb (s .number) (numberFor Putting shiftPhase)) (QueueShift Putting (s .window))
+    (cond (eqb (s .number) (numberFor Putting readPhase)) (QueuePutRead (seenBy g s) (s .scan))
+    (cond (eqb (s .number) (numberFor Putting commitPhase)) (QueueCommit Putting (seenBy g s) (s .seen))
+    (cond (eqb (s .number) (numberFor Putting shiftPhase)) (QueueShift Putting (seenBy g s))
     (cond (eqb (s .number) (numberFor Taking windowPhase)) (Window Taking)
-    (cond (eqb (s .number) (numberFor Taking readPhase)) (QueueTakeRead (s .window) (s .extra) (s .scan) (s .sum))
-    (cond (eqb (s .number) (numberFor Taking commitPhase)) (QueueCommit Taking (s .seen))
-    (cond (eqb (s .number) (numberFor Taking shiftPhase)) (QueueShift Taking (s .window))
-    (cond (eqb (s .number) (numberFor Taking confirmPhase)) (Confirm Taking (s .scan) (s .sum))
+    (cond (eqb (s .number) (numberFor Taking readPhase)) (QueueTakeRead (seenBy g s) (s .extra) (s .scan) (s .sum))
+    (cond (eqb (s .number) (numberFor Taking commitPhase)) (QueueCommit Taking (seenBy g s) (s .seen))
+    (cond (eqb (s .number) (numberFor Taking shiftPhase)) (QueueShift Taking (seenBy g s))
+    (cond (eqb (s .number) (numberFor Taking confirmPhase)) (QueueConfirm (seenBy g s) (s .scan) (s .sum))
     Idle))))))))
 
 -- the phase that a stack's worker is in
@@ -93,34 +100,35 @@ stackPhase s =
     (cond (eqb (s .number) (numberFor Putting checkPhase)) (Check Putting (version (s .extra)) (version (s .seen)))
     (cond (eqb (s .number) (numberFor Putting commitPhase)) (StackCommit Putting (version (s .seen)))
     (cond (eqb (s .number) (numberFor Putting shiftPhase)) (StackShift Putting (version (s .extra)) (s .scan) (s .sum))
-    (cond (eqb (s .number) (numberFor Putting confirmPhase)) (Confirm Putting (s .scan) (s .sum))
+    (cond (eqb (s .number) (numberFor Putting confirmPhase)) (StackConfirm Putting (s .scan) (s .sum))
     (cond (eqb (s .number) (numberFor Taking windowPhase)) (Window Taking)
     (cond (eqb (s .number) (numberFor Taking readPhase)) (StackRead Taking (s .window) (version (s .extra)) (s .scan) (s .sum))
     (cond (eqb (s .number) (numberFor Taking checkPhase)) (Check Taking (version (s .extra)) (version (s .seen)))
     (cond (eqb (s .number) (numberFor Taking commitPhase)) (StackCommit Taking (version (s .seen)))
     (cond (eqb (s .number) (numberFor Taking shiftPhase)) (StackShift Taking (version (s .extra)) (s .scan) (s .sum))
-    (cond (eqb (s .number) (numberFor Taking confirmPhase)) (Confirm Taking (s .scan) (s .sum))
+    (cond (eqb (s .number) (numberFor Taking confirmPhase)) (StackConfirm Taking (s .scan) (s .sum))
     Idle)))))))))))
 
-unfoldable pub phaseOf : ℕ → Slot → Phase
-phaseOf kind s = cond (eqb kind 0) (queuePhase s) (stackPhase s)
+unfoldable pub phaseOf : Settings → Slot → Phase
+phaseOf g s = cond (eqb (g .kind) 0) (queuePhase g s) (stackPhase s)
 
-abbrev pub decode : ℕ → Slot → Worker
-decode kind s = record { value = s .value; index = s .index; phase = phaseOf kind s }
+abbrev pub decode : Settings → Slot → Worker
+decode g s = record { value = s .value; index = s .index; phase = phaseOf g s }
 
 -- ---- the words of a worker: those that its phase does not hold are as in `o`
 unfoldable pub encodePhase : Phase → ℕ → ℕ → Slot → Slot
 encodePhase Idle v x o = record { number = idlePhase; value = v; index = x; window = o .window; extra = o .extra; scan = o .scan; seen = o .seen; sum = o .sum }
 encodePhase (Window side) v x o = record { number = numberFor side windowPhase; value = v; index = x; window = o .window; extra = o .extra; scan = o .scan; seen = o .seen; sum = o .sum }
-encodePhase (QueuePutRead window scan) v x o = record { number = numberFor Putting readPhase; value = v; index = x; window = window; extra = o .extra; scan = scan; seen = o .seen; sum = o .sum }
-encodePhase (QueueTakeRead window bare scan sum) v x o = record { number = numberFor Taking readPhase; value = v; index = x; window = window; extra = bare; scan = scan; seen = o .seen; sum = sum }
+encodePhase (QueuePutRead window scan) v x o = record { number = numberFor Putting readPhase; value = v; index = x; window = window .top; extra = o .extra; scan = scan; seen = o .seen; sum = o .sum }
+encodePhase (QueueTakeRead window bare scan sum) v x o = record { number = numberFor Taking readPhase; value = v; index = x; window = window .top; extra = bare; scan = scan; seen = o .seen; sum = sum }
 encodePhase (StackRead side window version scan sum) v x o = record { number = numberFor side readPhase; value = v; index = x; window = window; extra = version .0; scan = scan; seen = o .seen; sum = sum }
 encodePhase (Check side version seen) v x o = record { number = numberFor side checkPhase; value = v; index = x; window = o .window; extra = version .0; scan = o .scan; seen = seen .0; sum = o .sum }
-encodePhase (QueueCommit side seen) v x o = record { number = numberFor side commitPhase; value = v; index = x; window = o .window; extra = o .extra; scan = o .scan; seen = seen; sum = o .sum }
+encodePhase (QueueCommit side window seen) v x o = record { number = numberFor side commitPhase; value = v; index = x; window = window .top; extra = o .extra; scan = o .scan; seen = seen; sum = o .sum }
 encodePhase (StackCommit side seen) v x o = record { number = numberFor side commitPhase; value = v; index = x; window = o .window; extra = o .extra; scan = o .scan; seen = seen .0; sum = o .sum }
-encodePhase (QueueShift side window) v x o = record { number = numberFor side shiftPhase; value = v; index = x; window = window; extra = o .extra; scan = o .scan; seen = o .seen; sum = o .sum }
+encodePhase (QueueShift side window) v x o = record { number = numberFor side shiftPhase; value = v; index = x; window = window .top; extra = o .extra; scan = o .scan; seen = o .seen; sum = o .sum }
 encodePhase (StackShift side version scan sum) v x o = record { number = numberFor side shiftPhase; value = v; index = x; window = o .window; extra = version .0; scan = scan; seen = o .seen; sum = sum }
-encodePhase (Confirm side scan sum) v x o = record { number = numberFor side confirmPhase; value = v; index = x; window = o .window; extra = o .extra; scan = scan; seen = o .seen; sum = sum }
+encodePhase (QueueConfirm window scan sum) v x o = record { number = numberFor Taking confirmPhase; value = v; index = x; window = window .top; extra = o .extra; scan = scan; seen = o .seen; sum = sum }
+encodePhase (StackConfirm side scan sum) v x o = record { number = numberFor side confirmPhase; value = v; index = x; window = o .window; extra = o .extra; scan = scan; seen = o .seen; sum = sum }
 
 unfoldable pub encode : Worker → Slot → Slot
 encode k o = encodePhase (k .phase) (k .value) (k .index) o

@@ -35,6 +35,19 @@ pub struct Segments {
     pub second: Segment,
 }
 
+// How large a queue's window is: so many subs wide, and so many rows deep.
+pub struct Size {
+    pub width: u32,
+    pub depth: u32,
+}
+
+// A queue's window as a worker sees it: the rows above `bottom` up to `top` of the subs below `width`.
+pub struct Span {
+    pub top: u32,
+    pub bottom: u32,
+    pub width: u32,
+}
+
 // What an operation was begun as.
 pub enum Side {
     Putting,
@@ -47,12 +60,12 @@ pub enum Phase {
     Window(Side),
     // The put window; the subs missed.
     QueuePutRead {
-        window: u32,
+        window: Span,
         scan: u32,
     },
-    // The take window; the bare subs among those missed; the subs missed; the put counts read.
+    // The take window; the bare subs among those missed; the subs missed; the last put rows read.
     QueueTakeRead {
-        window: u32,
+        window: Span,
         bare: u32,
         scan: u32,
         sum: u32,
@@ -71,9 +84,10 @@ pub enum Phase {
         version: Version,
         seen: Version,
     },
-    // The count of items put, or taken.
+    // The window; the sub's last put row, or its last taken row.
     QueueCommit {
         side: Side,
+        window: Span,
         seen: u32,
     },
     // The sub's version.
@@ -83,7 +97,7 @@ pub enum Phase {
     },
     QueueShift {
         side: Side,
-        window: u32,
+        window: Span,
     },
     // The window's version; the pass that a confirm goes on with.
     StackShift {
@@ -92,8 +106,14 @@ pub enum Phase {
         scan: u32,
         sum: u32,
     },
+    // The take window; the subs confirmed; what is left of the sum. A queue's put has no confirm.
+    QueueConfirm {
+        window: Span,
+        scan: u32,
+        sum: u32,
+    },
     // The subs confirmed; what is left of the sum.
-    Confirm {
+    StackConfirm {
         side: Side,
         scan: u32,
         sum: u32,
@@ -119,13 +139,22 @@ pub struct Slot {
     pub sum: u32,
 }
 
-// What a step may read. `top` is word 8, a queue's put window or a stack's window; `mark` is word 9, a queue's take
-// window or the version of a stack's window. `first` and `second` are the two words of the sub at the worker's index:
+// How large a queue's windows are: the put window, the take window, the one after it, and the next put window.
+pub struct Sizes {
+    pub put: Size,
+    pub take: Size,
+    pub after: Size,
+    pub next: Size,
+}
+
+// What a step may read. `top` is word 8, the top of a queue's put window or a stack's window; `mark` is word 9, the top of a queue's
+// take window or the version of a stack's window. `first` and `second` are the two words of the sub at the worker's index:
 // items put and items taken, or items held and version. `worker` is what the worker's words hold; `kept` are those words
 // as they lie, for the ones that its next phase does not hold.
 pub struct View {
     pub top: u32,
     pub mark: u32,
+    pub sizes: Sizes,
     pub puts: u32,
     pub first: u32,
     pub second: u32,
@@ -133,12 +162,15 @@ pub struct View {
     pub kept: Slot,
 }
 
-// The shared words of a view, as a queue's rules read them.
+// What a queue's rules read of a view: the two windows, how deep the next put window is and the window after the take window, and the
+// last rows of the sub.
 pub struct QueueView {
-    pub put_window: u32,
-    pub take_window: u32,
-    pub items_put: u32,
-    pub items_taken: u32,
+    pub put: Span,
+    pub take: Span,
+    pub next: u32,
+    pub after: u32,
+    pub last_put: u32,
+    pub last_taken: u32,
 }
 
 // The shared words of a view, as a stack's rules read them.
@@ -150,12 +182,15 @@ pub struct StackView {
 }
 
 // How a step ends, and so which words it writes: the worker's and the step count, where a commit failed (`Lost`) the worker's count of
-// those, where the window moved its two words, where an item landed or was removed the two of its sub.
+// those, where a stack's window moved (`Shifted`) its two words, where a queue's put window moved on (`Raised`) or its take window
+// (`Dropped`) that window's, where an item landed or was removed the two of its sub.
 pub enum Outcome {
     Refused(u32),
     Moving,
     Lost,
     Shifted,
+    Raised,
+    Dropped,
     Landed { value: u32, row: Row, stamp: Stamp },
     Removed { row: Row },
     Empty,

@@ -22,10 +22,10 @@ use Rattle.rules.specs.Read.{missOf, queuePutRead, queueTakeRead, stackRead}
 use Rattle.rules.specs.Check.{checkRule}
 use Rattle.rules.specs.Commit.{commitBy, queueCommit, stackCommit}
 use Rattle.rules.specs.Shift.{shiftBy, queueShift, stackShift}
-use Rattle.rules.specs.Confirm.{confirmedOf, confirmRule}
+use Rattle.rules.specs.Confirm.{confirmedOf, confirmBy, queueConfirm, stackConfirm}
 use Rattle.rules.specs.Held.{itemsAbove, heldSub, heldBelow, countItems, passedOf, distanceOf}
 use Rattle.rules.specs.Segments.{segmentsFrom, segmentsAbove, upFrom}
-use Rattle.rules.specs.Apply.{putItem, putSub, putLanded, putShifted, countLost, putWorker, takenOf, applyBy, applyOf}
+use Rattle.rules.specs.Apply.{putItem, putSub, putLanded, putShifted, putRaised, putDropped, countLost, putWorker, takenOf, applyBy, applyOf}
 use Rattle.rules.specs.Step.{ruleBy, ruleOf, slotStep, fitStep, checkedStep, stepOf}
 use Rattle.rules.specs.Sequential.{mostPassed, leastFull}
 use Rattle.rules.specs.Newer.{k14Bound, frameworkBound, thesisBound, exactBound}
@@ -111,7 +111,7 @@ stretch-unanswered s t =
 
 -- ---- the tables
 tables-pass : (every holds table ≡ true) × (every holds strides ≡ true) × (every reaches extremes ≡ true) × (every reaches spacers ≡ true) × (every reaches solos ≡ true) × (every unanswered stretches ≡ true) × (every says carded ≡ true) × (every holds editionZero ≡ true)
-unfolding table strides extremes spacers solos stretches carded editionZero wordsAfter mostPassed leastFull frameworkBound exactBound thesisBound k14Bound countedSteps eventsOf runOf linesOf makeNumber settingsFit workerWords run callOf cond allBelow slotAt putSlot queuePhase stackPhase phaseOf encode encodePhase subFit subsFit phaseFit wordFit workersFit bodyChecked headChecked checkedBy zeroed indexed madeWords makeOf slotBegin fitBegin checkedBegin beginOf viewOf nextOf hopOf windowRule missOf queuePutRead queueTakeRead stackRead checkRule commitBy queueCommit stackCommit shiftBy queueShift stackShift confirmedOf confirmRule itemsAbove heldSub heldBelow countItems passedOf distanceOf putItem putSub putLanded putShifted countLost putWorker takenOf applyBy applyOf ruleBy ruleOf slotStep fitStep checkedStep stepOf
+unfolding table strides extremes spacers solos stretches carded editionZero wordsAfter mostPassed leastFull frameworkBound exactBound thesisBound k14Bound countedSteps eventsOf runOf linesOf makeNumber settingsFit workerWords run callOf cond allBelow slotAt putSlot queuePhase stackPhase phaseOf encode encodePhase subFit subsFit phaseFit wordFit workersFit bodyChecked headChecked checkedBy zeroed indexed madeWords makeOf slotBegin fitBegin checkedBegin beginOf viewOf nextOf hopOf windowRule missOf queuePutRead queueTakeRead stackRead checkRule commitBy queueCommit stackCommit shiftBy queueShift stackShift confirmedOf confirmBy queueConfirm stackConfirm itemsAbove heldSub heldBelow countItems passedOf distanceOf putItem putSub putLanded putShifted putRaised putDropped countLost putWorker takenOf applyBy applyOf ruleBy ruleOf slotStep fitStep checkedStep stepOf
 tables-pass = (refl, refl, refl, refl, refl, refl, refl, refl)
 
 pub runs-hold : AllHold table × AllHold strides × All Reaches extremes × All Reaches spacers × All Reaches solos × All Unanswered stretches × All Says carded × AllHold editionZero

@@ -2,7 +2,9 @@
 use held::distance;
 use image::count_lost;
 use image::item_of;
+use image::put_dropped;
 use image::put_landed;
+use image::put_raised;
 use image::put_shifted;
 use image::put_sub;
 use image::put_worker;
@@ -56,6 +58,16 @@ pub fn apply(words: &mut [u32], g: Settings, at: usize, j: u32, e: Effect) -> An
         }
         Outcome::Shifted => {
             put_shifted(words, e);
+            put_worker(words, at, e);
+            Answer::Moving
+        }
+        Outcome::Raised => {
+            put_raised(words, e);
+            put_worker(words, at, e);
+            Answer::Moving
+        }
+        Outcome::Dropped => {
+            put_dropped(words, e);
             put_worker(words, at, e);
             Answer::Moving
         }

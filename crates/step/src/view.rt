@@ -6,6 +6,7 @@ use image::load;
 use image::sub_of;
 use rules::Settings;
 use rules::View;
+use worker::own_sizes;
 use worker::worker_of;
 ghost use mathlib.Core.Path.{_≡_};
 ghost use Prim.Native.Nat.{_+_, _≤_};
@@ -24,10 +25,11 @@ pub fn view(words: &[u32], g: Settings, at: usize) -> View
     View {
         top: words[TOP],
         mark: words[MARK],
+        sizes: own_sizes(g),
         puts: words[PUTS],
         first: s.first,
         second: s.second,
-        worker: worker_of(g.kind, kept),
+        worker: worker_of(g, kept),
         kept,
     }
 }

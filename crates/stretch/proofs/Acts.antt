@@ -16,7 +16,7 @@ use Rattle.stretch.specs.Stretch.{countedCall}
 use Rattle.stretch.proofs.Types.{Settings, Side, Putting, Taking, Idle, Window, Slot}
 use Rattle.rules.specs.declared.Answer.the-variants.{Moving}
 use Rattle.rules.proofs.counts.Sums.{upd-same, upd-other}
-use Rattle.rules.proofs.order.Law.{Next, refused, opened, walks, tries, stays, loses, ends as ends-here, wins}
+use Rattle.rules.proofs.order.Law.{Next, refused, passes, opened, walks, tries, stays, loses, ends as ends-here, wins}
 use Rattle.rules.proofs.machine.Machine.{State, next, subIn, viewIn, phaseIn, applyIn, nextIn, apply-other}
 use Rattle.rules.proofs.machine.Phases.{statusOf, idle-phase, window-phase}
 use Rattle.rules.proofs.machine.Calls.{Called, refuses, does, able-does, Steps, Begins, step-called, begun, begin-called}
@@ -42,15 +42,15 @@ pub data Acts (g : Settings) (s : State) (c : Call) (o : Next State) : Type 0 wh
 
 -- ---- who has a put under way
 abbrev slotPut : Settings → Slot → ℕ
-slotPut g x = openPut (statusOf (x .value) (phaseOf (g .kind) x))
+slotPut g x = openPut (statusOf (x .value) (phaseOf g x))
 
 pub put-begun : (g : Settings) (s : State) (i : ℕ) (side : Side) (v : ℕ) → putIn g (begun s i side v) i ≡ openPut (statusOf v (Window side))
 put-begun g s i side v =
     ap (slotPut g) (upd-same (s .slot) i (fresh v (subIn s i) (Window side))) ∙ by side
   where
     by : (side : Side) → slotPut g (fresh v (subIn s i) (Window side)) ≡ openPut (statusOf v (Window side))
-    by Putting = rw (window-phase (g .kind) Putting v (subIn s i) zeroSlot) refl
-    by Taking = rw (window-phase (g .kind) Taking v (subIn s i) zeroSlot) refl
+    by Putting = rw (window-phase g Putting v (subIn s i) zeroSlot) refl
+    by Taking = rw (window-phase g Taking v (subIn s i) zeroSlot) refl
 
 pub put-begun-other : (g : Settings) (s : State) (i : ℕ) (side : Side) (v j : ℕ) → j ≢ i → putIn g (begun s i side v) j ≡ putIn g s j
 put-begun-other g s i side v j n =
@@ -63,6 +63,7 @@ put-idle g s i e = rw e refl
 put-kept : {g : Settings} {s : State} {q : Contents} {i : ℕ} {o : Next State} → Turned g (Inv g) (Snap g putsIn) s q (step i) o → numberOf (o .answer) ≡ 0
     → putIn g (o .state) i ≡ putIn g s i
 put-kept (refused n e) moving = absurd (omega arith)
+put-kept (passes no-step n kept h) moving = absurd (no-step _ refl)
 put-kept (opened j (putting v) u n a b w h) moving = absurd (let z : _≡_ {A = ℕ} 0 1 = cc in omega arith)
 put-kept (opened j taking u n a b w h) moving = absurd (let z : _≡_ {A = ℕ} 0 1 = cc in omega arith)
 put-kept {i = i} (walks j op u n a b w h) moving = let e : i ≡ j = cc in rw e (ap openPut b ∙ sym (ap openPut a))
@@ -87,7 +88,7 @@ module _ (g : Settings) (good : Good g) (kind : g .kind ≡ 0) (s : State) (q : 
       where
         by : OwesIn g (2 * g .width) s (mostOwed g (2 * g .width)) i → QueueResult g (2 * g .width) s i (mostOwed g (2 * g .width)) o
         by (inl r) = absurd (not-idle g (good .bounds .kind1) (s .slot i) (common .slots i) busy (r .idle))
-        by (inr x) = queue-step g good kind (2 * g .width) (twice g good kind) s q common inv (λ l. inl (le-refl _)) i (mostOwed g (2 * g .width)) x
+        by (inr x) = queue-step g good kind (2 * g .width) (twice g good kind) s q inv (λ l. inl (le-refl _)) i (mostOwed g (2 * g .width)) x
 
     -- is final, or answers 0 and is counted
     pub busy-step : i < g .workers → s .slot i .number ≢ 0 → s .steps < stepLimit
@@ -110,7 +111,7 @@ module _ (g : Settings) (good : Good g) (kind : g .kind ≡ 0) (s : State) (q : 
       → Called s (Begins g s i) (next Moving (begun s i side v)) o′ → Acts g s c o′
   by-begin c i side v o′ z (refuses n l unable e) = same (ap (λ (x : Next State). x .state) e)
   by-begin c i side v o′ z (does able e) =
-      begins i side v (able .worker) (idle-phase (g .kind) (s .slot i) (able .idle)) z (ap (λ (x : Next State). x .state) e)
+      begins i side v (able .worker) (idle-phase g (s .slot i) (able .idle)) z (ap (λ (x : Next State). x .state) e)
 
   pub acts : (c : Call) → Acts g s c (nextIn g s c)
   unfolding nextIn

@@ -22,6 +22,7 @@ use Rattle.rules.proofs.machine.Turns.{Common}
 use Rattle.rules.proofs.queue.Inv.{Inv}
 use Rattle.rules.proofs.queue.Turn.{queueKind, queue-inv}
 use Rattle.rules.proofs.Transfer.{Related, next-related}
+use Rattle.rules.proofs.progress.QueueLeft.{Behind}
 use Rattle.rules.proofs.progress.QueueResult.{putIn, Filled, Moved}
 use Rattle.rules.proofs.progress.Law.{twice}
 use Rattle.stretch.proofs.Owed.{OwesIn, Debts, begun-others, begun-put-owes}
@@ -34,7 +35,7 @@ use Rattle.stretch.proofs.Past.{once}
 -- no put is under way, and a take window below the put window finds an item when it moves
 pub record Calm (g : Settings) (s : State) : Type 0 where
   pub no-put : (i : ℕ) → i < g .workers → putIn g s i ≡ 0
-  pub stock : s .mark < s .top → Filled g s
+  pub stock : Behind s → Filled s
 
 -- n steps are enough: for the takes if no put begins, and if an idle worker begins one
 pub record Enough (g : Settings) (s : State) (worst calm : ℕ → ℕ) (n : ℕ) : Type 0 where
@@ -61,7 +62,7 @@ module _ (g : Settings) (s : State) (calm : Calm g s) where
       none : (j : ℕ) → j < g .workers → putIn g t j ≡ 0
       none j l = keeps j ∙ calm .no-put j l
 
-      by : (putIn g s i ≡ 1) ⊎ Keeps g s t → Calm g t
+      by : (putIn g s i ≡ 1) ⊎ Keeps s t → Calm g t
       by (inl one) = absurd (omega (arith, calm .no-put i li))
       by (inr kept) = record { no-put = none; stock = λ l. kept .filled (calm .stock (kept .below l)) }
 

@@ -27,7 +27,7 @@ use Rattle.rules.proofs.machine.Turns.{Common}
 use Rattle.rules.proofs.machine.Slots.{not-idle}
 use Rattle.rules.proofs.queue.Inv.{Inv}
 use Rattle.rules.proofs.progress.Steps.{Goes}
-use Rattle.rules.proofs.progress.QueueLeft.{Ready, queueLeft}
+use Rattle.rules.proofs.progress.QueueLeft.{NextReady, queueLeft}
 use Rattle.rules.proofs.progress.QueueResult.{Moved, QueueResult, moves, ends}
 use Rattle.rules.proofs.progress.QueueSteps.{queue-step}
 use Rattle.stretch.proofs.Owed.{Owes, OwesIn, Debts, begun-owes, begun-others}
@@ -53,7 +53,7 @@ module _ (g : Settings) (L : ℕ) (s : State) (debt : ℕ → ℕ) (c : Call) (o
     answers : (i : ℕ) → c ≡ step i → i < g .workers → Final (o .answer) → phaseIn g (o .state) i ≡ Idle → Account
 
 module _ (g : Settings) (good : Good g) (kind : g .kind ≡ 0) (L : ℕ) (enough : g .width < L) (s : State) (q : Contents) (common : Common g s) (inv : Inv g s q)
-    (ready : s .mark < s .top → Ready g L (s .first) (s .second)) (debt : ℕ → ℕ) (owed : Debts g L s debt) where
+    (ready : NextReady g L s) (debt : ℕ → ℕ) (owed : Debts g L s debt) where
   unchanged : (c : Call) (o : Next State) → o .state ≡ s → countedCall c (o .answer) ≡ 0 → Account g L s debt c o
   unchanged c o e z = pays (record { after = debt; owed = rw e owed; less = λ j. le-refl _; idle = λ j u. (rw e at u, refl); paid = omega arith })
 
@@ -61,7 +61,7 @@ module _ (g : Settings) (good : Good g) (kind : g .kind ≡ 0) (L : ℕ) (enough
   module _ (i : ℕ) (side : Side) (v : ℕ) (idle : s .slot i .number ≡ 0) where
     opens : OwesIn g L s (debt i) i → OwesIn g L (begun s i side v) (debt i) i
     opens (inl r) = begun-owes g L s (debt i) i side v (r .take) (r .put)
-    opens (inr x) = absurd (subst (queueLeft g L s (debt i) (subIn s i)) (idle-phase (g .kind) (s .slot i) idle) x)
+    opens (inr x) = absurd (subst (queueLeft g L s (debt i) (subIn s i)) (idle-phase g (s .slot i) idle) x)
 
     begun-debts : i < g .workers → Debts g L (begun s i side v) debt
     begun-debts l j m = elim (ℕ-discrete j i) [
@@ -71,8 +71,8 @@ module _ (g : Settings) (good : Good g) (kind : g .kind ≡ 0) (L : ℕ) (enough
 
     was-idle : (j : ℕ) → phaseIn g (begun s i side v) j ≡ Idle → phaseIn g s j ≡ Idle
     was-idle j u = elim (ℕ-discrete j i) [
-      | yes e ↦ rw e (idle-phase (g .kind) (s .slot i) idle)
-      | no n ↦ ap (λ (x : Slot). phaseOf (g .kind) x) (sym (upd-other (s .slot) i _ j n)) ∙ u
+      | yes e ↦ rw e (idle-phase g (s .slot i) idle)
+      | no n ↦ ap (λ (x : Slot). phaseOf g x) (sym (upd-other (s .slot) i _ j n)) ∙ u
     ]
 
   by-begin : (c : Call) (i : ℕ) (side : Side) (v : ℕ) (o : Next State) → countedCall c (o .answer) ≡ 0
@@ -110,7 +110,7 @@ module _ (g : Settings) (good : Good g) (kind : g .kind ≡ 0) (L : ℕ) (enough
       still-idle : (j : ℕ) → phaseIn g (o .state) j ≡ Idle → (phaseIn g s j ≡ Idle) × (after j ≡ debt j)
       still-idle j u = elim (ℕ-discrete j i) [
         | yes e ↦ absurd (subst (queueLeft g L (o .state) (debt i - 1) (subIn (o .state) i)) (rw e at u) (x .left))
-        | no n ↦ (ap (λ (y : Slot). phaseOf (g .kind) y) (sym (slot-other j n)) ∙ u, upd-other debt i (debt i - 1) j n)
+        | no n ↦ (ap (λ (y : Slot). phaseOf g y) (sym (slot-other j n)) ∙ u, upd-other debt i (debt i - 1) j n)
       ]
 
       each : Debts g L (o .state) after
@@ -118,8 +118,8 @@ module _ (g : Settings) (good : Good g) (kind : g .kind ≡ 0) (L : ℕ) (enough
         | yes e ↦ rw (e, upd-same debt i (debt i - 1)) (inr (x .left))
         | no n ↦
             rw (upd-other debt i (debt i - 1) j n)
-            (subst (λ (y : Slot). Owes g L (o .state) (debt j) (y .index) (phaseOf (g .kind) y)) (sym (slot-other j n))
-            (owes-kept g L s ready (debt j) (subIn s j) (phaseIn g s j) i (o .state) m (owed j lj)))
+            (subst (λ (y : Slot). Owes g L (o .state) (debt j) (y .index) (phaseOf g y)) (sym (slot-other j n))
+            (owes-kept g L s q inv ready (debt j) (subIn s j) (phaseIn g s j) i (o .state) m (owed j lj)))
       ]
 
     by-result : QueueResult g L s i (debt i) o → Account g L s debt (step i) o
@@ -133,7 +133,7 @@ module _ (g : Settings) (good : Good g) (kind : g .kind ≡ 0) (L : ℕ) (enough
     where
       by : OwesIn g L s (debt i) i → Account g L s debt (step i) (applyIn g s i (ruleOf g (viewIn g s i)))
       by (inl r) = absurd (not-idle g (good .bounds .kind1) (s .slot i) (common .slots i) (able .busy) (r .idle))
-      by (inr x) = by-result i (able .worker) (queue-step g good kind L enough s q common inv ready i (debt i) x)
+      by (inr x) = by-result i (able .worker) (queue-step g good kind L enough s q inv ready i (debt i) x)
 
   pub account : (c : Call) → Account g L s debt c (nextIn g s c)
   unfolding nextIn

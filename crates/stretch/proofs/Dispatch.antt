@@ -26,8 +26,7 @@ use Rattle.rules.proofs.machine.Good.{Good, good}
 use Rattle.rules.proofs.queue.Turn.{queueKind, queue-inv}
 use Rattle.rules.proofs.words.Made.{accepted}
 use Rattle.rules.proofs.words.Stores.{number-same}
-use Rattle.rules.proofs.words.Fit.{checked-fit}
-use Rattle.rules.proofs.Transfer.{Related, Next-related, next-related}
+use Rattle.rules.proofs.Transfer.{Related, related-fit, Next-related, next-related}
 use Rattle.rules.proofs.progress.Steps.{Result, finishes, goes}
 use Rattle.rules.proofs.progress.QueueLeft.{queueLeft}
 use Rattle.stretch.proofs.Acts.{busy-step}
@@ -61,9 +60,7 @@ module _ (g : Settings) (good : Good g) (kind : g .kind ≡ 0) (limits : setting
   Rel ws s = Related g limits (queueKind g good kind) ws s
 
   fit : {ws : List ℕ} {s : State} → Rel ws s → checkedOf (g .edition) ws ≡ Fit g
-  fit {ws} {s} r =
-      let counts = queueKind g good kind .counts s (r .list) (r .whole .inv) in
-      checked-fit g limits (good .bounds .kind1) ws s (r .says) (r .whole .common) (counts .sub)
+  fit r = related-fit g limits (queueKind g good kind) r
 
   -- the turns come to a final answer, or there are m steps without one
   abbrev Comes : List ℕ → ℕ → ℕ → ℕ → Type 0

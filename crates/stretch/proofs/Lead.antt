@@ -15,7 +15,7 @@ use Rattle.rules.proofs.machine.Calls.{begun}
 use Rattle.rules.proofs.machine.Good.{Good}
 use Rattle.rules.proofs.machine.Turns.{Common}
 use Rattle.rules.proofs.queue.Inv.{Inv}
-use Rattle.rules.proofs.progress.QueueLeft.{Ready}
+use Rattle.rules.proofs.progress.QueueLeft.{NextReady}
 use Rattle.rules.proofs.progress.QueueResult.{putIn}
 use Rattle.stretch.proofs.Owed.{OwesIn, Debts, mostOwed, owes-most, begun-put-owes}
 use Rattle.stretch.proofs.Acts.{Acts, acts, put-begun, put-begun-other, put-idle}
@@ -65,7 +65,7 @@ module _ (g : Settings) (good : Good g) (L : ℕ) (enough : g .width < L) where
 
   -- ---- after a call
   module _ (kind : g .kind ≡ 0) (s : State) (q : Contents) (common : Common g s) (inv : Inv g s q)
-      (ready : s .mark < s .top → Ready g L (s .first) (s .second)) (lead : Lead g L s) (c : Call) where
+      (ready : NextReady g L s) (lead : Lead g L s) (c : Call) where
     abbrev t : State
     t = nextIn g s c .state
 

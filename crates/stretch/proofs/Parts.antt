@@ -3,7 +3,7 @@ use mathlib.Core.Path.{_≡_, refl, ap, _∙_}
 use mathlib.Core.List.{List, [], _∷_}
 use Prim.Native.Nat.{ℕ, zero, suc}
 use lib.ListN.{take, drop}
-use Rattle.rules.specs.Run.{Call, callOf, run}
+use Rattle.rules.specs.Run.{Call, callOf, Event, eventOf, run}
 use Rattle.rules.specs.Consequences.{wordsAfter}
 use Rattle.stretch.specs.Stretch.{stretch}
 
@@ -19,7 +19,7 @@ unfolding run
 run-take ed ws [] zero = refl
 run-take ed ws [] (suc m) = refl
 run-take ed ws (c ∷ cs) zero = refl
-run-take ed ws (c ∷ cs) (suc m) = let rest = run-take ed (callOf ed ws c .words) cs m in λ u. record { call = c; answer = callOf ed ws c .answer } ∷ rest u
+run-take ed ws (c ∷ cs) (suc m) = ap (λ (es : List Event). eventOf ws c (callOf ed ws c .answer) ∷ es) (run-take ed (callOf ed ws c .words) cs m)
 
 pub run-stretch : (ed : ℕ) (ws : List ℕ) (cs : List Call) (p m : ℕ) → stretch p m (run ed ws cs) ≡ run ed (wordsAfter ed ws (take p cs)) (take m (drop p cs))
 run-stretch ed ws cs p m = ap (take m) (run-drop ed ws cs p) ∙ run-take ed (wordsAfter ed ws (take p cs)) (drop p cs) m

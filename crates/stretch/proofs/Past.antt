@@ -11,8 +11,6 @@ use Prim.Native.Nat.{ℕ, _+_, _*_, _<_}
 use native.Mathlib.Decide.{decLt}
 use native.Mathlib.Nat.{le-refl}
 use native.Mathlib.Omega.{arith}
-use lib.Dec.{eqb}
-use Rattle.laws.specs.Choice.{cond, cond-true}
 use Rattle.rules.specs.Limits.{settingsFit}
 use Rattle.rules.specs.Make.{makeOf}
 use Rattle.rules.specs.Sequential.{Contents}
@@ -45,8 +43,7 @@ module _ (g : Settings) (good : Good g) (kind : g .kind ≡ 0) where
   past-made : Past g (madeIn g)
   unfolding madeIn
   past-made =
-      let idle : phaseIn g (madeIn g) 0 ≡ Idle = idle-phase (g .kind) (madeIn g .slot 0) refl in
-      let same : cond (eqb (g .kind) 0) (g .depth) 0 ≡ g .depth = rw kind (cond-true _ _) in
+      let idle : phaseIn g (madeIn g) 0 ≡ Idle = idle-phase g (madeIn g .slot 0) refl in
       record {
         lead = idle-leads g good (2 * g .width) (twice g good kind) (madeIn g) 0 (good .bounds .workers1) idle;
         second = inl (idle-leads g good (g .width + 1) once (madeIn g) 0 (good .bounds .workers1) idle);
@@ -68,12 +65,12 @@ module _ (g : Settings) (good : Good g) (kind : g .kind ≡ 0) where
     open-next x (Acts.answers i w l f e keeps m) = inl (idle-leads g good (g .width + 1) once t i l e)
 
     lead-small : Lead g (g .width + 1) s → Second
-    lead-small x = elim (decLt (s .mark) (s .top)) [
+    lead-small x = elim (decLt (s .frame .head) (s .frame .tail)) [
       | yes l ↦ by (past .stocked l)
       | no l ↦ inl (lead-next g good (g .width + 1) once kind s q common inv (λ b. absurd (l b)) x c)
     ]
       where
-        by : Filled g s ⊎ PutOpen g s → Second
+        by : Filled s ⊎ PutOpen g s → Second
         by (inl y) = inl (lead-next g good (g .width + 1) once kind s q common inv (ready-filled g s q inv y) x c)
         by (inr y) = open-next y (acts g good kind s q common inv c)
 

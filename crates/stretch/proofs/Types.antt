@@ -3,7 +3,8 @@ pub use Rattle.rules.specs.declared.Settings.{Settings}
 pub use Rattle.rules.specs.declared.Side.{Side}
 pub use Rattle.rules.specs.declared.Side.the-variants.{Putting, Taking}
 pub use Rattle.rules.specs.declared.Phase.{Phase}
-pub use Rattle.rules.specs.declared.Phase.the-variants.{Idle, Window, QueuePutRead, QueueTakeRead, StackRead, Check, QueueCommit, StackCommit, QueueShift, StackShift, Confirm}
+pub use Rattle.rules.specs.declared.Phase.the-variants.{Idle, Window, QueuePutRead, QueueTakeRead, StackRead, Check, QueueCommit, StackCommit, QueueShift, StackShift, QueueConfirm, StackConfirm}
+pub use Rattle.rules.specs.declared.Span.{Span}
 pub use Rattle.rules.specs.declared.Version.{Version}
 pub use Rattle.rules.specs.declared.Worker.{Worker}
 pub use Rattle.rules.specs.declared.Slot.{Slot}

@@ -121,7 +121,7 @@ module _ (g : Settings) (good : Good g) (kind : g .kind ≡ 0) where
         no-put : PutOpen g s → ⊥
         no-put x = omega (arith, none (x .who) (x .among), x .putting)
 
-        stock : Filled g s ⊎ PutOpen g s → Filled g s
+        stock : Filled s ⊎ PutOpen g s → Filled s
         stock (inl y) = y
         stock (inr x) = absurd (no-put x)
 

@@ -1,7 +1,11 @@
 // The worker that the words hold.
+use crate::windows::size_of;
+use crate::windows::span_of;
 use rules::Phase;
+use rules::Settings;
 use rules::Side;
 use rules::Slot;
+use rules::Span;
 use rules::Version;
 use rules::Worker;
 use rules::numbers::CHECK;
@@ -20,7 +24,7 @@ use rules::numbers::WINDOW;
 ghost use mathlib.Core.Path.{_≡_};
 ghost use lib.Dec.{ltb};
 ghost use Rattle.laws.specs.Choice.{cond};
-ghost use Rattle.rules.specs.Worker.{sideBase, queuePhase, stackPhase, phaseOf, decode};
+ghost use Rattle.rules.specs.Worker.{sideBase, seenBy, queuePhase, stackPhase, phaseOf, decode};
 
 // Whose phase a number is.
 fn side_of(number: u32) -> Side
@@ -32,12 +36,19 @@ fn side_of(number: u32) -> Side
     Side::Taking
 }
 
-fn queue_phase(s: Slot) -> Phase
-    ensures { λ r. ⌜ r ≡ queuePhase s ⌝ }
+// The window that a queue's worker has seen.
+fn seen_by(g: Settings, s: Slot) -> Span
+    ensures { λ r. ⌜ r ≡ seenBy g s ⌝ }
+{
+    span_of(s.window, size_of(g))
+}
+
+fn queue_phase(g: Settings, s: Slot) -> Phase
+    ensures { λ r. ⌜ r ≡ queuePhase g s ⌝ }
 {
     let number = s.number;
     let side = side_of(number);
-    let window = s.window;
+    let window = seen_by(g, s);
     let scan = s.scan;
     let sum = s.sum;
     match number {
@@ -49,9 +60,13 @@ fn queue_phase(s: Slot) -> Phase
             scan,
             sum,
         },
-        COMMIT | TAKE_COMMIT => Phase::QueueCommit { side, seen: s.seen },
+        COMMIT | TAKE_COMMIT => Phase::QueueCommit {
+            side,
+            window,
+            seen: s.seen,
+        },
         SHIFT | TAKE_SHIFT => Phase::QueueShift { side, window },
-        TAKE_CONFIRM => Phase::Confirm { side, scan, sum },
+        TAKE_CONFIRM => Phase::QueueConfirm { window, scan, sum },
         _ => Phase::Idle,
     }
 }
@@ -86,27 +101,27 @@ fn stack_phase(s: Slot) -> Phase
             scan,
             sum,
         },
-        CONFIRM | TAKE_CONFIRM => Phase::Confirm { side, scan, sum },
+        CONFIRM | TAKE_CONFIRM => Phase::StackConfirm { side, scan, sum },
         _ => Phase::Idle,
     }
 }
 
-fn phase_of(kind: u32, s: Slot) -> Phase
-    ensures { λ r. ⌜ r ≡ phaseOf kind s ⌝ }
+fn phase_of(g: Settings, s: Slot) -> Phase
+    ensures { λ r. ⌜ r ≡ phaseOf g s ⌝ }
 {
-    if kind == 0 {
-        return queue_phase(s);
+    if g.kind == 0 {
+        return queue_phase(g, s);
     }
     stack_phase(s)
 }
 
-// In a pool of a kind.
-pub fn worker_of(kind: u32, s: Slot) -> Worker
-    ensures { λ r. ⌜ r ≡ decode kind s ⌝ }
+// In a pool of some settings.
+pub fn worker_of(g: Settings, s: Slot) -> Worker
+    ensures { λ r. ⌜ r ≡ decode g s ⌝ }
 {
     Worker {
         value: s.value,
         index: s.index,
-        phase: phase_of(kind, s),
+        phase: phase_of(g, s),
     }
 }

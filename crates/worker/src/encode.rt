@@ -75,14 +75,14 @@ pub fn slot_of(k: Worker, old: Slot) -> Slot
         Phase::Idle => words(k, Side::Putting, IDLE, window, extra, scan, seen, sum),
         Phase::Window(side) => words(k, side, WINDOW, window, extra, scan, seen, sum),
         Phase::QueuePutRead { window, scan } => {
-            words(k, Side::Putting, READ, window, extra, scan, seen, sum)
+            words(k, Side::Putting, READ, window.top, extra, scan, seen, sum)
         }
         Phase::QueueTakeRead {
             window,
             bare,
             scan,
             sum,
-        } => words(k, Side::Taking, READ, window, bare, scan, seen, sum),
+        } => words(k, Side::Taking, READ, window.top, bare, scan, seen, sum),
         Phase::StackRead {
             side,
             window,
@@ -95,14 +95,14 @@ pub fn slot_of(k: Worker, old: Slot) -> Slot
             version,
             seen,
         } => words(k, side, CHECK, window, version.0, scan, seen.0, sum),
-        Phase::QueueCommit { side, seen } => {
-            words(k, side, COMMIT, window, extra, scan, seen, sum)
+        Phase::QueueCommit { side, window, seen } => {
+            words(k, side, COMMIT, window.top, extra, scan, seen, sum)
         }
         Phase::StackCommit { side, seen } => {
             words(k, side, COMMIT, window, extra, scan, seen.0, sum)
         }
         Phase::QueueShift { side, window } => {
-            words(k, side, SHIFT, window, extra, scan, seen, sum)
+            words(k, side, SHIFT, window.top, extra, scan, seen, sum)
         }
         Phase::StackShift {
             side,
@@ -110,7 +110,17 @@ pub fn slot_of(k: Worker, old: Slot) -> Slot
             scan,
             sum,
         } => words(k, side, SHIFT, window, version.0, scan, seen, sum),
-        Phase::Confirm { side, scan, sum } => {
+        Phase::QueueConfirm { window, scan, sum } => words(
+            k,
+            Side::Taking,
+            CONFIRM,
+            window.top,
+            extra,
+            scan,
+            seen,
+            sum,
+        ),
+        Phase::StackConfirm { side, scan, sum } => {
             words(k, side, CONFIRM, window, extra, scan, seen, sum)
         }
     }

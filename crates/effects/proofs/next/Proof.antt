@@ -21,9 +21,9 @@ returns c = sym (mod-eq-of-lt (c .if1 .taken))
 returns-2 : tie.Need-returns-2
 unfolding nextOf
 returns-2 c =
-    let s = c .before .before in
-    let last : s .args .x + 1 ≡ s .args .g .width = omega arith in
-    sym (rw last (mod-self (s .args .g .width)))
+    let s = c .before in
+    let last : s .args .x + 1 ≡ s .args .width = omega arith in
+    sym (rw last (mod-self (s .args .width)))
 
 pub next-spec : {M : Type 1} → statement M
 next-spec = tie.close (tie.spec add-if1 add-result returns returns-2)

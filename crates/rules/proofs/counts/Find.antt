@@ -12,7 +12,7 @@ use Rattle.laws.specs.Choice.{cond}
 use Rattle.rules.specs.Held.{Item, countItems}
 use Rattle.rules.specs.Sequential.{Found, find}
 use Rattle.rules.proofs.counts.Sums.{sumN, upTo, upTo-suc, bit, sum-ext, sum-gap-at, rows-more, rows-flat}
-use Rattle.rules.proofs.counts.Held.{count-none, count-cons, rowsOf, Holds}
+use Rattle.rules.proofs.counts.Held.{count-none, count-cons, real, rowsOf, Holds, bit-real, fails-row}
 
 -- an item with a stamp that is there is found, and taken out of every count
 pub record IsFound (stamp : ℕ) (xs : List Item) : Type 0 where
@@ -52,7 +52,7 @@ pub record RowFound (it : Item) (xs : List Item) : Type 0 where
   pub counts : (p : Item → Bool) → countItems p xs ≡ bit (p it) + countItems p (out .others)
 
 module _ {w : ℕ} {below first : ℕ → ℕ} {item : ℕ → ℕ → Item} {xs : List Item} (h : Holds w below first item xs)
-    (o : (k : ℕ) → k < w → below k ≤ first k) (j r : ℕ) (lj : j < w) (low : below j < r) (high : r ≤ first j)
+    (o : (k : ℕ) → k < w → below k ≤ first k) (j r : ℕ) (lj : j < w) (low : below j < r) (high : r ≤ first j) (stamped : 1 ≤ item j r .stamp)
     (single : (m n : ℕ) → m < w → below m < n → n ≤ first m → item m n .stamp ≡ item j r .stamp → item m n ≡ item j r) where
   abbrev it : Item
   it = item j r
@@ -60,15 +60,16 @@ module _ {w : ℕ} {below first : ℕ → ℕ} {item : ℕ → ℕ → Item} {xs
   there : 1 ≤ countItems (λ x. eqb (x .stamp) (it .stamp)) xs
   there =
       let p : Item → Bool = λ x. eqb (x .stamp) (it .stamp) in
+      let t : ℕ → ℕ → Bool = λ k n. real (item k n) && p (item k n) in
       let row : suc (r - 1) ≡ r = omega arith in
-      let a : upTo (λ n. p (item j n)) (suc (r - 1)) ≡ upTo (λ n. p (item j n)) (r - 1) + bit (p (item j (suc (r - 1)))) = upTo-suc (λ n. p (item j n)) (r - 1) in
-      let a′ : upTo (λ n. p (item j n)) r ≡ upTo (λ n. p (item j n)) (r - 1) + bit (p it) = rw row at a in
-      let b = rows-more (λ n. p (item j n)) r (first j) high .0 in
-      let b′ = rows-more (λ n. p (item j n)) (below j) (r - 1) (omega arith) .0 in
-      let c : bit (p it) ≡ 1 = ap bit (eq-eqb (it .stamp) (it .stamp) refl) in
+      let a : upTo (t j) (suc (r - 1)) ≡ upTo (t j) (r - 1) + bit (t j (suc (r - 1))) = upTo-suc (t j) (r - 1) in
+      let a′ : upTo (t j) r ≡ upTo (t j) (r - 1) + bit (t j r) = rw row at a in
+      let b = rows-more (t j) r (first j) high .0 in
+      let b′ = rows-more (t j) (below j) (r - 1) (omega arith) .0 in
+      let c : bit (t j r) ≡ 1 = bit-real p it stamped ∙ ap bit (eq-eqb (it .stamp) (it .stamp) refl) in
       let d : sumN (rowsOf item p below) w + 1 ≤ sumN (rowsOf item p first) w =
       sum-gap-at (rowsOf item p below) (rowsOf item p first) w j 1 lj
-      (λ k l. rows-more (λ n. p (item k n)) (below k) (first k) (o k l) .0) (omega (arith, a′, b, b′, c)) in
+      (λ k l. rows-more (t k) (below k) (first k) (o k l) .0) (omega (arith, a′, b, b′, c)) in
       omega (arith, d, h .same p)
 
   -- the stamp with another value
@@ -87,7 +88,7 @@ module _ {w : ℕ} {below first : ℕ → ℕ} {item : ℕ → ℕ → Item} {xs
     arith,
     h .same other,
     sum-ext (rowsOf item other first) (rowsOf item other below) w
-        (λ m l. rows-flat (λ n. other (item m n)) (below m) (first m) (o m l) (λ n a b. not-other m n l a b)),
+        (λ m l. rows-flat (λ n. real (item m n) && other (item m n)) (below m) (first m) (o m l) (λ n a b. fails-row other (item m n) (not-other m n l a b))),
   )
 
   module _ (f : IsFound (it .stamp) xs) where

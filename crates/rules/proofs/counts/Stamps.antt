@@ -25,21 +25,23 @@ item-old f j r v k n ne = elim (ℕ-discrete k j) [
   | no m ↦ ap (λ (h : ℕ → Item). h n) (upd-other f j (upd (f j) r v) k m)
 ]
 
--- a put: row `suc (first j)` of sub j is new, and nothing else has changed
-pub record Added (first : ℕ → ℕ) (item : ℕ → ℕ → Item) (j : ℕ) (new : Item) (first′ : ℕ → ℕ) (item′ : ℕ → ℕ → Item) : Type 0 where
-  pub here : first′ j ≡ suc (first j)
+-- a put: a row of sub j above its last one is new, and nothing else has changed
+pub record Added (first : ℕ → ℕ) (item : ℕ → ℕ → Item) (j row : ℕ) (new : Item) (first′ : ℕ → ℕ) (item′ : ℕ → ℕ → Item) : Type 0 where
+  pub above : first j < row
+  pub here : first′ j ≡ row
   pub off : (k : ℕ) → k ≢ j → first′ k ≡ first k
-  pub it : item′ j (suc (first j)) ≡ new
-  pub old : (k r : ℕ) → r ≤ first k → item′ k r ≡ item k r
+  pub it : item′ j row ≡ new
+  pub old : (k r : ℕ) → (k ≡ j → r ≢ row) → item′ k r ≡ item k r
 
-pub added : (first : ℕ → ℕ) (item : ℕ → ℕ → Item) (j : ℕ) (new : Item)
-    → Added first item j new (upd first j (suc (first j))) (upd item j (upd (item j) (suc (first j)) new))
-added first item j new =
+pub added : (first : ℕ → ℕ) (item : ℕ → ℕ → Item) (j row : ℕ) (new : Item) → first j < row
+    → Added first item j row new (upd first j row) (upd item j (upd (item j) row new))
+added first item j row new above =
     record {
-      here = upd-same first j (suc (first j));
-      off = λ k n. upd-other first j (suc (first j)) k n;
-      it = item-new item j (suc (first j)) new;
-      old = λ k r l. item-old item j (suc (first j)) new k r (λ y u. let l′ : r ≤ first j = rw y at l in omega arith);
+      above = above;
+      here = upd-same first j row;
+      off = λ k n. upd-other first j row k n;
+      it = item-new item j row new;
+      old = λ k r n. item-old item j row new k r n;
     }
 
 module _ {w : ℕ} {first : ℕ → ℕ} {item : ℕ → ℕ → Item} {puts : ℕ} (o : Stamped w first item puts) where
@@ -73,8 +75,11 @@ module _ {w : ℕ} {first : ℕ → ℕ} {item : ℕ → ℕ → Item} {puts : �
         apart = λ j k r r′ lj lk n a b a′ b′. o .apart j k r r′ lj lk n a (le-trans b (less j lj)) a′ (le-trans b′ (less k lk));
       }
 
-  -- ---- a put with the next stamp
-  module _ {first′ : ℕ → ℕ} {item′ : ℕ → ℕ → Item} {j : ℕ} {new : Item} (put : Added first item j new first′ item′) (stamp : new .stamp ≡ suc puts) where
+  -- ---- a put into the next row, with the next stamp
+  module _ {first′ : ℕ → ℕ} {item′ : ℕ → ℕ → Item} {j : ℕ} {new : Item} (put : Added first item j (suc (first j)) new first′ item′) (stamp : new .stamp ≡ suc puts) where
+    kept : (m r : ℕ) → r ≤ first m → item′ m r ≡ item m r
+    kept m r l = put .old m r (λ e y. let l′ : r ≤ first j = rw e at l in omega arith)
+
     -- a row of now is the new one or an old one
     abbrev pub Row : ℕ → ℕ → Type 0
     Row m r = ((m ≡ j) × (r ≡ suc (first j)) × (item′ m r ≡ new)) ⊎ ((r ≤ first m) × (item′ m r ≡ item m r))
@@ -83,9 +88,9 @@ module _ {w : ℕ} {first : ℕ → ℕ} {item : ℕ → ℕ → Item} {puts : �
     row-cases m r l = elim (ℕ-discrete m j) [
       | yes y ↦ elim (ℕ-discrete r (suc (first j))) [
         | yes u ↦ inl (y, u, rw (y, u) (put .it))
-        | no n ↦ let b : r ≤ first m = rw y (let l′ : r ≤ first′ j = rw y at l in omega (arith, put .here)) in inr (b, put .old m r b)
+        | no n ↦ let b : r ≤ first m = rw y (let l′ : r ≤ first′ j = rw y at l in omega (arith, put .here)) in inr (b, kept m r b)
       ]
-      | no n ↦ let b : r ≤ first m = omega (arith, put .off m n) in inr (b, put .old m r b)
+      | no n ↦ let b : r ≤ first m = omega (arith, put .off m n) in inr (b, kept m r b)
     ]
 
     pub stamped-put : Stamped w first′ item′ (suc puts)
@@ -111,8 +116,8 @@ module _ {w : ℕ} {first : ℕ → ℕ} {item : ℕ → ℕ → Item} {puts : �
             go : Row m r′ → item′ m r .stamp < item′ m r′ .stamp
             go (inl y) =
                 let u : r ≤ first m = rw (y .0) (omega arith) in
-                rw (y .2, put .old m r u) (omega (arith, o .low m r l a u))
-            go (inr y) = rw (y .1, put .old m r (omega (arith, y .0))) (o .rise m r r′ l a b (y .0))
+                rw (y .2, kept m r u) (omega (arith, o .low m r l a u))
+            go (inr y) = rw (y .1, kept m r (omega (arith, y .0))) (o .rise m r r′ l a b (y .0))
 
         apart : (m n r r′ : ℕ) → m < w → n < w → m ≢ n → 1 ≤ r → r ≤ first′ m → 1 ≤ r′ → r′ ≤ first′ n → item′ m r .stamp ≢ item′ n r′ .stamp
         apart m n r r′ lm ln ne a b a′ b′ u = go (row-cases m r b) (row-cases n r′ b′)

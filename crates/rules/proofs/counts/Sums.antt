@@ -172,6 +172,21 @@ rows-more g a b l = rw (add-sub-of-le l) at (upTo-more g a (b - a))
 pub rows-flat : (g : ℕ → Bool) (a b : ℕ) → a ≤ b → ((r : ℕ) → a < r → r ≤ b → g r ≡ false) → upTo g b ≡ upTo g a
 rows-flat g a b l h = rw (add-sub-of-le l) at (upTo-flat g a (b - a) (λ r u v. h r u (omega arith)))
 
+-- rows that all pass
+upTo-all : (g : ℕ → Bool) (a k : ℕ) → ((r : ℕ) → a < r → r ≤ a + k → g r ≡ true) → upTo g (a + k) ≡ upTo g a + k
+unfolding upTo
+upTo-all g a zero h = rw (add-zero a) (omega arith)
+upTo-all g a (suc k) h = rw (add-suc a k) (omega (arith, upTo-all g a k (λ r l m. h r l (omega arith)), ap bit (h (suc (a + k)) (omega arith) (omega arith))))
+
+pub rows-all : (g : ℕ → Bool) (a b : ℕ) → a ≤ b → ((r : ℕ) → a < r → r ≤ b → g r ≡ true) → upTo g b ≡ upTo g a + (b - a)
+rows-all g a b l h = rw (add-sub-of-le l) at (upTo-all g a (b - a) (λ r u v. h r u (omega arith)))
+
+-- so many equal ones
+pub sum-same : (f : ℕ → ℕ) (n c : ℕ) → ((m : ℕ) → m < n → f m ≡ c) → sumN f n ≡ n * c
+unfolding sumN
+sum-same f zero c h = omega arith
+sum-same f (suc n) c h = omega (arith, sum-same f n c (λ m l. h m (omega arith)), h n (omega arith))
+
 pub times-pred : (w d : ℕ) → 1 ≤ w → (w - 1) * d + d ≡ w * d
 times-pred zero d l = absurd (omega arith)
 times-pred (suc w) d l = let e : suc w - 1 ≡ w = omega arith in rw e (omega arith)

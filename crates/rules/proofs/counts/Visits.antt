@@ -6,7 +6,6 @@ use Prim.Native.Nat.{ℕ, suc, _+_, _≤_, _<_}
 use native.Mathlib.Decide.{decLt}
 use native.Mathlib.Omega.{arith}
 use Rattle.rules.specs.Effects.{nextOf}
-use Rattle.rules.proofs.Types.{Settings}
 use Rattle.rules.proofs.counts.Wraps.{next-cases}
 
 pub data Visited (w index scan j : ℕ) : Type 0 where
@@ -24,32 +23,32 @@ pub visited-here : {w index scan : ℕ} → scan < w → Visited w index scan in
 visited-here l (behind a b) = omega arith
 visited-here l (around a) = omega arith
 
-module _ (g : Settings) where
+module _ (w : ℕ) where
   abbrev Steps : ℕ → Type 0
-  Steps x = ((suc x < g .width) × (nextOf g x ≡ suc x)) ⊎ ((suc x ≡ g .width) × (nextOf g x ≡ 0))
+  Steps x = ((suc x < w) × (nextOf w x ≡ suc x)) ⊎ ((suc x ≡ w) × (nextOf w x ≡ 0))
 
-  pub visited-next : {index scan j : ℕ} → index < g .width → j < g .width → Visited (g .width) (nextOf g index) (suc scan) j
-      → (j ≡ index) ⊎ Visited (g .width) index scan j
-  visited-next {index} {scan} {j} l m v = go (next-cases g index l) v
+  pub visited-next : {index scan j : ℕ} → index < w → j < w → Visited w (nextOf w index) (suc scan) j
+      → (j ≡ index) ⊎ Visited w index scan j
+  visited-next {index} {scan} {j} l m v = go (next-cases w index l) v
     where
-      go : Steps index → Visited (g .width) (nextOf g index) (suc scan) j → (j ≡ index) ⊎ Visited (g .width) index scan j
+      go : Steps index → Visited w (nextOf w index) (suc scan) j → (j ≡ index) ⊎ Visited w index scan j
       go (inl c) (behind a b) = elim (decLt j index) [ yes y ↦ inr (behind y (omega arith)) | no y ↦ inl (omega arith) ]
       go (inl c) (around a) = inr (around (omega arith))
       go (inr c) (behind a b) = absurd (omega arith)
       go (inr c) (around a) = elim (decLt j index) [ yes y ↦ inr (behind y (omega arith)) | no y ↦ inl (omega arith) ]
 
-  pub visited-still : {index scan j : ℕ} → index < g .width → Visited (g .width) index scan j → Visited (g .width) (nextOf g index) (suc scan) j
-  visited-still {index} {scan} {j} l v = go (next-cases g index l) v
+  pub visited-still : {index scan j : ℕ} → index < w → Visited w index scan j → Visited w (nextOf w index) (suc scan) j
+  visited-still {index} {scan} {j} l v = go (next-cases w index l) v
     where
-      go : Steps index → Visited (g .width) index scan j → Visited (g .width) (nextOf g index) (suc scan) j
+      go : Steps index → Visited w index scan j → Visited w (nextOf w index) (suc scan) j
       go (inl c) (behind a b) = behind (omega arith) (omega arith)
       go (inl c) (around a) = around (omega arith)
       go (inr c) (behind a b) = around (omega arith)
       go (inr c) (around a) = around (omega arith)
 
-  pub visited-just : {index scan : ℕ} → index < g .width → Visited (g .width) (nextOf g index) (suc scan) index
-  visited-just {index} {scan} l = go (next-cases g index l)
+  pub visited-just : {index scan : ℕ} → index < w → Visited w (nextOf w index) (suc scan) index
+  visited-just {index} {scan} l = go (next-cases w index l)
     where
-      go : Steps index → Visited (g .width) (nextOf g index) (suc scan) index
+      go : Steps index → Visited w (nextOf w index) (suc scan) index
       go (inl c) = behind (omega arith) (omega arith)
       go (inr c) = around (omega arith)

@@ -20,19 +20,17 @@ pub add32-suc : (a : ℕ) → a < 4294967295 → add32 a 1 ≡ suc a
 add32-suc a l = omega arith
 
 -- "next" is the index above, or 0 after the last
-pub next-cases : (g : Settings) (x : ℕ) → x < g .width
-    → ((suc x < g .width) × (nextOf g x ≡ suc x)) ⊎ ((suc x ≡ g .width) × (nextOf g x ≡ 0))
+pub next-cases : (w x : ℕ) → x < w → ((suc x < w) × (nextOf w x ≡ suc x)) ⊎ ((suc x ≡ w) × (nextOf w x ≡ 0))
 unfolding nextOf
-next-cases g x l = go (eq-or-lt-of-le l)
+next-cases w x l = go (eq-or-lt-of-le l)
   where
-    go : ((suc x ≡ g .width) ⊎ (suc x < g .width))
-        → ((suc x < g .width) × (nextOf g x ≡ suc x)) ⊎ ((suc x ≡ g .width) × (nextOf g x ≡ 0))
-    go (inl e) = inr (e, rw (add-one, e) (mod-self (g .width)))
+    go : ((suc x ≡ w) ⊎ (suc x < w)) → ((suc x < w) × (nextOf w x ≡ suc x)) ⊎ ((suc x ≡ w) × (nextOf w x ≡ 0))
+    go (inl e) = inr (e, rw (add-one, e) (mod-self w))
     go (inr m) = inl (m, rw add-one (mod-eq-of-lt m))
 
-pub next-lt : (g : Settings) (x : ℕ) → 1 ≤ g .width → nextOf g x < g .width
+pub next-lt : (w x : ℕ) → 1 ≤ w → nextOf w x < w
 unfolding nextOf
-next-lt g x l = mod-lt (x + 1) l
+next-lt w x l = mod-lt (x + 1) l
 
 pub hop-lt : (g : Settings) (x : ℕ) → 1 ≤ g .width → hopOf g x < g .width
 unfolding hopOf

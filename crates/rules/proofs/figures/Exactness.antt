@@ -7,6 +7,7 @@ use native.Mathlib.Nat.{mul-le-mul-left, div-add-mod'}
 use native.Mathlib.Decide.{decLe}
 use native.Mathlib.Omega.{arith}
 use Rattle.rules.specs.Limits.{Bounds}
+use Rattle.rules.specs.Windows.{sizeOf}
 use Rattle.rules.specs.Sequential.{boundBy}
 use Rattle.rules.specs.Newer.{k14Rows, frameworkRows, thesisRows, highestWindow, exactRows, k14Bound, frameworkBound, thesisBound, exactBound, ThesisExact, K14Exact, FrameworkLow}
 use Rattle.rules.proofs.Types.{Settings}
@@ -16,23 +17,23 @@ use Rattle.rules.proofs.figures.Figures.{times, times-low, times-high, 
 
 -- with another sub, fewer rows make a lower figure, and a figure that is not higher has no more rows
 module _ (g : Settings) (kind : g .kind ≡ 1) (w : 2 ≤ g .width) where
-  fewer-lt : (a b : ℕ) → a < b → boundBy g a < boundBy g b
+  fewer-lt : (a b : ℕ) → a < b → boundBy g a (sizeOf g) < boundBy g b (sizeOf g)
   fewer-lt a b l =
       let more : a + 1 ≤ b = omega arith in
-      omega (arith, bound-stack g a kind, bound-stack g b kind, mul-le-mul-left (g .width - 1) more)
+      omega (arith, bound-stack g a (sizeOf g) kind, bound-stack g b (sizeOf g) kind, mul-le-mul-left (g .width - 1) more)
 
-  rows-le : (a b : ℕ) → boundBy g a ≤ boundBy g b → a ≤ b
+  rows-le : (a b : ℕ) → boundBy g a (sizeOf g) ≤ boundBy g b (sizeOf g) → a ≤ b
   rows-le a b l = go (decLe a b)
     where
       go : Dec (a ≤ b) → a ≤ b
       go (yes y) = y
       go (no n) = absurd (omega (arith, fewer-lt b a (omega arith)))
 
-  rows-lt : (a b : ℕ) → boundBy g a < boundBy g b → a < b
+  rows-lt : (a b : ℕ) → boundBy g a (sizeOf g) < boundBy g b (sizeOf g) → a < b
   rows-lt a b l = go (decLe b a)
     where
       go : Dec (b ≤ a) → a < b
-      go (yes y) = absurd (omega (arith, bound-le g b a y))
+      go (yes y) = absurd (omega (arith, bound-le g b a (sizeOf g) y))
       go (no n) = omega arith
 
 -- ---- which figure is the exact one
@@ -81,7 +82,7 @@ thesis-exact g limits kind w =
       λ e. highest-room g bounds (rows-le g kind w (thesisRows g) (exactRows g) (omega arith)),
       λ room.
           let least : exactRows g ≡ thesisRows g = omega (arith, room-highest g bounds room) in
-          ap (boundBy g) least,
+          ap (λ (n : ℕ). boundBy g n (sizeOf g)) least,
     )
 
 pub k14-exact : K14Exact
@@ -93,7 +94,7 @@ k14-exact g limits kind w =
           (rows-divide g bounds (omega arith), highest-room g bounds (omega (arith, times-low g))),
       λ h.
           let least : exactRows g ≡ k14Rows g = omega (arith, divides-rows g bounds (h .0), room-highest g bounds (h .1)) in
-          ap (boundBy g) least,
+          ap (λ (n : ℕ). boundBy g n (sizeOf g)) least,
     )
 
 pub framework-low : FrameworkLow

@@ -1,15 +1,16 @@
 -- The figures of specs/Newer from the closest to the highest: the exact one is the smaller of the thesis' and the highest window, and
 -- with F = floor((d - 1) / s), s * F is at most d - 1, so the thesis' is at most K14's, which is below demand 3's.
-use mathlib.Core.Path.{_≡_}
+use mathlib.Core.Path.{_≡_, refl, sym, ap, _∙_}
 use mathlib.Core.Bool.{Bool, true, false}
 use Prim.Native.Nat.{ℕ, _+_, _-_, _*_, _/_, _≤_, _<_}
 use native.Mathlib.Nat.{le-refl, mul-le-mul-left, mod-lt, div-add-mod'}
 use native.Mathlib.Omega.{arith}
 use lib.Dec.{eqb}
-use Rattle.laws.specs.Choice.{cond, cond-false}
-use Rattle.rules.specs.Sequential.{boundBy, mostPassed}
-use Rattle.rules.specs.Newer.{k14Rows, thesisRows, highestWindow, exactRows, k14Bound, thesisBound, exactBound}
-use Rattle.rules.proofs.Types.{Settings}
+use borrow.Author.Tests.{eqb-true, eqb-false}
+use Rattle.laws.specs.Choice.{cond, cases}
+use Rattle.rules.specs.Sequential.{boundBy, leastBy, leastFull, demand3Rows}
+use Rattle.rules.specs.Newer.{k14Rows, thesisRows, highestWindow, exactRows}
+use Rattle.rules.proofs.Types.{Settings, Size}
 use Rattle.rules.proofs.counts.Wraps.{multiple-le}
 
 -- how often s goes into d - 1: s * F ≤ d - 1 < s * F + s
@@ -39,21 +40,42 @@ unfolding cond
 cond-le true x y z l = le-refl _
 cond-le false x y z l = l
 
-pub bound-le : (g : Settings) (a b : ℕ) → a ≤ b → boundBy g a ≤ boundBy g b
-bound-le g a b l = cond-le (eqb (g .kind) 0) _ _ _ (mul-le-mul-left (g .width - 1) l)
+pub bound-le : (g : Settings) (a b : ℕ) (size : Size) → a ≤ b → boundBy g a size ≤ boundBy g b size
+bound-le g a b size l = cond-le (eqb (g .kind) 0) _ _ _ (mul-le-mul-left (g .width - 1) l)
 
-pub exact-thesis : (g : Settings) → exactBound g ≤ thesisBound g
-unfolding exactBound thesisBound
-exact-thesis g = bound-le g (exactRows g) (thesisRows g) (omega arith)
+pub exact-thesis : (g : Settings) → exactRows g ≤ thesisRows g
+exact-thesis g = omega arith
 
-pub thesis-k14 : (g : Settings) → 1 ≤ g .depth → thesisBound g ≤ k14Bound g
-unfolding thesisBound k14Bound
-thesis-k14 g l = bound-le g (thesisRows g) (k14Rows g) (omega (arith, times-low g))
+pub thesis-k14 : (g : Settings) → 1 ≤ g .depth → thesisRows g ≤ k14Rows g
+thesis-k14 g l = omega (arith, times-low g)
 
-pub k14-most : (g : Settings) → k14Bound g ≤ mostPassed g
-unfolding k14Bound mostPassed
-k14-most g = bound-le g (k14Rows g) (2 * g .depth + 2 * g .shift) (omega arith)
+pub k14-most : (g : Settings) → k14Rows g ≤ demand3Rows g
+k14-most g = omega arith
 
--- ---- a stack's
-pub bound-stack : (g : Settings) (each : ℕ) → g .kind ≡ 1 → boundBy g each ≡ (g .width - 1) * each
-bound-stack g each kind = rw kind (cond-false _ _)
+pub exact-most : (g : Settings) → 1 ≤ g .depth → exactRows g ≤ demand3Rows g
+exact-most g l = omega (arith, exact-thesis g, thesis-k14 g l, k14-most g)
+
+-- ---- of either kind
+pub bound-stack : (g : Settings) (each : ℕ) (size : Size) → g .kind ≡ 1 → boundBy g each size ≡ (g .width - 1) * each
+bound-stack g each size kind =
+    cases (λ (n : ℕ). n ≡ (g .width - 1) * each) (eqb (g .kind) 0) _ _ (λ y. absurd (omega (arith, eqb-true (g .kind) 0 y))) (λ n. refl)
+
+pub bound-queue : (g : Settings) (each : ℕ) (size : Size) → g .kind ≡ 0 → boundBy g each size ≡ (size .width - 1) * size .depth
+bound-queue g each size kind =
+    cases (λ (n : ℕ). n ≡ (size .width - 1) * size .depth) (eqb (g .kind) 0) _ _ (λ y. refl) (λ n. absurd (eqb-false _ _ n kind))
+
+pub least-stack : (g : Settings) (places : ℕ) → g .kind ≡ 1 → leastBy g places ≡ g .width * (g .rows - g .shift + 1)
+least-stack g places kind =
+    cases (λ (n : ℕ). n ≡ g .width * (g .rows - g .shift + 1)) (eqb (g .kind) 0) _ _ (λ y. absurd (omega (arith, eqb-true (g .kind) 0 y))) (λ n. refl)
+
+pub least-queue : (g : Settings) (places : ℕ) → g .kind ≡ 0 → leastBy g places ≡ places
+least-queue g places kind = cases (λ (n : ℕ). n ≡ places) (eqb (g .kind) 0) _ _ (λ y. refl) (λ n. absurd (eqb-false _ _ n kind))
+
+-- the fewest held at "full", with as many places after the take window as windows of the pool's size have
+pub full-stack : (g : Settings) (places : ℕ) → g .kind ≡ 1 → leastBy g places ≡ leastFull g
+unfolding leastFull
+full-stack g places kind = least-stack g places kind ∙ sym (least-stack g _ kind)
+
+pub full-queue : (g : Settings) (places : ℕ) → places ≡ g .width * (g .rows - g .depth) → leastBy g places ≡ leastFull g
+unfolding leastFull
+full-queue g places e = ap (leastBy g) e

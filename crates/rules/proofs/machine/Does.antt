@@ -2,10 +2,10 @@
 -- a phase of its kind. By how it ends, a put adds the row above to its sub, where a cell is free, a take removes a held row, a shift
 -- moves the window, and each leaves the other shared words as they were; any other step leaves all of them. A refusal is a 23 or a
 -- 26. So every pool from make has `Common`.
-use mathlib.Core.Path.{_≡_, refl, sym, subst, _∙_}
+use mathlib.Core.Path.{_≡_, refl, sym, ap, subst, _∙_}
 use mathlib.Core.Logic.{_≢_, _⊎_, inl, inr}
 use mathlib.Core.Bool.{Bool, true}
-use Prim.Native.Nat.{ℕ, suc, _+_, _-_, _≤_, _<_}
+use Prim.Native.Nat.{ℕ, suc, _+_, _-_, _%_, _≤_, _<_}
 use native.Mathlib.Nat.{le-refl, mod-lt}
 use native.Mathlib.Decide.{ℕ-discrete}
 use native.Mathlib.Omega.{arith}
@@ -18,24 +18,26 @@ use Rattle.rules.specs.Limits.{Bounds, stepLimit}
 use Rattle.rules.specs.Fit.{phaseFit, SubFits}
 use Rattle.rules.specs.Held.{rowsBelow}
 use Rattle.rules.specs.Worker.{phaseOf, fresh, zeroSlot}
-use Rattle.rules.specs.Effects.{keepOf, movedOf, finishedOf, nothingFor, nextOf}
-use Rattle.rules.specs.Window.{windowRule, queueSeen}
+use Rattle.rules.specs.Windows.{ownSizes, spanOf}
+use Rattle.rules.specs.Effects.{keepOf, movedOf, finishedOf, nothingFor, nextOf, queueView}
+use Rattle.rules.specs.Window.{windowRule, windowFor, readFrom}
 use Rattle.rules.specs.Read.{missOf, queuePutRead, queueTakeMiss, queueTakeRead, stackRead}
 use Rattle.rules.specs.Check.{checkRule}
 use Rattle.rules.specs.Commit.{commitBy, queueCommit, stackCommit}
 use Rattle.rules.specs.Shift.{shiftBy, shiftedOf, queueShift, stackShift}
-use Rattle.rules.specs.Confirm.{counted, confirmRule, confirmedOf}
+use Rattle.rules.specs.Confirm.{queueConfirm, stackConfirm, confirmBy, confirmedOf}
 use Rattle.rules.specs.Step.{ruleBy, ruleOf}
 use Rattle.rules.specs.Run.{Call, beginPut, beginTake, step}
-use Rattle.rules.proofs.Types.{Settings, Side, Putting, Taking, Phase, Idle, Window, QueuePutRead, QueueTakeRead, StackRead, Check, QueueCommit, StackCommit, QueueShift, StackShift, Confirm, Version, Row, Slot, View, Effect, Outcome}
+use Rattle.rules.proofs.Types.{Settings, Side, Putting, Taking, Phase, Idle, Window, QueuePutRead, QueueTakeRead, StackRead, Check, QueueCommit, StackCommit, QueueShift, StackShift, QueueConfirm, StackConfirm, Span, Version, Row, Slot, View, Effect, Outcome}
+use Rattle.rules.specs.declared.Sizes.{Sizes}
 use Rattle.rules.proofs.Cells.{queue-below, stack-below}
-use Rattle.rules.specs.declared.Outcome.the-variants.{Refused, Moving, Lost, Shifted, Landed, Removed, Empty, Full}
+use Rattle.rules.specs.declared.Outcome.the-variants.{Refused, Moving, Lost, Shifted, Raised, Dropped, Landed, Removed, Empty, Full}
 use Rattle.rules.proofs.counts.Sums.{upd, upd-all}
 use Rattle.rules.proofs.counts.Wraps.{add32-suc, sub32-is, next-lt, hop-lt}
 use Rattle.rules.proofs.order.Law.{Next}
 use Rattle.rules.proofs.machine.Machine.{State, subIn, viewIn, applyIn, applyInBy, stepIn, beginIn, nextIn, madeIn}
-use Rattle.rules.proofs.machine.Phases.{scanIn}
-use Rattle.rules.proofs.machine.Turns.{SlotFits, Common, Counts}
+use Rattle.rules.proofs.machine.Phases.{SpanFits, scanIn}
+use Rattle.rules.proofs.machine.Turns.{SlotFits, Common, fewRows, Counts}
 use Rattle.rules.proofs.machine.Slots.{OfKind, phase-from, of-both, encode-fits, Working, encode-busy}
 
 -- no item came or went
@@ -76,14 +78,16 @@ pub record Removes (g : Settings) (v : View) (e : Effect) (r : Row) : Type 0 whe
 -- a sub that is fit, and whose counts are so few that one more does not wrap
 pub record Counted (g : Settings) (v : View) : Type 0 where
   pub sub : SubFits g (v .first) (v .second)
-  pub first-few : v .first ≤ stepLimit
-  pub second-few : v .second ≤ stepLimit
+  pub first-few : v .first ≤ fewRows
+  pub second-few : v .second ≤ fewRows
 
 abbrev pub SharedAfter : Settings → View → Effect → Outcome → Type 0
 SharedAfter g v e (Refused n) = (n ≡ notFit) ⊎ (n ≡ workerIdle)
 SharedAfter g v e Moving = SameItems v e × SameWindow v e
 SharedAfter g v e Lost = SameItems v e × SameWindow v e
 SharedAfter g v e Shifted = SameItems v e
+SharedAfter g v e Raised = SameItems v e × (e .mark ≡ v .mark)
+SharedAfter g v e Dropped = SameItems v e × (e .top ≡ v .top)
 SharedAfter g v e (Landed value row stamp) = Counted g v → Lands g v e row
 SharedAfter g v e (Removed row) = Counted g v → Removes g v e row
 SharedAfter g v e Empty = SameItems v e × SameWindow v e
@@ -95,6 +99,8 @@ BusyAfter x (Refused n) = Unit {0}
 BusyAfter x Moving = x .number ≢ 0
 BusyAfter x Lost = x .number ≢ 0
 BusyAfter x Shifted = x .number ≢ 0
+BusyAfter x Raised = x .number ≢ 0
+BusyAfter x Dropped = x .number ≢ 0
 BusyAfter x (Landed value row stamp) = Unit {0}
 BusyAfter x (Removed row) = Unit {0}
 BusyAfter x Empty = Unit {0}
@@ -105,7 +111,7 @@ pub record Does (g : Settings) (v : View) (e : Effect) : Type 0 where
   pub shared : SharedAfter g v e (e .outcome)
   pub busy : BusyAfter (e .slot) (e .outcome)
 
-module _ (g : Settings) (b : Bounds g) (v : View) (at : v .worker .index < g .width) (fits : SlotFits g (v .kept)) where
+module _ (g : Settings) (b : Bounds g) (v : View) (own : v .sizes ≡ ownSizes g) (at : v .worker .index < g .width) (fits : SlotFits g (v .kept)) where
   abbrev D : Effect → Type 0
   D e = Does g v e
 
@@ -114,15 +120,16 @@ module _ (g : Settings) (b : Bounds g) (v : View) (at : v .worker .index < g .wi
   still o x = (record { puts = refl; first = refl; second = refl }, record { top = refl; mark = refl })
 
   -- ---- the ways in which a rule ends
-  moved : (x : ℕ) (p : Phase) (o : Slot) → x < g .width → scanIn p (o .scan) < g .width → OfKind (g .kind) p → Working p → D (movedOf v x p o)
+  moved : (x : ℕ) (p : Phase) (o : Slot) → x < g .width → scanIn p (o .scan) < g .width → OfKind g p → Working p → D (movedOf v x p o)
   moved x p o l m t w =
       record { slot = encode-fits g (v .worker .value) x p o l m t; shared = still _ _; busy = encode-busy (v .worker .value) x p o w }
 
-  here : (p : Phase) (o : Slot) → scanIn p (o .scan) < g .width → OfKind (g .kind) p → Working p → D (movedOf v (v .worker .index) p o)
+  here : (p : Phase) (o : Slot) → scanIn p (o .scan) < g .width → OfKind g p → Working p → D (movedOf v (v .worker .index) p o)
   here p o m t w = moved (v .worker .index) p o at m t w
 
-  on : nextOf g (v .worker .index) < g .width
-  on = next-lt g (v .worker .index) (b .width1)
+  -- the index after, of so many as the pool's width
+  on : (w : ℕ) → w ≡ g .width → nextOf w (v .worker .index) < g .width
+  on w e = rw e (next-lt (g .width) (v .worker .index) (b .width1))
 
   again : (x : ℕ) → x < g .width → (side : Side) (o : Slot) → o .scan < g .width → D (movedOf v x (Window side) o)
   again x l side o m = moved x (Window side) o l m ((λ k. tt), (λ n. tt)) tt
@@ -134,36 +141,55 @@ module _ (g : Settings) (b : Bounds g) (v : View) (at : v .worker .index < g .wi
   finished Putting x l = record { slot = rested x l; shared = still _ _; busy = tt }
   finished Taking x l = record { slot = rested x l; shared = still _ _; busy = tt }
 
-  miss : (scan : ℕ) (next after : Phase) (kept : Slot) → OfKind (g .kind) next → OfKind (g .kind) after → Working next → Working after
-      → (add32 scan 1 < g .width → scanIn next (kept .scan) < g .width) → scanIn after (kept .scan) < g .width → D (missOf g v scan next after kept)
+  miss : (width scan : ℕ) (next after : Phase) (kept : Slot) → width ≡ g .width → OfKind g next → OfKind g after → Working next → Working after
+      → (add32 scan 1 < g .width → scanIn next (kept .scan) < g .width) → scanIn after (kept .scan) < g .width → D (missOf width v scan next after kept)
   unfolding missOf
-  miss scan next after kept s t w u l m =
-      cases D (ltb (add32 scan 1) (g .width)) _ _ (λ e. moved _ next kept on (l (ltb-true _ _ e)) s w) (λ e. moved _ after kept on m t u)
+  miss width scan next after kept same s t w u l m =
+      cases D (ltb (add32 scan 1) width) _ _ (λ e. moved _ next kept (on width same) (l (rw same at (ltb-true (add32 scan 1) width e))) s w)
+      (λ e. moved _ after kept (on width same) m t u)
 
-  take-miss : (window bare scan sum : ℕ) → (g .kind ≢ 0 → ⊥) → D (queueTakeMiss g v window bare scan sum)
-  take-miss window bare scan sum q =
-      miss scan _ _ _ ((λ k. tt), (λ n. absurd (q n))) (cases (OfKind (g .kind)) (eqb bare 0) _ _ (λ e. ((λ k. tt), (λ n. absurd (q n)))) (λ e. ((λ k. tt), (λ n. absurd (q n)))))
+  -- a window that a worker of a queue has seen has the pool's width
+  width-seen : (window : Span) → SpanFits g window → window .width ≡ g .width
+  width-seen window e = sym (ap (λ (x : Span). x .width) e)
+
+  take-miss : (window : Span) (bare scan sum : ℕ) → g .kind ≡ 0 → SpanFits g window → D (queueTakeMiss v window bare scan sum)
+  take-miss window bare scan sum q fit =
+      miss (window .width) scan _ _ _ (width-seen window fit) ((λ k. fit), (λ n. absurd (n q)))
+      (cases (OfKind g) (eqb bare 0) _ _ (λ e. ((λ k. fit), (λ n. absurd (n q)))) (λ e. ((λ k. fit), (λ n. absurd (n q)))))
       tt (cases Working (eqb bare 0) _ _ (λ e. tt) (λ e. tt)) (λ l. l)
       (cases (λ (p : Phase). scanIn p 0 < g .width) (eqb bare 0) _ _ (λ e. b .width1) (λ e. b .width1))
+
+  -- either window of a view has the pool's size
+  window-fits : (side : Side) → SpanFits g (windowFor (queueView v) side)
+  window-fits Putting = ap (λ (z : Sizes). spanOf (v .top) (z .put)) (sym own)
+  window-fits Taking = ap (λ (z : Sizes). spanOf (v .mark) (z .take)) (sym own)
+
+  starts : (side : Side) (window : Span) → g .kind ≡ 0 → SpanFits g window → D (movedOf v (v .worker .index % window .width) (readFrom window side) zeroSlot)
+  starts Putting window k fit =
+      moved _ (QueuePutRead window 0) zeroSlot (rw (width-seen window fit) (mod-lt (v .worker .index) (b .width1))) (b .width1) ((λ e. fit), (λ n. absurd (n k))) tt
+  starts Taking window k fit =
+      moved _ (QueueTakeRead window 0 0 0) zeroSlot (rw (width-seen window fit) (mod-lt (v .worker .index) (b .width1))) (b .width1) ((λ e. fit), (λ n. absurd (n k))) tt
 
   looks : (side : Side) → D (windowRule g v side)
   unfolding windowRule
   looks side =
-      cases (λ (p : Phase). D (movedOf v (v .worker .index) p zeroSlot)) (eqb (g .kind) 0) _ _
-      (λ e. queue side (λ n. n (eqb-true _ _ e))) (λ e. here _ _ (b .width1) ((λ k. absurd (eqb-false _ _ e k)), (λ n. tt)) tt)
-    where
-      queue : (side : Side) → (g .kind ≢ 0 → ⊥) → D (movedOf v (v .worker .index) (queueSeen v side) zeroSlot)
-      queue Putting q = here _ _ (b .width1) ((λ k. tt), (λ n. absurd (q n))) tt
-      queue Taking q = here _ _ (b .width1) ((λ k. tt), (λ n. absurd (q n))) tt
+      cases D (eqb (g .kind) 0) _ _
+      (λ e. starts side (windowFor (queueView v) side) (eqb-true _ _ e) (window-fits side))
+      (λ e. here _ _ (b .width1) ((λ k. absurd (eqb-false _ _ e k)), (λ n. tt)) tt)
 
-  shift-by : (side : Side) (same able : Bool) (top mark : ℕ) (stuck : Effect) → D stuck → D (shiftBy v side same able (shiftedOf v side top mark) stuck)
+  -- a shift whose outcome says which window words it leaves as they were
+  shift-by : (side : Side) (same able : Bool) (o : Outcome) (top mark : ℕ) (stuck : Effect) → D stuck
+      → SharedAfter g v (shiftedOf v o side top mark) o → (BusyAfter (shiftedOf v o side top mark .slot) Shifted → BusyAfter (shiftedOf v o side top mark .slot) o)
+      → D (shiftBy v side same able (shiftedOf v o side top mark) stuck)
   unfolding shiftBy
-  shift-by side same able top mark stuck d =
+  shift-by side same able o top mark stuck d shared busy =
       cases D same _ _
-      (λ e. cases D able _ _ (λ e.
-      let x = again _ at side _ (fits .scan) in
-      record { slot = x .slot; shared = record { puts = refl; first = refl; second = refl }; busy = x .busy }) (λ e. d))
+      (λ e. cases D able _ _ (λ e. let x = again _ at side _ (fits .scan) in record { slot = x .slot; shared = shared; busy = busy (x .busy) }) (λ e. d))
       (λ e. again _ at side _ (fits .scan))
+
+  -- no item comes or goes with a shift
+  kept-items : (o : Outcome) (side : Side) (top mark : ℕ) → SameItems v (shiftedOf v o side top mark)
+  kept-items o side top mark = record { puts = refl; first = refl; second = refl }
 
   -- ---- commits
   commit-by : (side : Side) (matches able : Bool) (done : Effect) → SlotFits g (done .slot) → BusyAfter (done .slot) (done .outcome) → (able ≡ true → SharedAfter g v done (done .outcome))
@@ -224,46 +250,54 @@ module _ (g : Settings) (b : Bounds g) (v : View) (at : v .worker .index < g .wi
   stack-kind : (g .kind ≡ 0 → ⊥) → g .kind ≡ 1
   stack-kind q = elim (ℕ-discrete (g .kind) 0) [ yes e ↦ absurd (q e) | no n ↦ omega (arith, b .kind1) ]
 
-  confirms : (side : Side) (scan sum : ℕ) → OfKind (g .kind) (Confirm side scan sum)
-      → OfKind (g .kind) (Confirm side (add32 scan 1) (sub32 sum (counted g v)))
-  confirms Putting scan sum t = t
-  confirms Taking scan sum t = t
+  confirms : (side : Side) (width scan left : ℕ) (next : Phase) → width ≡ g .width → OfKind g next → Working next
+      → (add32 scan 1 < g .width → scanIn next (v .kept .scan) < g .width) → D (confirmBy v side width scan left next)
+  unfolding confirmBy confirmedOf
+  confirms side width scan left next same t w l =
+      cases D _ _ _ (λ e. moved _ next _ (on width same) (l (rw same at (ltb-true (add32 scan 1) width e))) t w)
+      (λ e. cases D _ _ _ (λ e. finished side _ (on width same)) (λ e. again _ (on width same) side _ (b .width1)))
 
-  rule-by-does : (p : Phase) → OfKind (g .kind) p → scanIn p (v .kept .scan) ≡ v .kept .scan → D (ruleBy g v p)
-  unfolding ruleBy queuePutRead queueTakeRead stackRead checkRule queueShift stackShift confirmRule confirmedOf
+  rule-by-does : (p : Phase) → OfKind g p → scanIn p (v .kept .scan) ≡ v .kept .scan → D (ruleBy g v p)
+  unfolding ruleBy queuePutRead queueTakeRead stackRead checkRule queueShift stackShift queueConfirm stackConfirm
   rule-by-does Idle t s = record { slot = fits; shared = inr refl; busy = tt }
   rule-by-does (Window side) t s = looks side
   rule-by-does (QueuePutRead window scan) t s =
-      cases D _ _ _ (λ e. here _ _ (fits .scan) ((λ k. tt), (λ n. absurd (t .1 n))) tt)
-      (λ e. miss scan _ _ _ t ((λ k. tt), (λ n. absurd (t .1 n))) tt tt (λ l. l) (b .width1))
+      let k = queue-kind (t .1) in
+      cases D _ _ _ (λ e. here _ _ (fits .scan) (t .0, (λ n. absurd (t .1 n))) tt)
+      (λ e. miss (window .width) scan _ _ _ (width-seen window (t .0 k)) t (t .0, (λ n. absurd (t .1 n))) tt tt (λ l. l) (b .width1))
   rule-by-does (QueueTakeRead window bare scan sum) t s =
-      cases D _ _ _ (λ e. take-miss window bare scan _ (t .1))
-      (λ e. cases D _ _ _ (λ e. take-miss window _ scan _ (t .1)) (λ e. here _ _ (rw s (fits .scan)) ((λ k. tt), (λ n. absurd (t .1 n))) tt))
+      let k = queue-kind (t .1) in
+      cases D _ _ _ (λ e. take-miss window bare scan _ k (t .0 k))
+      (λ e. cases D _ _ _ (λ e. take-miss window _ scan _ k (t .0 k)) (λ e. here _ _ (rw s (fits .scan)) (t .0, (λ n. absurd (t .1 n))) tt))
   rule-by-does (StackRead side window version scan sum) t s =
       cases D _ _ _ (λ e. here _ _ (rw s (fits .scan)) ((λ k. absurd (t .0 k)), (λ n. tt)) tt)
-      (λ e. miss scan _ _ _ ((λ k. absurd (t .0 k)), (λ n. tt)) ((λ k. absurd (t .0 k)), (λ n. tt)) tt tt (λ l. l) (b .width1))
+      (λ e. miss (g .width) scan _ _ _ refl ((λ k. absurd (t .0 k)), (λ n. tt)) ((λ k. absurd (t .0 k)), (λ n. tt)) tt tt (λ l. l) (b .width1))
   rule-by-does (Check side version seen) t s =
       cases D _ _ _ (λ e. here _ _ (fits .scan) ((λ k. absurd (t .0 k)), (λ n. tt)) tt) (λ e. again _ at side _ (fits .scan))
-  rule-by-does (QueueCommit side seen) t s = queue-does (queue-kind (t .1)) side seen
+  rule-by-does (QueueCommit side window seen) t s = queue-does (queue-kind (t .1)) side seen
   rule-by-does (StackCommit side seen) t s = stack-does (stack-kind (t .0)) side seen
-  rule-by-does (QueueShift Putting window) t s = shift-by Putting _ _ _ _ _ (finished Putting _ at)
-  rule-by-does (QueueShift Taking window) t s = shift-by Taking _ _ _ _ _ (finished Taking _ at)
-  rule-by-does (StackShift Putting version scan sum) t s = shift-by Putting _ _ _ _ _ (here _ _ (rw s (fits .scan)) ((λ k. absurd (t .0 k)), (λ n. tt)) tt)
-  rule-by-does (StackShift Taking version scan sum) t s = shift-by Taking _ _ _ _ _ (here _ _ (rw s (fits .scan)) ((λ k. absurd (t .0 k)), (λ n. tt)) tt)
-  rule-by-does (Confirm side scan sum) t s =
-      cases D _ _ _ (λ e. moved _ (Confirm side (add32 scan 1) _) _ on (ltb-true _ _ e) (confirms side scan sum t) tt)
-      (λ e. cases D _ _ _ (λ e. finished side _ on) (λ e. again _ on side _ (b .width1)))
+  rule-by-does (QueueShift Putting window) t s =
+      shift-by Putting _ _ Raised _ _ _ (finished Putting _ at) (kept-items Raised Putting _ _, refl) (λ busy. busy)
+  rule-by-does (QueueShift Taking window) t s =
+      shift-by Taking _ _ Dropped _ _ _ (finished Taking _ at) (kept-items Dropped Taking _ _, refl) (λ busy. busy)
+  rule-by-does (StackShift Putting version scan sum) t s =
+      shift-by Putting _ _ Shifted _ _ _ (here _ _ (rw s (fits .scan)) ((λ k. absurd (t .0 k)), (λ n. tt)) tt) (kept-items Shifted Putting _ _) (λ busy. busy)
+  rule-by-does (StackShift Taking version scan sum) t s =
+      shift-by Taking _ _ Shifted _ _ _ (here _ _ (rw s (fits .scan)) ((λ k. absurd (t .0 k)), (λ n. tt)) tt) (kept-items Shifted Taking _ _) (λ busy. busy)
+  rule-by-does (QueueConfirm window scan sum) t s =
+      confirms Taking (window .width) scan _ _ (width-seen window (t .0 (queue-kind (t .1)))) t tt (λ l. l)
+  rule-by-does (StackConfirm side scan sum) t s = confirms side (g .width) scan _ _ refl t tt (λ l. l)
 
-  rule-does : v .worker .phase ≡ phaseOf (g .kind) (v .kept) → D (ruleOf g v)
+  rule-does : v .worker .phase ≡ phaseOf g (v .kept) → D (ruleOf g v)
   unfolding ruleOf
   rule-does e =
-      let t = phase-from (g .kind) (v .kept) in
-      subst (λ (p : Phase). D (ruleBy g v p)) (sym e) (rule-by-does (phaseOf (g .kind) (v .kept)) (t .0) (t .1))
+      let t = phase-from g (v .kept) in
+      subst (λ (p : Phase). D (ruleBy g v p)) (sym e) (rule-by-does (phaseOf g (v .kept)) (t .0) (t .1))
 
 -- ---- each call
 module _ (g : Settings) (b : Bounds g) (s : State) (common : Common g s) where
   pub rule-in : (i : ℕ) → Does g (viewIn g s i) (ruleOf g (viewIn g s i))
-  rule-in i = rule-does g b (viewIn g s i) (common .slots i .index) (common .slots i) refl
+  rule-in i = rule-does g b (viewIn g s i) refl (common .slots i .index) (common .slots i) refl
 
   pub counted-in : Counts g s → (i : ℕ) → Counted g (viewIn g s i)
   counted-in counts i =
@@ -282,6 +316,8 @@ module _ (g : Settings) (b : Bounds g) (s : State) (common : Common g s) where
   common-apply i few e l Moving = record { slots = slots-upd i (e .slot) l; steps-few = few }
   common-apply i few e l Lost = record { slots = slots-upd i (e .slot) l; steps-few = few }
   common-apply i few e l Shifted = record { slots = slots-upd i (e .slot) l; steps-few = few }
+  common-apply i few e l Raised = record { slots = slots-upd i (e .slot) l; steps-few = few }
+  common-apply i few e l Dropped = record { slots = slots-upd i (e .slot) l; steps-few = few }
   common-apply i few e l (Landed value row stamp) = record { slots = slots-upd i (e .slot) l; steps-few = few }
   common-apply i few e l (Removed row) = record { slots = slots-upd i (e .slot) l; steps-few = few }
   common-apply i few e l Empty = record { slots = slots-upd i (e .slot) l; steps-few = few }

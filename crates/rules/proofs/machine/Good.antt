@@ -1,13 +1,10 @@
 -- What settings within limits give to a proof.
 use mathlib.Core.Path.{_≡_}
 use mathlib.Core.Bool.{true}
-use Prim.Native.Nat.{ℕ, _+_, _-_, _*_, _/_, _≤_}
+use Prim.Native.Nat.{ℕ, _*_, _/_}
 use native.Mathlib.Nat.{div-add-mod'}
 use native.Mathlib.Omega.{arith}
-use Rattle.laws.specs.Choice.{cond}
 use Rattle.rules.specs.Limits.{settingsFit, Bounds}
-use Rattle.rules.specs.Sequential.{leastFull}
-use Rattle.rules.specs.Newer.{exactBound}
 use Rattle.rules.proofs.Types.{Settings}
 use Rattle.rules.proofs.Fitness.{settings-bounds, queue-limits}
 
@@ -26,17 +23,3 @@ good g e =
       times = g .rows / g .depth;
       queue-rows = λ k. omega (arith, queue-limits g e k .1, div-add-mod' (g .rows) (g .depth));
     }
-
--- ---- the closest bound and demand 3's number at a full, against what a kind shows
-module _ (g : Settings) where
-  pub queue-most : g .kind ≡ 0 → (g .width - 1) * g .depth ≤ exactBound g
-  unfolding exactBound cond
-  queue-most k = rw k (omega arith)
-
-  pub queue-full : g .kind ≡ 0 → leastFull g ≤ g .width * (g .rows - g .depth)
-  unfolding leastFull cond
-  queue-full k = rw k (omega arith)
-
-  pub stack-full : g .kind ≡ 1 → leastFull g ≤ g .width * (g .rows - g .shift + 1)
-  unfolding leastFull cond
-  stack-full k = rw k (omega arith)

@@ -1,27 +1,54 @@
 -- The abstract machine, for both kinds: a pool as functions in place of words, so that a proof meets no offset and no length.
 -- It goes by the same `ruleOf` as the words do. An item stays at its sub and row for good, taken or not; the words forget it
--- when its cell is used again, which is why words and machine are joined over the held rows alone.
+-- when its cell is used again, which is why words and machine are joined over the held rows alone. A queue's windows keep their numbers for
+-- good, from 0 at make: window k has bottom `base k`, top `base (suc k)` and width `wide k`; the live ones are those from `head`, the take
+-- window, to `tail`, the put window. Of a stack the frame says nothing.
 use mathlib.Core.Path.{_≡_, refl, ap}
 use mathlib.Core.Logic.{_≢_}
 use mathlib.Core.Bool.{Bool}
-use Prim.Native.Nat.{ℕ, suc, _-_, _%_}
+use Prim.Native.Nat.{ℕ, suc, _-_, _*_, _%_}
 use lib.Dec.{leb, eqb}
 use Rattle.laws.specs.Choice.{cond}
 use Rattle.rules.specs.Answers.{noSuchWorker, workerBusy, workerIdle, stepsSpent}
 use Rattle.rules.specs.Limits.{stepLimit}
 use Rattle.rules.specs.Held.{Item, rowsBelow, reported}
+use Rattle.rules.specs.Measures.{noMeasures, measured}
 use Rattle.rules.specs.Make.{newMark}
+use Rattle.rules.specs.Windows.{sizeOf, ownSizes}
 use Rattle.rules.specs.Worker.{fresh, idlePhase, phaseOf, decode, encode}
 use Rattle.rules.specs.Effects.{hopOf, movedOf, restartOf, finishedOf}
 use Rattle.rules.specs.Commit.{lostOf}
 use Rattle.rules.specs.Shift.{shiftedOf}
 use Rattle.rules.specs.Step.{ruleOf}
 use Rattle.rules.specs.Run.{Call, beginPut, beginTake, step}
-use Rattle.rules.proofs.Types.{Settings, Side, Putting, Taking, Phase, Idle, Window, Slot, View, Effect, Outcome, Answer}
-use Rattle.rules.specs.declared.Outcome.the-variants.{Refused as Stays, Moving as Moves, Lost, Shifted, Landed, Removed, Empty as NoItem, Full as NoRoom}
+use Rattle.rules.proofs.Types.{Settings, Size, Side, Putting, Taking, Phase, Idle, Window, Slot, View, Effect, Outcome, Answer}
+use Rattle.rules.specs.declared.Outcome.the-variants.{Refused as Stays, Moving as Moves, Lost, Shifted, Raised, Dropped, Landed, Removed, Empty as NoItem, Full as NoRoom}
 use Rattle.rules.specs.declared.Answer.the-variants.{Moving, Put, Taken, Empty, Full, Refused}
-use Rattle.rules.proofs.counts.Sums.{upd, upd-other, upd-self, sumN, upTo}
+use Rattle.rules.proofs.counts.Sums.{upd, upd-other, upd-self, sumN}
+use Rattle.rules.proofs.counts.Held.{rowsOf}
 use Rattle.rules.proofs.order.Law.{Next}
+
+pub record Frame : Type 0 where
+  pub base : ℕ → ℕ
+  pub wide : ℕ → ℕ
+  pub head : ℕ
+  pub tail : ℕ
+
+-- the top of the put window, and of the take window
+abbrev pub topOf : Frame → ℕ
+topOf f = f .base (suc (f .tail))
+
+abbrev pub markOf : Frame → ℕ
+markOf f = f .base (suc (f .head))
+
+-- a new put window, of a width and with its top
+abbrev pub raisedOf : Frame → ℕ → ℕ → Frame
+raisedOf f width top =
+    record { base = upd (f .base) (suc (suc (f .tail))) top; wide = upd (f .wide) (suc (f .tail)) width; head = f .head; tail = suc (f .tail) }
+
+-- the take window goes on to the next one
+abbrev pub droppedOf : Frame → Frame
+droppedOf f = record { base = f .base; wide = f .wide; head = suc (f .head); tail = f .tail }
 
 -- the words of a pool, the settings apart; `item` by sub and row. Failed commits are not among them: no rule reads them, and what the words say of
 -- them is shown of the words (Collisions)
@@ -30,13 +57,25 @@ pub record State : Type 0 where
   pub puts : ℕ
   pub top : ℕ
   pub mark : ℕ
+  -- the size of the next put window, and whether one was ever set
+  pub next : Size
+  pub set : ℕ
+  pub frame : Frame
   pub first : ℕ → ℕ
   pub second : ℕ → ℕ
   pub item : ℕ → ℕ → Item
   pub slot : ℕ → Slot
 
 abbrev pub next : Answer → State → Next State
-next a s = record { answer = a; state = s }
+next a s = record { answer = a; measures = noMeasures; state = s }
+
+-- the places in the windows after the take window
+unfoldable pub placesIn : Settings → State → ℕ
+placesIn g s = g .width * (s .top - s .mark)
+
+-- an answer of a step in state s, with what it is held to
+abbrev pub answered : Settings → State → Answer → State → Next State
+answered g s a t = record { answer = a; measures = measured (sizeOf g) (placesIn g s) a; state = t }
 
 -- the sub that worker i is at
 abbrev pub subIn : State → ℕ → ℕ
@@ -47,41 +86,49 @@ viewIn g s i =
     record {
       top = s .top;
       mark = s .mark;
+      sizes = ownSizes g;
       puts = s .puts;
       first = s .first (subIn s i);
       second = s .second (subIn s i);
-      worker = decode (g .kind) (s .slot i);
+      worker = decode g (s .slot i);
       kept = s .slot i;
     }
 
 abbrev pub phaseIn : Settings → State → ℕ → Phase
-phaseIn g s i = phaseOf (g .kind) (s .slot i)
+phaseIn g s i = phaseOf g (s .slot i)
 
 -- the row up to which the rows of sub j are not held
 abbrev pub belowIn : Settings → State → ℕ → ℕ
 belowIn g s j = rowsBelow g (s .second j)
 
--- the held rows of sub j that pass a test
+-- the held rows of sub j that have an item which passes a test
 abbrev pub countIn : Settings → State → (Item → Bool) → ℕ → ℕ
-countIn g s p j = upTo (λ r. p (s .item j r)) (s .first j) - upTo (λ r. p (s .item j r)) (belowIn g s j)
+countIn g s p j = rowsOf (s .item) p (s .first) j - rowsOf (s .item) p (belowIn g s) j
 
 -- the distance of a take of a stamp
 unfoldable pub distanceIn : Settings → State → ℕ → ℕ
 distanceIn g s stamp = sumN (countIn g s (reported (g .kind) stamp)) (g .width)
 
--- all that worker i's step read, as it is afterwards, and the step counted
-abbrev pub afterIn : State → ℕ → Effect → State
-afterIn s i e =
+-- all that worker i's step read, as it is afterwards, and the step counted; with the windows then in a frame
+abbrev pub framedIn : State → ℕ → Effect → Frame → State
+framedIn s i e f =
     record {
       steps = suc (s .steps);
       puts = e .puts;
       top = e .top;
       mark = e .mark;
+      next = s .next;
+      set = s .set;
+      frame = f;
       first = upd (s .first) (subIn s i) (e .first);
       second = upd (s .second) (subIn s i) (e .second);
       item = s .item;
       slot = upd (s .slot) i (e .slot);
     }
+
+-- with no window moved
+abbrev pub afterIn : State → ℕ → Effect → State
+afterIn s i e = framedIn s i e (s .frame)
 
 -- an item at its sub and row
 abbrev pub withItem : State → ℕ → ℕ → Item → State
@@ -91,6 +138,9 @@ withItem s j row x =
       puts = s .puts;
       top = s .top;
       mark = s .mark;
+      next = s .next;
+      set = s .set;
+      frame = s .frame;
       first = s .first;
       second = s .second;
       item = upd (s .item) j (upd (s .item j) row x);
@@ -106,11 +156,13 @@ applyInBy g s i e (Stays n) = next (Refused n) s
 applyInBy g s i e Moves = next Moving (afterIn s i e)
 applyInBy g s i e Lost = next Moving (afterIn s i e)
 applyInBy g s i e Shifted = next Moving (afterIn s i e)
+applyInBy g s i e Raised = next Moving (framedIn s i e (raisedOf (s .frame) (s .next .width) (e .top)))
+applyInBy g s i e Dropped = next Moving (framedIn s i e (droppedOf (s .frame)))
 applyInBy g s i e (Landed value row stamp) =
     next (Put value (subIn s i) row stamp) (afterIn (withItem s (subIn s i) (row .0) (record { value = value; stamp = stamp .0 })) i e)
-applyInBy g s i e (Removed row) = next (takenIn g s (subIn s i) (row .0)) (afterIn s i e)
+applyInBy g s i e (Removed row) = answered g s (takenIn g s (subIn s i) (row .0)) (afterIn s i e)
 applyInBy g s i e NoItem = next Empty (afterIn s i e)
-applyInBy g s i e NoRoom = next Full (afterIn s i e)
+applyInBy g s i e NoRoom = answered g s Full (afterIn s i e)
 
 unfoldable pub applyIn : Settings → State → ℕ → Effect → Next State
 applyIn g s i e = applyInBy g s i e (e .outcome)
@@ -123,14 +175,17 @@ stepIn g s i =
     (cond (leb stepLimit (s .steps)) (next (Refused stepsSpent) s)
     (applyIn g s i (ruleOf g (viewIn g s i)))))
 
--- worker i in another slot, with the steps counted and the window words given; nothing else changed
-abbrev pub slotIn : State → ℕ → ℕ → ℕ → ℕ → Slot → State
-slotIn s i steps top mark x =
+-- worker i in another slot, with the steps counted, the window words and the frame given; nothing else changed
+abbrev pub slotIn : State → ℕ → ℕ → ℕ → ℕ → Frame → Slot → State
+slotIn s i steps top mark f x =
     record {
       steps = steps;
       puts = s .puts;
       top = top;
       mark = mark;
+      next = s .next;
+      set = s .set;
+      frame = f;
       first = s .first;
       second = s .second;
       item = s .item;
@@ -138,7 +193,7 @@ slotIn s i steps top mark x =
     }
 
 abbrev pub withSlot : State → ℕ → Slot → State
-withSlot s i x = slotIn s i (s .steps) (s .top) (s .mark) x
+withSlot s i x = slotIn s i (s .steps) (s .top) (s .mark) (s .frame) x
 
 unfoldable pub beginIn : Settings → State → ℕ → Side → ℕ → Next State
 beginIn g s i side value =
@@ -161,57 +216,77 @@ madeIn g =
       puts = 0;
       top = g .depth;
       mark = newMark g;
+      next = sizeOf g;
+      set = 0;
+      frame = record { base = λ k. k * g .depth; wide = λ k. g .width; head = 0; tail = 0 };
       first = λ j. 0;
       second = λ j. 0;
       item = λ j r. record { value = 0; stamp = 0 };
       slot = λ i. record { number = 0; value = 0; index = i % g .width; window = 0; extra = 0; scan = 0; seen = 0; sum = 0 };
     }
 
--- ---- steps that change no sub: the window words and the worker's slot alone
-abbrev pub turnedIn : State → ℕ → ℕ → ℕ → Slot → State
-turnedIn s i top mark x = slotIn s i (suc (s .steps)) top mark x
+-- ---- steps that change no sub: the window words, the frame and the worker's slot alone
+abbrev pub turnedIn : State → ℕ → ℕ → ℕ → Frame → Slot → State
+turnedIn s i top mark f x = slotIn s i (suc (s .steps)) top mark f x
 
 -- an effect that keeps the sub's two words keeps all of them
-after-turned : (s : State) (i top mark : ℕ) (x : Slot)
+after-turned : (s : State) (i top mark : ℕ) (f : Frame) (x : Slot)
     → _≡_ {A = State} (record {
       steps = suc (s .steps);
       puts = s .puts;
       top = top;
       mark = mark;
+      next = s .next;
+      set = s .set;
+      frame = f;
       first = upd (s .first) (subIn s i) (s .first (subIn s i));
       second = upd (s .second) (subIn s i) (s .second (subIn s i));
       item = s .item;
       slot = upd (s .slot) i x;
-    }) (turnedIn s i top mark x)
-after-turned s i top mark x = rw (upd-self (s .first) (subIn s i), upd-self (s .second) (subIn s i)) refl
+    }) (turnedIn s i top mark f x)
+after-turned s i top mark f x = rw (upd-self (s .first) (subIn s i), upd-self (s .second) (subIn s i)) refl
 
 module _ (g : Settings) (s : State) (i : ℕ) where
   pub apply-moved : (index : ℕ) (p : Phase) (kept : Slot)
       → applyIn g s i (movedOf (viewIn g s i) index p kept)
-      ≡ next Moving (turnedIn s i (s .top) (s .mark) (encode (record { value = s .slot i .value; index = index; phase = p }) kept))
+      ≡ next Moving (turnedIn s i (s .top) (s .mark) (s .frame) (encode (record { value = s .slot i .value; index = index; phase = p }) kept))
   unfolding applyIn applyInBy
-  apply-moved index p kept = ap (next Moving) (after-turned s i (s .top) (s .mark) _)
+  apply-moved index p kept = ap (next Moving) (after-turned s i (s .top) (s .mark) (s .frame) _)
 
   -- a commit that failed is a restart: that it is counted is not seen here
   pub lost-restarts : (side : Side) → applyIn g s i (lostOf g (viewIn g s i) side) ≡ applyIn g s i (restartOf (viewIn g s i) (hopOf g (subIn s i)) side)
   unfolding applyIn applyInBy
   lost-restarts side = refl
 
+  abbrev restarted : Side → Slot
+  restarted side = encode (record { value = s .slot i .value; index = subIn s i; phase = Window side }) (s .slot i)
+
   pub apply-shifted : (side : Side) (top mark : ℕ)
-      → applyIn g s i (shiftedOf (viewIn g s i) side top mark)
-      ≡ next Moving (turnedIn s i top mark (encode (record { value = s .slot i .value; index = subIn s i; phase = Window side }) (s .slot i)))
+      → applyIn g s i (shiftedOf (viewIn g s i) Shifted side top mark) ≡ next Moving (turnedIn s i top mark (s .frame) (restarted side))
   unfolding applyIn applyInBy
-  apply-shifted side top mark = ap (next Moving) (after-turned s i top mark _)
+  apply-shifted side top mark = ap (next Moving) (after-turned s i top mark (s .frame) _)
+
+  pub apply-raised : (top : ℕ)
+      → applyIn g s i (shiftedOf (viewIn g s i) Raised Putting top (s .mark))
+      ≡ next Moving (turnedIn s i top (s .mark) (raisedOf (s .frame) (s .next .width) top) (restarted Putting))
+  unfolding applyIn applyInBy
+  apply-raised top = ap (next Moving) (after-turned s i top (s .mark) (raisedOf (s .frame) (s .next .width) top) _)
+
+  pub apply-dropped : (mark : ℕ)
+      → applyIn g s i (shiftedOf (viewIn g s i) Dropped Taking (s .top) mark)
+      ≡ next Moving (turnedIn s i (s .top) mark (droppedOf (s .frame)) (restarted Taking))
+  unfolding applyIn applyInBy
+  apply-dropped mark = ap (next Moving) (after-turned s i (s .top) mark (droppedOf (s .frame)) _)
 
   pub apply-empty : (index : ℕ)
-      → applyIn g s i (finishedOf (viewIn g s i) NoItem index) ≡ next Empty (turnedIn s i (s .top) (s .mark) (fresh 0 index Idle))
+      → applyIn g s i (finishedOf (viewIn g s i) NoItem index) ≡ next Empty (turnedIn s i (s .top) (s .mark) (s .frame) (fresh 0 index Idle))
   unfolding applyIn applyInBy
-  apply-empty index = ap (next Empty) (after-turned s i (s .top) (s .mark) _)
+  apply-empty index = ap (next Empty) (after-turned s i (s .top) (s .mark) (s .frame) _)
 
   pub apply-full : (index : ℕ)
-      → applyIn g s i (finishedOf (viewIn g s i) NoRoom index) ≡ next Full (turnedIn s i (s .top) (s .mark) (fresh 0 index Idle))
+      → applyIn g s i (finishedOf (viewIn g s i) NoRoom index) ≡ answered g s Full (turnedIn s i (s .top) (s .mark) (s .frame) (fresh 0 index Idle))
   unfolding applyIn applyInBy
-  apply-full index = ap (next Full) (after-turned s i (s .top) (s .mark) _)
+  apply-full index = ap (answered g s Full) (after-turned s i (s .top) (s .mark) (s .frame) _)
 
   -- ---- any step leaves the other workers' slots
   apply-other-by : (e : Effect) (j : ℕ) → j ≢ i → (o : Outcome) → applyInBy g s i e o .state .slot j ≡ s .slot j
@@ -220,6 +295,8 @@ module _ (g : Settings) (s : State) (i : ℕ) where
   apply-other-by e j n Moves = upd-other (s .slot) i (e .slot) j n
   apply-other-by e j n Lost = upd-other (s .slot) i (e .slot) j n
   apply-other-by e j n Shifted = upd-other (s .slot) i (e .slot) j n
+  apply-other-by e j n Raised = upd-other (s .slot) i (e .slot) j n
+  apply-other-by e j n Dropped = upd-other (s .slot) i (e .slot) j n
   apply-other-by e j n (Landed value row stamp) = upd-other (s .slot) i (e .slot) j n
   apply-other-by e j n (Removed row) = upd-other (s .slot) i (e .slot) j n
   apply-other-by e j n NoItem = upd-other (s .slot) i (e .slot) j n

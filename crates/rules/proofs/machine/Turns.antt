@@ -9,7 +9,7 @@
 --   begins         a begin keeps the invariant, and the other workers' links
 --   steps          the law of one step that is not refused before its rule: one of the cases of `Turn` (order/Law) for
 --                  `applyIn g s i (ruleOf g (viewIn g s i))`
---   counts, holding, safe    what follows from the invariant for words and corollaries
+--   counts, holding, safe, full    what follows from the invariant for words and corollaries
 --
 -- What is given besides: `Common g s`, that each slot is fit (index and scan below the width, a phase's number of the kind)
 -- and the step count at most 4,000,000,000. It is kept by every call whatever the kind, so a kind's Inv does not hold it.
@@ -29,20 +29,20 @@ use mathlib.Core.Logic.{_≢_}
 use mathlib.Core.Bool.{true}
 use Prim.Native.Nat.{ℕ, _+_, _*_, _^_, _≤_, _<_}
 use native.Mathlib.Omega.{arith}
-use Rattle.rules.specs.Limits.{stepLimit}
+use Rattle.rules.specs.Limits.{deepest, stepLimit}
 use Rattle.rules.specs.Answers.{numberOf, notFit}
 use Rattle.rules.specs.Worker.{fresh, zeroSlot, phaseOf}
 use Rattle.rules.specs.Held.{reported}
 use Rattle.rules.specs.Fit.{phaseFit, SubFits}
 use Rattle.rules.specs.Step.{ruleOf}
-use Rattle.rules.specs.Sequential.{Contents, noItems, reportedBy}
+use Rattle.rules.specs.Sequential.{Contents, noItems, reportedBy, leastBy, leastFull}
 use Rattle.rules.specs.Run.{Call, beginPut, beginTake, step, begin}
 use Rattle.rules.specs.Consequences.{NoWrap}
 use Rattle.rules.proofs.Types.{Settings, Side, Putting, Taking, Idle, Window, Slot}
 use Rattle.rules.specs.declared.Answer.the-variants.{Moving}
 use Rattle.rules.proofs.counts.Sums.{upd, upd-same, upd-other}
-use Rattle.rules.proofs.order.Law.{Next, Status, pending, Turn, refused, opened, walks, tries, stays, loses, ends, wins}
-use Rattle.rules.proofs.machine.Machine.{State, next, subIn, viewIn, phaseIn, belowIn, distanceIn, applyIn, stepIn, beginIn, nextIn, madeIn}
+use Rattle.rules.proofs.order.Law.{Next, Status, pending, Turn, refused, passes, opened, walks, tries, stays, loses, ends, wins}
+use Rattle.rules.proofs.machine.Machine.{State, next, placesIn, subIn, viewIn, phaseIn, belowIn, distanceIn, applyIn, stepIn, beginIn, nextIn, madeIn}
 use Rattle.rules.proofs.machine.Calls.{Called, refuses, does, Steps, Begins, step-called, begun, begin-called}
 use Rattle.rules.proofs.machine.Phases.{operationOf, statusOf, worker, idle-phase, window-phase, encode-value}
 use Rattle.rules.proofs.counts.Held.{Holds, held-count}
@@ -58,11 +58,16 @@ pub record Common (g : Settings) (s : State) : Type 0 where
   pub steps-few : s .steps ≤ stepLimit
 
 -- ---- what a kind shows besides its law of a step
--- the counts of each sub are fit and few
+-- no row is higher: so many steps, and the rows of a window
+abbrev pub fewRows : ℕ
+fewRows = stepLimit + deepest
+
+-- the counts of each sub are fit and few, and each row held has an item
 pub record Counts (g : Settings) (s : State) : Type 0 where
   pub sub : (j : ℕ) → j < g .width → SubFits g (s .first j) (s .second j)
-  pub first-few : (j : ℕ) → j < g .width → s .first j ≤ stepLimit
-  pub second-few : (j : ℕ) → j < g .width → s .second j ≤ stepLimit
+  pub first-few : (j : ℕ) → j < g .width → s .first j ≤ fewRows
+  pub second-few : (j : ℕ) → j < g .width → s .second j ≤ fewRows
+  pub stamped : (j r : ℕ) → j < g .width → belowIn g s j < r → r ≤ s .first j → 1 ≤ s .item j r .stamp
 
 -- the specification's list is what the subs hold, and its count the puts made
 pub record Holding (g : Settings) (s : State) (q : Contents) : Type 0 where
@@ -91,12 +96,12 @@ statusIn g s i = statusOf (s .slot i .value) (phaseIn g s i)
 
 -- the worker whose slot was changed, and any other
 pub status-here : (g : Settings) (f : ℕ → Slot) (i : ℕ) (x : Slot)
-    → statusOf (upd f i x i .value) (phaseOf (g .kind) (upd f i x i)) ≡ statusOf (x .value) (phaseOf (g .kind) x)
-status-here g f i x = ap (λ (y : Slot). statusOf (y .value) (phaseOf (g .kind) y)) (upd-same f i x)
+    → statusOf (upd f i x i .value) (phaseOf g (upd f i x i)) ≡ statusOf (x .value) (phaseOf g x)
+status-here g f i x = ap (λ (y : Slot). statusOf (y .value) (phaseOf g y)) (upd-same f i x)
 
 pub status-other : (g : Settings) (f : ℕ → Slot) (i : ℕ) (x : Slot) (j : ℕ) → j ≢ i
-    → statusOf (upd f i x j .value) (phaseOf (g .kind) (upd f i x j)) ≡ statusOf (f j .value) (phaseOf (g .kind) (f j))
-status-other g f i x j n = ap (λ (y : Slot). statusOf (y .value) (phaseOf (g .kind) y)) (upd-other f i x j n)
+    → statusOf (upd f i x j .value) (phaseOf g (upd f i x j)) ≡ statusOf (f j .value) (phaseOf g (f j))
+status-other g f i x j n = ap (λ (y : Slot). statusOf (y .value) (phaseOf g y)) (upd-other f i x j n)
 
 -- ---- a kind
 abbrev pub Turned : (g : Settings) → (State → Contents → Type 0) → (State → Contents → ℕ → State → Type 0)
@@ -116,6 +121,8 @@ pub record Kind (g : Settings) : Type 1 where
   pub counts : (s : State) (q : Contents) → Inv s q → Counts g s
   pub holding : (s : State) (q : Contents) → Inv s q → Holding g s q
   pub safe : (s : State) (q : Contents) → Common g s → Inv s q → Safe g s
+  pub full : (s : State) (q : Contents) → Common g s → Inv s q → (i : ℕ) → numberOf (applyIn g s i (ruleOf g (viewIn g s i)) .answer) ≡ 4
+      → leastBy g (placesIn g s) ≡ leastFull g
 
 -- ---- the law of one call
 module _ (g : Settings) (k : Kind g) where
@@ -130,9 +137,9 @@ module _ (g : Settings) (k : Kind g) where
       by (does able e) = rw e (k .steps s q common inv i (able .worker) (able .time))
 
   begun-status : (side : Side) (v x : ℕ)
-      → statusOf (fresh v x (Window side) .value) (phaseOf (g .kind) (fresh v x (Window side))) ≡ pending (operationOf side v)
+      → statusOf (fresh v x (Window side) .value) (phaseOf g (fresh v x (Window side))) ≡ pending (operationOf side v)
   begun-status side v x =
-      rw (window-phase (g .kind) side v x zeroSlot, encode-value (worker v x (Window side)) zeroSlot) refl
+      rw (window-phase g side v x zeroSlot, encode-value (worker v x (Window side)) zeroSlot) refl
 
   turn-begin : (s : State) (q : Contents) → Common g s → k .Inv s q → (i : ℕ) (side : Side) (v : ℕ) (c : Call) → c ≡ begin i (operationOf side v)
       → Call-turn s q c (beginIn g s i side v)
@@ -150,7 +157,7 @@ module _ (g : Settings) (k : Kind g) where
 
       by : {o : Next State} → Called s (Begins g s i) (next Moving (begun s i side v)) o → Call-turn s q c o
       by (refuses n l unable e) = rw e (refused (omega arith) refl)
-      by (does able e) = rw e (opens (idle-phase (g .kind) (s .slot i) (able .idle)))
+      by (does able e) = rw e (opens (idle-phase g (s .slot i) (able .idle)))
 
   pub turn : (s : State) (q : Contents) → Common g s → k .Inv s q → (c : Call) → Call-turn s q c (nextIn g s c)
   unfolding nextIn
@@ -164,6 +171,7 @@ module _ (g : Settings) (k : Kind g) where
     where
       by : Call-turn s q c (nextIn g s c) → nextIn g s c .state ≡ s
       by (refused n e) = e
+      by (passes no-step n same h) = absurd (omega arith)
       by (opened i op u n a b w h) = absurd (omega arith)
       by (walks i op u n a b w h) = absurd (omega arith)
       by (tries i op u n a b w h z) = absurd (omega arith)

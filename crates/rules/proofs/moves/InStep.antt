@@ -1,7 +1,7 @@
 -- One pool in two areas stays one: a call finds both fit or gives both the same refusal, reads the same of both, so that it goes by the same rule with
 -- the same effect, and stores at the same places. So the answers of a list of calls are the same one by one.
 use Prim.Native.Nat.{ℕ, _+_, _*_, _<_}
-use mathlib.Core.Path.{_≡_, refl, sym, subst, _∙_}
+use mathlib.Core.Path.{_≡_, refl, sym, subst, _∙_, ap}
 use mathlib.Core.List.{List, [], _∷_}
 use native.Mathlib.Omega.{arith}
 use lib.ListN.{getD, length}
@@ -18,17 +18,17 @@ use Rattle.rules.specs.Effects.{hopOf}
 use Rattle.rules.specs.Held.{itemAt, heldItems}
 use Rattle.rules.specs.Apply.{applyBy, applyOf}
 use Rattle.rules.specs.Step.{ruleOf, slotStep, fitStep, checkedStep}
-use Rattle.rules.specs.Run.{Call, beginPut, beginTake, step, callOf, run}
+use Rattle.rules.specs.Run.{Call, beginPut, beginTake, step, callOf, measuresAt, eventOf, run}
 use Rattle.rules.specs.Consequences.{wordsAfter}
 use Rattle.rules.specs.Make.{inEdition}
 use Rattle.rules.specs.Turnaround.{SamePool, SameItems, InStep, Lockstep}
-use Rattle.rules.specs.declared.Outcome.the-variants.{Refused, Moving, Lost, Shifted, Landed, Removed, Empty, Full}
+use Rattle.rules.specs.declared.Outcome.the-variants.{Refused, Moving, Lost, Shifted, Raised, Dropped, Landed, Removed, Empty, Full}
 use Rattle.rules.proofs.Types.{Settings, Side, Putting, Taking, Effect, Outcome}
 use Rattle.rules.proofs.Cells.{cell-lt}
 use Rattle.rules.proofs.Fitness.{settings-bounds, fit-pool}
-use Rattle.rules.proofs.Alike.{Alike, inOther, rule-same, view-same, held-same, taken-same, body-same}
+use Rattle.rules.proofs.Alike.{Alike, inOther, measures-alike, rule-same, view-same, held-same, taken-same, body-same}
 use Rattle.rules.proofs.Checked.{checkedCall, call-is, unfit-call}
-use Rattle.rules.proofs.moves.Stores.{shared, reads, sub-stored, shifted-stored, slot-stored, worker-stored, landed-stored, counted-stored}
+use Rattle.rules.proofs.moves.Stores.{shared, reads, sub-stored, shifted-stored, raised-stored, dropped-stored, slot-stored, worker-stored, landed-stored, counted-stored}
 
 -- ---- what is read
 -- the index of a worker that lost a commit moves on by the stride, whatever the edition
@@ -89,6 +89,8 @@ module _ (g : Settings) (e : ℕ) (ws vs : List ℕ) (pool : SamePool g ws (inEd
     apply-both j f Moving l = record { answer = refl; later = worker-stored g e i li f pool }
     apply-both j f Lost l = record { answer = refl; later = worker-stored g e i li f (counted-stored g e i li pool) }
     apply-both j f Shifted l = record { answer = refl; later = worker-stored g e i li f (shifted-stored g e f pool) }
+    apply-both j f Raised l = record { answer = refl; later = worker-stored g e i li f (raised-stored g e f pool) }
+    apply-both j f Dropped l = record { answer = refl; later = worker-stored g e i li f (dropped-stored g e f pool) }
     apply-both j f (Landed value row stamp) l =
         record { answer = refl; later = worker-stored g e i li f (landed-stored g e (fit .bounds) j l value row stamp f pool) }
     apply-both j f (Removed row) l =
@@ -176,6 +178,14 @@ module _ (g : Settings) (e : ℕ) (ws vs : List ℕ) (pool : SamePool g ws (inEd
           let is : f ≡ g = sym (fit .settings) ∙ pool .settings-one in
           subst (λ (f : Settings). Both (checkedCall ws (Fit f) c) (checkedCall vs (Fit h) c)) (sym is) (fit-both (subst (λ (f : Settings). FitPool f ws) is fit) c)
 
+-- the same event: what an answer is held to is read off words that both have
+pub event-both : (g : Settings) (e : ℕ) (ws vs : List ℕ) (pool : SamePool g ws (inEdition e g) vs) (c : Call)
+    → eventOf vs c (callOf e vs c .answer) ≡ eventOf ws c (callOf (g .edition) ws c .answer)
+event-both g e ws vs pool c =
+    let b = call-both g e ws vs pool c in
+    let told = measures-alike ws vs (λ m l. pool .head m (omega arith) (λ u. omega arith)) c in
+    λ u. record { call = c; answer = b .answer u; measures = (ap (measuresAt vs c) (b .answer) ∙ told (callOf (g .edition) ws c .answer)) u }
+
 -- ---- a list of calls
 pub in-step : (g : Settings) (e : ℕ) (ws vs : List ℕ) (cs : List Call) → SamePool g ws (inEdition e g) vs → InStep g ws (inEdition e g) vs cs
 unfolding run wordsAfter
@@ -184,7 +194,7 @@ in-step g e ws vs [] pool =
 in-step g e ws vs (c ∷ cs) pool =
     let b = call-both g e ws vs pool c in
     let rest = in-step g e (callOf (g .edition) ws c .words) (callOf e vs c .words) cs (b .later) in
-    record { answers = rw (b .answer, rest .answers) refl; later = rest .later }
+    record { answers = λ u. event-both g e ws vs pool c u ∷ rest .answers u; later = rest .later }
 
 pub lockstep : Lockstep
 lockstep g ws h vs cs pool =

@@ -10,7 +10,7 @@ use Rattle.laws.specs.Choice.{cases}
 use Rattle.rules.specs.Answers.{numberOf}
 use Rattle.rules.specs.Layout.{stepsAt, settingsOf}
 use Rattle.rules.specs.Run.{begin, callOf, run}
-use Rattle.rules.specs.Sequential.{Operation, mostPassed}
+use Rattle.rules.specs.Sequential.{Operation, demand3Rows}
 use Rattle.rules.specs.Statement.{OneAtATimeWithin}
 use Rattle.rules.specs.Consequences.{wordsAfter}
 use Rattle.rules.specs.Solo.{k3Steps, soloSteps, SoloWithin}
@@ -24,7 +24,7 @@ use Rattle.rules.proofs.Theorem.{demand3}
 use Rattle.rules.proofs.Corollaries.{nothing-lost}
 use Rattle.rules.proofs.progress.Theorem.{k3, solo-exact}
 use Rattle.rules.proofs.moves.Stores.{itself, joined}
-use Rattle.rules.proofs.moves.InStep.{call-both, in-step, same-items}
+use Rattle.rules.proofs.moves.InStep.{call-both, event-both, in-step, same-items}
 use Rattle.rules.proofs.moves.Moved.{move-does}
 
 pub operations-go-on : OperationsGoOn
@@ -43,7 +43,7 @@ follows g ws p [] pool = record { answers = refl; ends = pool }
 follows g ws p (call c ∷ xs) pool =
     let b = call-both g (p .edition) ws (p .words) pool c in
     let rest = follows g (callOf (g .edition) ws c .words) (placeAfter p (call c)) xs (b .later) in
-    record { answers = rw (b .answer, rest .answers) refl; ends = rest .ends }
+    record { answers = λ u. event-both g (p .edition) ws (p .words) pool c u ∷ rest .answers u; ends = rest .ends }
 follows g ws p (move a b area ∷ xs) pool =
     let o = moveOf a b (p .words) area in
     let rest = follows g ws (placeAfter p (move a b area)) xs
@@ -65,7 +65,7 @@ pub runs-over-moves : RunsOverMoves
 runs-over-moves P holds ws g xs made = subst (P g) (sym (from-make ws g xs made .answers)) (holds ws g (callsIn xs) made)
 
 pub demand3-over-moves : Demand3OverMoves
-demand3-over-moves = runs-over-moves (λ g. OneAtATimeWithin (mostPassed g) g) demand3
+demand3-over-moves = runs-over-moves (λ g. OneAtATimeWithin (demand3Rows g) g) demand3
 
 pub nothing-lost-over-moves : NothingLostOverMoves
 nothing-lost-over-moves ws g xs made p =

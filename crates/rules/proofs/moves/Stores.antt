@@ -16,7 +16,7 @@ use Rattle.laws.specs.Wrap.{add32, sub32}
 use Rattle.rules.specs.Layout.{stepsAt, putsAt, topAt, markAt, editionAt, settingsOf, workerWords, slotWords, lostWord, workersAt, workerAt, lostAt, cellWords, cellOf, cellsAt, needed, firstAt, secondAt}
 use Rattle.rules.specs.Limits.{Bounds}
 use Rattle.rules.specs.Worker.{wordsOf, putSlot}
-use Rattle.rules.specs.Apply.{putItem, putSub, putLanded, putShifted, putWorker, countLost}
+use Rattle.rules.specs.Apply.{putItem, putSub, putLanded, putShifted, putRaised, putDropped, putWorker, countLost}
 use Rattle.rules.specs.Make.{inEdition}
 use Rattle.rules.specs.Turnaround.{SamePool}
 use Rattle.rules.proofs.Types.{Settings, Slot, Row, Stamp, Effect}
@@ -155,6 +155,14 @@ module _ (g : Settings) (e : ℕ) where
   unfolding putShifted
   shifted-stored f pool =
       one-stored markAt _ _ (omega arith) (λ p s. s .mark) refl (one-stored topAt _ _ (omega arith) (λ p s. s .top) refl pool)
+
+  pub raised-stored : (f : Effect) {ws vs : List ℕ} → OnePool ws vs → OnePool (putRaised ws f) (putRaised vs f)
+  unfolding putRaised
+  raised-stored f pool = one-stored topAt _ _ (omega arith) (λ p s. s .top) refl pool
+
+  pub dropped-stored : (f : Effect) {ws vs : List ℕ} → OnePool ws vs → OnePool (putDropped ws f) (putDropped vs f)
+  unfolding putDropped
+  dropped-stored f pool = one-stored markAt _ _ (omega arith) (λ p s. s .mark) refl pool
 
   module _ (i : ℕ) (li : i < g .workers) where
     abbrev at : ℕ

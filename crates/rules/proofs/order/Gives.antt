@@ -7,40 +7,41 @@ use lib.ListN.{length}
 use borrow.Author.Tests.{le-leb}
 use Rattle.laws.specs.Choice.{cond}
 use Rattle.rules.specs.Held.{Item}
-use Rattle.rules.specs.Sequential.{putting, taking, Contents, Found, giveBy, leaving, leastFull, passedBy, reportedBy}
-use Rattle.rules.specs.Newer.{exactBound}
+use Rattle.rules.specs.Measures.{Measures}
+use Rattle.rules.specs.Sequential.{putting, taking, Contents, Found, giveBy, leaving, boundBy, leastBy, passedBy, reportedBy}
+use Rattle.rules.specs.Newer.{exactRows}
 use Rattle.rules.specs.Run.{Final}
 use Rattle.rules.proofs.order.Closest.{Gives}
 use Rattle.rules.proofs.Types.{Settings, Row}
 use Rattle.rules.specs.declared.Answer.the-variants.{Put, Taken, Empty, Full}
 use Rattle.rules.proofs.counts.Find.{RowFound}
 
-module _ (g : Settings) (q : Contents) where
-  -- the specification's list after a put of v with the next stamp, and after a take
-  abbrev pub putOn : ℕ → Contents
-  putOn v = record { items = record { value = v; stamp = suc (q .count) } ∷ q .items; count = suc (q .count) }
+-- the specification's list after a put of v with the next stamp, and after a take
+abbrev pub putOn : Contents → ℕ → Contents
+putOn q v = record { items = record { value = v; stamp = suc (q .count) } ∷ q .items; count = suc (q .count) }
 
-  abbrev pub takenOff : Found → Contents
-  takenOff f = record { items = f .others; count = q .count }
+abbrev pub takenOff : Contents → Found → Contents
+takenOff q f = record { items = f .others; count = q .count }
 
-  pub gives-put : (v j : ℕ) (row : Row) (stamp : ℕ) → stamp ≡ suc (q .count) → Gives g q (putting v) (Put v j row (record { 0 = stamp })) (putOn v)
+module _ (g : Settings) (q : Contents) (m : Measures) where
+  pub gives-put : (v j : ℕ) (row : Row) (stamp : ℕ) → stamp ≡ suc (q .count) → Gives g q (putting v) (Put v j row (record { 0 = stamp })) m (putOn q v)
   unfolding giveBy cond
   gives-put v j row stamp e = let n : q .count + 1 ≡ suc (q .count) = omega arith in rw (n, e) refl
 
   pub gives-taken : (it : Item) (j : ℕ) (row : Row) (distance : ℕ) → (f : RowFound it (q .items))
-      → distance ≡ reportedBy g q (it .stamp) → passedBy g q (it .stamp) ≤ exactBound g
-      → Gives g q taking (Taken (it .value) j row (record { 0 = it .stamp }) distance) (takenOff (f .out))
+      → distance ≡ reportedBy g q (it .stamp) → passedBy g q (it .stamp) ≤ boundBy g (exactRows g) (m .size)
+      → Gives g q taking (Taken (it .value) j row (record { 0 = it .stamp }) distance) m (takenOff q (f .out))
   unfolding giveBy leaving cond
   gives-taken it j row distance f e l =
-      rw (f .found) (rw (f .item-is) (rw (le-leb (passedBy g q (it .stamp)) (exactBound g) l, e) refl))
+      rw (f .found) (rw (f .item-is) (rw (le-leb (passedBy g q (it .stamp)) (boundBy g (exactRows g) (m .size)) l, e) refl))
 
-  pub gives-empty : q .items ≡ [] → Gives g q taking Empty q
+  pub gives-empty : q .items ≡ [] → Gives g q taking Empty m q
   unfolding giveBy cond
   gives-empty e = rw e refl
 
-  pub gives-full : (v : ℕ) → leastFull g ≤ length (q .items) → Gives g q (putting v) Full q
+  pub gives-full : (v : ℕ) → leastBy g (m .places) ≤ length (q .items) → Gives g q (putting v) Full m q
   unfolding giveBy cond
-  gives-full v l = rw (le-leb (leastFull g) (length (q .items)) l) refl
+  gives-full v l = rw (le-leb (leastBy g (m .places)) (length (q .items)) l) refl
 
 -- the four answers are final
 pub final-put : (v j : ℕ) (row : Row) (stamp : _) → Final (Put v j row stamp)

@@ -8,10 +8,11 @@ use native.Mathlib.Omega.{arith}
 use borrow.Author.Tests.{ne-eqb}
 use Rattle.rules.specs.Answers.{numberOf}
 use Rattle.rules.specs.Held.{isSpacer, countItems}
+use Rattle.rules.specs.Measures.{Measures}
 use Rattle.rules.specs.Sequential.{Operation, putting, taking, Contents}
 use Rattle.rules.specs.Run.{Call, begin, valueIn}
 use Rattle.rules.specs.Consequences.{itemIn}
-use Rattle.rules.specs.Newer.{exactBound}
+use Rattle.rules.specs.Newer.{exactRows}
 use Rattle.rules.specs.Spacers.{NoSpacer}
 use Rattle.rules.proofs.Types.{Settings, Answer}
 use Rattle.rules.proofs.order.Closest.{Gives}
@@ -33,17 +34,17 @@ begun-no-spacer c i (putting v) e h = subst NoSpacer e h
 begun-no-spacer c i taking e h = tt
 
 -- ---- the list after an answer to such an operation
-module _ (g : Settings) (q : Contents) (a : Answer) (q′ : Contents) where
-  no-spacer-put : (o : Operation) → NoSpacerPut o → Gives g q o a q′ → countItems isSpacer (itemIn 1 a) ≡ 0
+module _ (g : Settings) (q : Contents) (a : Answer) (m : Measures) (q′ : Contents) where
+  no-spacer-put : (o : Operation) → NoSpacerPut o → Gives g q o a m q′ → countItems isSpacer (itemIn 1 a) ≡ 0
   no-spacer-put o plain e = elim (ℕ-discrete (numberOf a) 1) [
     | yes one ↦
-        let value : valueIn a ≢ 0 = subst NoSpacerPut (gives-value (exactBound g) g q a q′ o e one) plain in
+        let value : valueIn a ≢ 0 = subst NoSpacerPut (gives-value (exactRows g) g q a m q′ o e one) plain in
         rw (ne-eqb (valueIn a) 0 value) at (item-of 1 a isSpacer one)
     | no other ↦ item-not 1 a isSpacer other
   ]
 
-  pub no-spacer-joins : (o : Operation) → NoSpacerPut o → Gives g q o a q′ → countItems isSpacer (q .items) ≡ 0 → countItems isSpacer (q′ .items) ≡ 0
-  no-spacer-joins o plain e none-before = omega (arith, gives-changed (exactBound g) g q a q′ o e .counts isSpacer, no-spacer-put o plain e)
+  pub no-spacer-joins : (o : Operation) → NoSpacerPut o → Gives g q o a m q′ → countItems isSpacer (q .items) ≡ 0 → countItems isSpacer (q′ .items) ≡ 0
+  no-spacer-joins o plain e none-before = omega (arith, gives-changed (exactRows g) g q a m q′ o e .counts isSpacer, no-spacer-put o plain e)
 
 -- ---- no spacer on the list, and none under way
 module _ {S : Type 0} (g : Settings) (next : S → Call → Next S) (status : S → ℕ → Status)

@@ -7,28 +7,26 @@ use native.Mathlib.Omega.{arith}
 use lib.Dec.{ltb, eqb}
 use borrow.Author.Tests.{ltb-true, ltb-false, eqb-false}
 use Rattle.laws.specs.Choice.{cases}
-use Rattle.laws.specs.Wrap.{sub32}
+use Rattle.laws.specs.Wrap.{add32, sub32}
 use Rattle.rules.specs.Effects.{movedOf, finishedOf, nothingFor, nextOf}
-use Rattle.rules.specs.Confirm.{counted, confirmRule, confirmedOf}
-use Rattle.rules.proofs.Types.{Settings, Side, Window, Confirm, Slot, View, Effect}
-use Rattle.rules.proofs.counts.Sums.{sumN}
+use Rattle.rules.specs.Confirm.{confirmBy, confirmedOf}
+use Rattle.rules.proofs.Types.{Side, Phase, Window, Slot, View, Effect}
 use Rattle.rules.proofs.counts.Wraps.{add32-suc, next-lt}
-use Rattle.rules.proofs.machine.Good.{Good}
 use Rattle.rules.proofs.progress.Clean.{Rest, rest-more, rest-end}
 
--- `count` is what the sub has of what the pass summed up
-pub confirm-cases : (g : Settings) → Good g → (v : View) (P : Effect → Type 0) (side : Side) (scan sum count : ℕ) → counted g v ≡ count → scan < g .width
-    → (suc scan < g .width → P (movedOf v (nextOf g (v .worker .index)) (Confirm side (suc scan) (sub32 sum count)) (v .kept)))
-    → (suc scan ≡ g .width → P (finishedOf v (nothingFor side) (nextOf g (v .worker .index))))
-    → (suc scan ≡ g .width → sub32 sum count ≢ 0 → (kept : Slot) → P (movedOf v (nextOf g (v .worker .index)) (Window side) kept))
-    → P (confirmRule g v side scan sum)
-unfolding confirmRule confirmedOf
-confirm-cases g good v P side scan sum count read l on nothing something =
-    rw (read, add32-suc scan (omega (arith, good .bounds .width16)))
-    (cases P (ltb (suc scan) (g .width)) _ _ (λ b. on (ltb-true _ _ b))
+-- of w subs, with the confirm phase `again` by its scan, and with `left` of the sum after this one
+pub confirm-cases : (w : ℕ) → w ≤ 16 → (v : View) (P : Effect → Type 0) (side : Side) (scan left : ℕ) (again : ℕ → Phase) → scan < w
+    → (suc scan < w → P (movedOf v (nextOf w (v .worker .index)) (again (suc scan)) (v .kept)))
+    → (suc scan ≡ w → P (finishedOf v (nothingFor side) (nextOf w (v .worker .index))))
+    → (suc scan ≡ w → left ≢ 0 → (kept : Slot) → P (movedOf v (nextOf w (v .worker .index)) (Window side) kept))
+    → P (confirmBy v side w scan left (again (add32 scan 1)))
+unfolding confirmBy confirmedOf
+confirm-cases w few v P side scan left again l on nothing something =
+    rw (add32-suc scan (omega arith))
+    (cases P (ltb (suc scan) w) _ _ (λ b. on (ltb-true _ _ b))
     (λ b.
-    let last : suc scan ≡ g .width = omega (arith, ltb-false (suc scan) (g .width) b) in
-    cases P (eqb (sub32 sum count) 0) _ _ (λ z. nothing last) (λ z. something last (eqb-false _ _ z) _)))
+    let last : suc scan ≡ w = omega (arith, ltb-false (suc scan) w b) in
+    cases P (eqb left 0) _ _ (λ z. nothing last) (λ z. something last (eqb-false _ _ z) _)))
 
 -- n steps before the final one are enough for what is left of a confirm
 pub record AtConfirm (w : ℕ) (count : ℕ → ℕ) (n index scan sum : ℕ) : Type 0 where
@@ -38,13 +36,13 @@ pub record AtConfirm (w : ℕ) (count : ℕ → ℕ) (n index scan sum : ℕ) : 
 pub confirm-some : {w : ℕ} {count : ℕ → ℕ} {n index scan sum : ℕ} → AtConfirm w count n index scan sum → suc scan < w → 1 ≤ n
 confirm-some a l = omega (arith, a .left)
 
-module _ (g : Settings) {count : ℕ → ℕ} {n index scan sum : ℕ} (a : AtConfirm (g .width) count n index scan sum)
-    (few : sumN count (g .width) < 2 ^ 32) (index-lt : index < g .width) (scan-lt : scan < g .width) where
-  more : Rest (g .width) count (nextOf g index) (suc scan) (sub32 sum (count index))
-  more = rest-more g count index scan sum index-lt scan-lt few (a .rest)
+module _ {w : ℕ} {count : ℕ → ℕ} {n index scan sum : ℕ} (a : AtConfirm w count n index scan sum)
+    (small : count index < 2 ^ 32) (index-lt : index < w) (scan-lt : scan < w) where
+  more : Rest w count (nextOf w index) (suc scan) (sub32 sum (count index))
+  more = rest-more count index index-lt scan-lt small (a .rest)
 
-  pub confirm-more : AtConfirm (g .width) count (n - 1) (nextOf g index) (suc scan) (sub32 sum (count index))
+  pub confirm-more : AtConfirm w count (n - 1) (nextOf w index) (suc scan) (sub32 sum (count index))
   confirm-more = record { rest = more; left = omega (arith, a .left) }
 
-  pub confirm-ends : Good g → suc scan ≡ g .width → sub32 sum (count index) ≡ 0
-  confirm-ends good e = rest-end (next-lt g index (good .bounds .width1)) (rw e at more)
+  pub confirm-ends : suc scan ≡ w → sub32 sum (count index) ≡ 0
+  confirm-ends e = rest-end (next-lt w index (omega arith)) (rw e at more)

@@ -6,7 +6,7 @@ use native.Mathlib.Nat.{le-refl}
 use native.Mathlib.Omega.{arith}
 use Rattle.rules.specs.Step.{ruleOf, ruleBy}
 use Rattle.rules.specs.Sequential.{Contents}
-use Rattle.rules.proofs.Types.{Settings, Side, Putting, Taking, Phase, Idle, Window, QueuePutRead, QueueTakeRead, StackRead, Check, QueueCommit, StackCommit, QueueShift, StackShift, Confirm, Slot}
+use Rattle.rules.proofs.Types.{Settings, Side, Putting, Taking, Phase, Idle, Window, QueuePutRead, QueueTakeRead, StackRead, Check, QueueCommit, StackCommit, QueueShift, StackShift, QueueConfirm, StackConfirm, Slot}
 use Rattle.rules.proofs.machine.Machine.{State, subIn, viewIn, phaseIn, applyIn, withSlot}
 use Rattle.rules.proofs.machine.Good.{Good}
 use Rattle.rules.proofs.machine.Turns.{Common, Kind}
@@ -54,7 +54,7 @@ module _ (g : Settings) (good : Good g) (kind : g .kind ≡ 0) where
         busy = λ s n index x. x;
         apart = λ s j x n index p left. left;
         begins = λ s q inv index side. queue-begins s index side;
-        steps = λ s q common inv i n x. result (queue-step g good kind (2 * g .width) twice s q common inv (λ l. inl (le-refl _)) i n x);
+        steps = λ s q common inv i n x. result (queue-step g good kind (2 * g .width) twice s q inv (λ l. inl (le-refl _)) i n x);
       }
 
 -- ---- the stack: two shifts, since the corridor is d + s high
@@ -71,11 +71,12 @@ module _ (g : Settings) (good : Good g) (kind : g .kind ≡ 1) where
   stack-by s q common inv i n (QueueTakeRead window bare scan sum) now x = absurd x
   stack-by s q common inv i n (StackRead side window version scan sum) now x = read-step g good kind s q common inv i n side window version scan sum now x
   stack-by s q common inv i n (Check side version seen) now x = check-step g good kind s q common inv i n side version seen x
-  stack-by s q common inv i n (QueueCommit side seen) now x = absurd x
+  stack-by s q common inv i n (QueueCommit side window seen) now x = absurd x
   stack-by s q common inv i n (StackCommit side seen) now x = commit-step g good kind s q common inv i n side seen now x
   stack-by s q common inv i n (QueueShift side window) now x = absurd x
   stack-by s q common inv i n (StackShift side version scan sum) now x = shift-step g good kind s q common inv i n version scan sum side now x
-  stack-by s q common inv i n (Confirm side scan sum) now x = stack-confirm g good kind s q common inv i n side scan sum now x
+  stack-by s q common inv i n (QueueConfirm window scan sum) now x = absurd x
+  stack-by s q common inv i n (StackConfirm side scan sum) now x = stack-confirm g good kind s q common inv i n side scan sum now x
 
   stack-begins : (s : State) (q : Contents) → StackInv g s q → (index : ℕ) (side : Side) → stackLeft g s (stackBegun g side) index (Window side)
   stack-begins s q inv index Putting =

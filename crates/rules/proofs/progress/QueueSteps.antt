@@ -4,36 +4,34 @@ use mathlib.Core.Path.{_≡_, refl}
 use Prim.Native.Nat.{ℕ, _<_}
 use Rattle.rules.specs.Step.{ruleOf, ruleBy}
 use Rattle.rules.specs.Sequential.{Contents}
-use Rattle.rules.proofs.Types.{Settings, Putting, Taking, Phase, Idle, Window, QueuePutRead, QueueTakeRead, StackRead, Check, QueueCommit, StackCommit, QueueShift, StackShift, Confirm}
+use Rattle.rules.proofs.Types.{Settings, Putting, Taking, Phase, Idle, Window, QueuePutRead, QueueTakeRead, StackRead, Check, QueueCommit, StackCommit, QueueShift, StackShift, QueueConfirm, StackConfirm}
 use Rattle.rules.proofs.machine.Machine.{State, subIn, viewIn, phaseIn, applyIn}
 use Rattle.rules.proofs.machine.Good.{Good}
-use Rattle.rules.proofs.machine.Turns.{Common}
 use Rattle.rules.proofs.queue.Inv.{Inv}
-use Rattle.rules.proofs.progress.QueueLeft.{Ready, queueLeft}
+use Rattle.rules.proofs.progress.QueueLeft.{NextReady, queueLeft}
 use Rattle.rules.proofs.progress.QueueResult.{QueueResult}
 use Rattle.rules.proofs.progress.QueuePut.{put-window, put-read, put-commit, put-shift}
 use Rattle.rules.proofs.progress.QueueTakePass.{take-window, take-read}
 use Rattle.rules.proofs.progress.QueueTakeEnd.{take-commit, take-shift, take-confirm}
 
-module _ (g : Settings) (good : Good g) (kind : g .kind ≡ 0) (L : ℕ) (enough : g .width < L) (s : State) (q : Contents) (common : Common g s) (inv : Inv g s q)
-    (ready : s .mark < s .top → Ready g L (s .first) (s .second)) (i n : ℕ) where
+module _ (g : Settings) (good : Good g) (kind : g .kind ≡ 0) (L : ℕ) (enough : g .width < L) (s : State) (q : Contents) (inv : Inv g s q) (ready : NextReady g L s) (i n : ℕ) where
   by-phase : (p : Phase) → phaseIn g s i ≡ p → queueLeft g L s n (subIn s i) p → QueueResult g L s i n (applyIn g s i (ruleBy g (viewIn g s i) p))
   unfolding ruleBy
   by-phase Idle now x = absurd x
-  by-phase (Window Putting) now x = put-window g good kind L s q common inv i n x
-  by-phase (Window Taking) now x = take-window g good kind L enough s q common inv i n x
-  by-phase (QueuePutRead window scan) now x = put-read g good kind L s q common inv i n window scan now x
-  by-phase (QueueTakeRead window bare scan sum) now x = take-read g good kind L enough s q common inv i n window bare scan sum now x
+  by-phase (Window Putting) now x = put-window g good kind L s q inv i n x
+  by-phase (Window Taking) now x = take-window g good kind L enough s q inv i n x
+  by-phase (QueuePutRead window scan) now x = put-read g good kind L s q inv i n window scan now x
+  by-phase (QueueTakeRead window bare scan sum) now x = take-read g good kind L enough s q inv i n window bare scan sum now x
   by-phase (StackRead side window version scan sum) now x = absurd x
   by-phase (Check side version seen) now x = absurd x
-  by-phase (QueueCommit Putting seen) now x = put-commit g good kind L s q common inv i n seen now x
-  by-phase (QueueCommit Taking seen) now x = take-commit g good kind L s q common inv i n seen now x
+  by-phase (QueueCommit Putting window seen) now x = put-commit g good kind L s q inv i n window seen now x
+  by-phase (QueueCommit Taking window seen) now x = take-commit g good kind L s q inv i n window seen now x
   by-phase (StackCommit side seen) now x = absurd x
-  by-phase (QueueShift Putting window) now x = put-shift g good kind L s q common inv i n window now x
-  by-phase (QueueShift Taking window) now x = take-shift g good kind L s q common inv i n window now ready x
+  by-phase (QueueShift Putting window) now x = put-shift g good kind L s q inv i n window now x
+  by-phase (QueueShift Taking window) now x = take-shift g good kind L s q inv i n window now ready x
   by-phase (StackShift side version scan sum) now x = absurd x
-  by-phase (Confirm Putting scan sum) now x = absurd x
-  by-phase (Confirm Taking scan sum) now x = take-confirm g good kind L s q common inv i n scan sum now x
+  by-phase (QueueConfirm window scan sum) now x = take-confirm g good kind L s q inv i n window scan sum now x
+  by-phase (StackConfirm side scan sum) now x = absurd x
 
   pub queue-step : queueLeft g L s n (subIn s i) (phaseIn g s i) → QueueResult g L s i n (applyIn g s i (ruleOf g (viewIn g s i)))
   unfolding ruleOf

@@ -2,35 +2,41 @@
 -- within a window that every sub is below, a miss is another sub's.
 use mathlib.Core.Path.{_≡_, refl, subst}
 use mathlib.Core.Logic.{_⊎_, inl, inr}
-use Prim.Native.Nat.{ℕ, suc, _+_, _-_, _^_, _≤_, _<_}
+use Prim.Native.Nat.{ℕ, suc, _-_, _%_, _≤_, _<_}
 use native.Mathlib.Omega.{arith}
 use lib.Dec.{leb, eqb}
 use borrow.Author.Tests.{leb-true, eqb-true, eqb-false}
 use Rattle.laws.specs.Choice.{cases}
+use Rattle.laws.specs.Wrap.{add32}
 use Rattle.rules.specs.Worker.{zeroSlot}
-use Rattle.rules.specs.Effects.{movedOf, nextOf, withPass}
+use Rattle.rules.specs.Effects.{movedOf, nextOf, withPass, takeWindow}
 use Rattle.rules.specs.Window.{windowRule}
 use Rattle.rules.specs.Read.{queueTakeRead, queueTakeMiss, afterTakes}
 use Rattle.rules.specs.Sequential.{Contents}
-use Rattle.rules.proofs.Types.{Settings, Taking, Phase, QueueTakeRead, QueueCommit, QueueShift, Confirm, Effect}
-use Rattle.rules.proofs.counts.Sums.{sumN}
-use Rattle.rules.proofs.counts.Wraps.{add32-is, add32-suc, next-lt}
+use Rattle.rules.proofs.Types.{Settings, Taking, Phase, QueueTakeRead, QueueCommit, QueueShift, QueueConfirm, Span, Effect}
+use Rattle.rules.proofs.counts.Wraps.{add32-suc, next-lt}
 use Rattle.rules.proofs.counts.Visits.{Visited, visited-none, visited-all, visited-next}
-use Rattle.rules.proofs.counts.Passes.{summed-more, summed-le}
-use Rattle.rules.proofs.machine.Machine.{State, subIn, viewIn, phaseIn, applyIn}
+use Rattle.rules.proofs.machine.Machine.{Frame, State, markOf, subIn, viewIn, phaseIn, applyIn}
+use Rattle.rules.proofs.machine.Phases.{OfQueue}
 use Rattle.rules.proofs.machine.Good.{Good}
-use Rattle.rules.proofs.machine.Turns.{Common}
-use Rattle.rules.proofs.queue.Inv.{TakeReads, Knows, Inv, sum-few}
+use Rattle.rules.proofs.queue.Inv.{Windows, Sees, TakeReads, Knows, Inv}
+use Rattle.rules.proofs.queue.View.{of-now, take-window-is, put-row}
 use Rattle.rules.proofs.progress.Clean.{Clean, clean-start, clean-more, rest-start}
 use Rattle.rules.proofs.progress.Steps.{miss-cases}
 use Rattle.rules.proofs.progress.Confirm.{AtConfirm}
-use Rattle.rules.proofs.progress.QueueLeft.{Low, TakeWindow, TakeRead, TakeCommit, TakeShift, TakeConfirm}
+use Rattle.rules.proofs.progress.QueueSeen.{wide-le, wide16, take-wide}
+use Rattle.rules.proofs.progress.QueueLeft.{takeNow, Low, countOf, TakeWindow, TakeRead, TakeCommit, TakeShift, TakeConfirm}
 use Rattle.rules.proofs.progress.QueueResult.{QueueResult, queue-on}
 
-module _ (g : Settings) (good : Good g) (kind : g .kind ≡ 0) (L : ℕ) (enough : g .width < L) (s : State) (q : Contents) (common : Common g s) (inv : Inv g s q)
-    (i n : ℕ) where
+module _ (g : Settings) (good : Good g) (kind : g .kind ≡ 0) (L : ℕ) (enough : g .width < L) (s : State) (q : Contents) (inv : Inv g s q) (i n : ℕ) where
   abbrev Steps : Effect → Type 0
   Steps e = QueueResult g L s i n (applyIn g s i e)
+
+  abbrev f : Frame
+  f = s .frame
+
+  abbrev w : Windows g f
+  w = inv .pool .windows
 
   abbrev j : ℕ
   j = subIn s i
@@ -41,43 +47,56 @@ module _ (g : Settings) (good : Good g) (kind : g .kind ≡ 0) (L : ℕ) (enough
   abbrev taken : ℕ → ℕ
   taken = s .second
 
-  index : j < g .width
-  index = common .slots i .index
-
-  width1 : 1 ≤ g .width
-  width1 = good .bounds .width1
-
-  few : sumN put (g .width) < 2 ^ 32
-  few = omega (arith, sum-few good (inv .pool))
-
   -- ---- window
-  window-some : TakeWindow g L (s .mark) put taken n → 1 ≤ n
+  window-some : TakeWindow g L (takeNow f) put taken n → 1 ≤ n
   window-some (TakeWindow.any m) = omega arith
-  window-some (TakeWindow.confirms l m) = omega (arith, width1)
+  window-some (TakeWindow.confirms l m) = omega (arith, good .bounds .width1)
   window-some (TakeWindow.hits l stock m) = omega arith
 
-  fresh-pass : TakeWindow g L (s .mark) put taken n → TakeRead g L (s .mark) put taken (n - 1) j (s .mark) 0 0
-  fresh-pass (TakeWindow.any m) = TakeRead.fresh (clean-start (g .width) put j) refl (omega arith)
-  fresh-pass (TakeWindow.confirms l m) = TakeRead.confirms (clean-start (g .width) put j) refl l (omega (arith, width1))
-  fresh-pass (TakeWindow.hits l stock m) = TakeRead.hits refl l (stock .0) (stock .1) (stock .2) (λ v. visited-none (stock .1) v) (omega arith)
+  fresh-pass : (index : ℕ) (window : Span) → Sees f (f .head) window → window .top ≡ markOf f → TakeWindow g L (takeNow f) put taken n
+      → TakeRead g L (takeNow f) put taken (n - 1) index window 0 0
+  fresh-pass index window k e (TakeWindow.any m) =
+      TakeRead.fresh (clean-start (window .width) (countOf put window) index) e (omega (arith, wide-le (inv .pool) (w .order) k))
+  fresh-pass index window k e (TakeWindow.confirms l m) =
+      TakeRead.confirms (clean-start (window .width) (countOf put window) index) e l (omega (arith, wide-le (inv .pool) (w .order) k))
+  fresh-pass index window k e (TakeWindow.hits l stock m) =
+      let inside : stock .0 < window .width = omega (arith, take-wide (inv .pool) k e, stock .1) in
+      TakeRead.hits e l (stock .0) inside (stock .2) (λ v. visited-none inside v) (omega (arith, wide-le (inv .pool) (w .order) k))
 
-  pub take-window : TakeWindow g L (s .mark) put taken n → Steps (windowRule g (viewIn g s i) Taking)
+  pub take-window : TakeWindow g L (takeNow f) put taken n → Steps (windowRule g (viewIn g s i) Taking)
   unfolding windowRule
   take-window left =
-      cases (λ (p : Phase). Steps (movedOf (viewIn g s i) j p zeroSlot)) (eqb (g .kind) 0) _ _
-      (λ e. queue-on g kind L s i n j (QueueTakeRead (s .mark) 0 0 0) tt zeroSlot (window-some left) (fresh-pass left))
+      let window : Span = takeWindow (viewIn g s i) in
+      cases Steps (eqb (g .kind) 0) _ _
+      (λ e. queue-on g kind L s i n (j % window .width) (QueueTakeRead window 0 0 0) refl zeroSlot (window-some left)
+      (fresh-pass (j % window .width) window (take-window-is (inv .pool) i) (inv .pool .mark) left))
       (λ e. absurd (eqb-false _ _ e kind))
 
   -- ---- read
-  module _ (window bare scan sum : ℕ) (now : phaseIn g s i ≡ QueueTakeRead window bare scan sum) where
-    k : TakeReads g s j window bare scan sum
-    k = subst (Knows g s j) now (inv .knows i)
+  module _ (window : Span) (bare scan sum : ℕ) (now : phaseIn g s i ≡ QueueTakeRead window bare scan sum) where
+    k : TakeReads s j window bare scan sum
+    k = subst (Knows s j) now (inv .knows i)
 
-    scan-lt : scan < g .width
+    scan-lt : scan < window .width
     scan-lt = k .scan-lt
 
+    index : j < window .width
+    index = k .read .index-lt
+
+    wide : window .width ≤ g .width
+    wide = wide-le (inv .pool) (w .order) (k .read .sees)
+
+    few : window .width ≤ 16
+    few = wide16 (inv .pool) (w .order) (k .read .sees) (good .bounds)
+
+    abbrev on : ℕ
+    on = nextOf (window .width) j
+
+    on-lt : on < window .width
+    on-lt = next-lt (window .width) j (omega (arith, scan-lt))
+
     abbrev Reads : Type 0
-    Reads = TakeRead g L (s .mark) put taken n j window scan sum
+    Reads = TakeRead g L (takeNow f) put taken n j window scan sum
 
     read-some : Reads → 1 ≤ n
     read-some (TakeRead.stale m) = omega (arith, scan-lt)
@@ -87,37 +106,46 @@ module _ (g : Settings) (good : Good g) (kind : g .kind ≡ 0) (L : ℕ) (enough
     read-some (TakeRead.confirms c e l m) = omega (arith, scan-lt)
     read-some (TakeRead.hits e l x lx held ahead m) = omega (arith, scan-lt)
 
-    more : Clean (g .width) put j scan sum → Clean (g .width) put (nextOf g j) (suc scan) (sum + put j)
-    more c = clean-more g put j scan sum index scan-lt c
+    -- the pass with one sub more, whose last put row is not below the window's bottom
+    more : Clean (window .width) (countOf put window) j scan sum → Clean (window .width) (countOf put window) on (suc scan) (add32 sum (put j))
+    more c =
+        subst (λ (x : ℕ). Clean (window .width) (countOf put window) on (suc scan) (add32 sum x))
+        (put-row (inv .pool) window (f .head) (w .order) (k .read .sees) j (omega (arith, index, wide)))
+        (clean-more (countOf put window) j index scan-lt c)
 
-    confirmed : suc scan ≡ g .width → g .width ≤ n → Clean (g .width) put j scan sum → AtConfirm (g .width) put (n - 1) (nextOf g j) 0 (sum + put j)
-    confirmed last m c = record { rest = rest-start (next-lt g j width1) (rw last at (more c)); left = omega arith }
+    confirmed : suc scan ≡ window .width → window .width ≤ n → Clean (window .width) (countOf put window) j scan sum
+        → AtConfirm (window .width) (countOf put window) (n - 1) on 0 (add32 sum (put j))
+    confirmed last m c = record { rest = rest-start on-lt (rw last at (more c)); left = omega arith }
 
     -- ---- a miss: the sub is spent or bare
-    module _ (miss : (window ≤ taken j) ⊎ (put j ≡ taken j)) where
-      -- so it is not the one that holds an item within the window
-      other : (m : ℕ) → window ≡ s .mark → Low g (s .mark) taken → taken m < put m → m ≡ j → ⊥
+    module _ (miss : (window .top ≤ taken j) ⊎ (put j ≡ taken j)) where
+      -- no sub of a window that every sub is below is spent
+      not-spent : window .top ≡ markOf f → Low (takeNow f) taken → window .top ≤ taken j → ⊥
+      not-spent e l a = omega (arith, l j (omega (arith, index, take-wide (inv .pool) (k .read .sees) e)))
+
+      -- so this is not the one that holds an item within the window
+      other : (m : ℕ) → window .top ≡ markOf f → Low (takeNow f) taken → taken m < put m → m ≡ j → ⊥
       other m e l held u = by miss
         where
-          by : (window ≤ taken j) ⊎ (put j ≡ taken j) → ⊥
-          by (inl a) = omega (arith, l j index)
+          by : (window .top ≤ taken j) ⊎ (put j ≡ taken j) → ⊥
+          by (inl a) = not-spent e l a
           by (inr a) = let some : taken j < put j = rw u at held in omega arith
 
       -- which is still ahead
-      ahead-still : (m : ℕ) → window ≡ s .mark → Low g (s .mark) taken → m < g .width → taken m < put m → ¬ (Visited (g .width) j scan m)
-          → ¬ (Visited (g .width) (nextOf g j) (suc scan) m)
-      ahead-still m e l lm held ahead v = by (visited-next g index lm v)
+      ahead-still : (m : ℕ) → window .top ≡ markOf f → Low (takeNow f) taken → m < window .width → taken m < put m → ¬ (Visited (window .width) j scan m)
+          → ¬ (Visited (window .width) on (suc scan) m)
+      ahead-still m e l lm held ahead v = by (visited-next (window .width) index lm v)
         where
-          by : (m ≡ j) ⊎ Visited (g .width) j scan m → ⊥
+          by : (m ≡ j) ⊎ Visited (window .width) j scan m → ⊥
           by (inl u) = other m e l held u
           by (inr u) = ahead u
 
       -- and this is not the last sub
-      not-last : (m : ℕ) → window ≡ s .mark → Low g (s .mark) taken → m < g .width → taken m < put m → ¬ (Visited (g .width) j scan m)
-          → suc scan ≡ g .width → ⊥
-      not-last m e l lm held ahead last = ahead-still m e l lm held ahead (rw last (visited-all (next-lt g j width1) lm))
+      not-last : (m : ℕ) → window .top ≡ markOf f → Low (takeNow f) taken → m < window .width → taken m < put m → ¬ (Visited (window .width) j scan m)
+          → suc scan ≡ window .width → ⊥
+      not-last m e l lm held ahead last = ahead-still m e l lm held ahead (rw last (visited-all on-lt lm))
 
-      again : Reads → TakeRead g L (s .mark) put taken (n - 1) (nextOf g j) window (suc scan) (sum + put j)
+      again : Reads → TakeRead g L (takeNow f) put taken (n - 1) on window (suc scan) (add32 sum (put j))
       again (TakeRead.stale m) = TakeRead.stale (omega (arith, scan-lt))
       again (TakeRead.clean c m) = TakeRead.clean (more c) (omega (arith, scan-lt))
       again (TakeRead.fresh c e m) = TakeRead.fresh (more c) e (omega (arith, scan-lt))
@@ -126,42 +154,42 @@ module _ (g : Settings) (good : Good g) (kind : g .kind ≡ 0) (L : ℕ) (enough
       again (TakeRead.hits e l x lx held ahead m) = TakeRead.hits e l x lx held (ahead-still x e l lx held ahead) (omega (arith, scan-lt))
 
       -- the last sub is read, and none was bare: to shift
-      to-shift : suc scan ≡ g .width → window ≤ taken j → Reads → TakeShift g L (s .mark) put taken (n - 1) window
-      to-shift last spent (TakeRead.stale m) = TakeShift.stale (omega (arith, width1))
+      to-shift : suc scan ≡ window .width → window .top ≤ taken j → Reads → TakeShift g L (takeNow f) put taken (n - 1) window
+      to-shift last spent (TakeRead.stale m) = TakeShift.stale (omega arith)
       to-shift last spent (TakeRead.clean c m) = TakeShift.stale (omega arith)
       to-shift last spent (TakeRead.fresh c e m) = TakeShift.fresh e (omega arith)
       to-shift last spent (TakeRead.late c l r m) = TakeShift.late l r (omega arith)
-      to-shift last spent (TakeRead.confirms c e l m) = absurd (omega (arith, l j index))
+      to-shift last spent (TakeRead.confirms c e l m) = absurd (not-spent e l spent)
       to-shift last spent (TakeRead.hits e l x lx held ahead m) = absurd (not-last x e l lx held ahead last)
 
       -- to confirm
-      to-confirm : suc scan ≡ g .width → Reads → TakeConfirm g L (s .mark) put taken (n - 1) (nextOf g j) 0 (sum + put j)
+      to-confirm : suc scan ≡ window .width → Reads → TakeConfirm g L (takeNow f) put taken (n - 1) on window 0 (add32 sum (put j))
       to-confirm last (TakeRead.stale m) = TakeConfirm.stale (omega arith)
-      to-confirm last (TakeRead.clean c m) = TakeConfirm.clean (confirmed last (omega arith) c)
-      to-confirm last (TakeRead.fresh c e m) = TakeConfirm.clean (confirmed last (omega arith) c)
-      to-confirm last (TakeRead.late c l r m) = TakeConfirm.clean (confirmed last (omega arith) c)
+      to-confirm last (TakeRead.clean c m) = TakeConfirm.clean (confirmed last (omega (arith, wide)) c)
+      to-confirm last (TakeRead.fresh c e m) = TakeConfirm.clean (confirmed last (omega (arith, wide)) c)
+      to-confirm last (TakeRead.late c l r m) = TakeConfirm.clean (confirmed last (omega (arith, wide)) c)
       to-confirm last (TakeRead.confirms c e l m) = TakeConfirm.clean (confirmed last (omega arith) c)
       to-confirm last (TakeRead.hits e l x lx held ahead m) = absurd (not-last x e l lx held ahead last)
 
-    -- where no sub was bare, this one is spent
-    missed : (bare′ : ℕ) → (window ≤ taken j) ⊎ (put j ≡ taken j) → (bare′ ≡ 0 → window ≤ taken j) → Reads
-        → Steps (queueTakeMiss g (viewIn g s i) window bare′ scan (sum + put j))
-    missed bare′ miss spent left =
-        miss-cases g good (viewIn g s i) Steps scan (λ x. QueueTakeRead window bare′ x (sum + put j)) (afterTakes window bare′ (sum + put j)) _ scan-lt
-        (λ l. queue-on g kind L s i n (nextOf g j) (QueueTakeRead window bare′ (suc scan) (sum + put j)) tt _ (read-some left) (again miss left))
-        (λ e. cases (λ (p : Phase). Steps (movedOf (viewIn g s i) (nextOf g j) p (withPass (s .slot i) bare′ 0 (sum + put j)))) (eqb bare′ 0) _ _
-        (λ z. queue-on g kind L s i n (nextOf g j) (QueueShift Taking window) tt _ (read-some left) (to-shift miss e (spent (eqb-true _ _ z)) left))
-        (λ z. queue-on g kind L s i n (nextOf g j) (Confirm Taking 0 (sum + put j)) tt _ (read-some left) (to-confirm miss e left)))
+    of : OfQueue g (QueueTakeRead window bare scan sum)
+    of = of-now g kind s i (QueueTakeRead window bare scan sum) now
 
-    pub take-read : Reads → Steps (queueTakeRead g (viewIn g s i) window bare scan sum)
+    -- where no sub was bare, this one is spent
+    missed : (bare′ : ℕ) → (window .top ≤ taken j) ⊎ (put j ≡ taken j) → (bare′ ≡ 0 → window .top ≤ taken j) → Reads
+        → Steps (queueTakeMiss (viewIn g s i) window bare′ scan (add32 sum (put j)))
+    missed bare′ miss spent left =
+        miss-cases (window .width) few (viewIn g s i) Steps scan (λ x. QueueTakeRead window bare′ x (add32 sum (put j))) (afterTakes window bare′ (add32 sum (put j))) _ scan-lt
+        (λ l. queue-on g kind L s i n on (QueueTakeRead window bare′ (suc scan) (add32 sum (put j))) of _ (read-some left) (again miss left))
+        (λ e. cases (λ (p : Phase). Steps (movedOf (viewIn g s i) on p (withPass (s .slot i) bare′ 0 (add32 sum (put j))))) (eqb bare′ 0) _ _
+        (λ z. queue-on g kind L s i n on (QueueShift Taking window) of _ (read-some left) (to-shift miss e (spent (eqb-true _ _ z)) left))
+        (λ z. queue-on g kind L s i n on (QueueConfirm window 0 (add32 sum (put j))) of _ (read-some left) (to-confirm miss e left)))
+
+    pub take-read : Reads → Steps (queueTakeRead (viewIn g s i) window bare scan sum)
     unfolding queueTakeRead
     take-read left =
-        rw (
-          add32-is sum (put j) (omega (arith, few, summed-le (summed-more g put j scan sum index scan-lt (k .read .sums)))),
-          add32-suc bare (omega (arith, k .read .bare-le, scan-lt, good .bounds .width16)),
-        )
-        (cases Steps (leb window (taken j)) _ _
+        rw (add32-suc bare (omega (arith, k .read .bare-le, scan-lt, few)))
+        (cases Steps (leb (window .top) (taken j)) _ _
         (λ t. missed bare (inl (leb-true _ _ t)) (λ z. leb-true _ _ t) left)
         (λ t. cases Steps (eqb (put j) (taken j)) _ _
         (λ u. missed (suc bare) (inr (eqb-true _ _ u)) (λ z. absurd (omega arith)) left)
-        (λ u. queue-on g kind L s i n j (QueueCommit Taking (taken j)) tt _ (read-some left) (TakeCommit.live refl))))
+        (λ u. queue-on g kind L s i n j (QueueCommit Taking window (taken j)) of _ (read-some left) (TakeCommit.live refl))))

@@ -46,7 +46,7 @@ module _ (g : Settings) (k : Kind g) {most : Side → ℕ} (law : SoloLaw g k mo
 
   module _ (s : State) (q : Contents) (common : Common g s) (inv : k .Inv s q) (i n : ℕ) (left : LeftIn s n i) where
     busy : s .slot i .number ≢ 0
-    busy e = law .busy s n (subIn s i) (subst (law .Left s n (subIn s i)) (idle-phase (g .kind) (s .slot i) e) left)
+    busy e = law .busy s n (subIn s i) (subst (law .Left s n (subIn s i)) (idle-phase g (s .slot i) e) left)
 
     unchanged : (c : Call) (o : Next State) → c ≢ step i → o .state ≡ s → After s i n c o
     unchanged c o u e = passes u (ap (λ (t : State). t .steps) e) (subst (λ (t : State). LeftIn t n i) (sym e) left)
@@ -69,7 +69,7 @@ module _ (g : Settings) (k : Kind g) {most : Side → ℕ} (law : SoloLaw g k mo
         let x : Slot = fresh v (subIn s j) (Window side) in
         let same : begun s j side v .slot i ≡ s .slot i = upd-other (s .slot) j x i other in
         rw e (passes u refl
-        (subst (λ (y : Slot). law .Left (begun s j side v) n (y .index) (phaseOf (g .kind) y)) (sym same) (law .apart s j x n (subIn s i) (phaseIn g s i) left)))
+        (subst (λ (y : Slot). law .Left (begun s j side v) n (y .index) (phaseOf g y)) (sym same) (law .apart s j x n (subIn s i) (phaseIn g s i) left)))
 
     after-call : i < g .workers → s .steps < stepLimit → (c : Call)
         → ((j : ℕ) → c ≡ step j → numberOf (nextIn g s c .answer) ≤ 4 → j ≡ i) → After s i n c (nextIn g s c)

@@ -11,7 +11,7 @@
 use mathlib.Core.Path.{_≡_}
 use Prim.Native.Nat.{ℕ, zero, suc, _+_, _-_, _≤_, _<_, max}
 use Rattle.rules.specs.Effects.{movedOf}
-use Rattle.rules.proofs.Types.{Settings, Side, Putting, Taking, Phase, Idle, Window, QueuePutRead, QueueTakeRead, StackRead, Check, QueueCommit, StackCommit, QueueShift, StackShift, Confirm, Slot}
+use Rattle.rules.proofs.Types.{Settings, Side, Putting, Taking, Phase, Idle, Window, QueuePutRead, QueueTakeRead, StackRead, Check, QueueCommit, StackCommit, QueueShift, StackShift, QueueConfirm, StackConfirm, Slot}
 use Rattle.rules.proofs.machine.Machine.{State, viewIn, applyIn}
 use Rattle.rules.proofs.machine.Phases.{worker, OfStack, stack-phase}
 use Rattle.rules.proofs.stack.Inv.{Sight, sight, Hit}
@@ -62,11 +62,12 @@ Left g v n index (QueuePutRead window scan) = ⊥
 Left g v n index (QueueTakeRead window bare scan sum) = ⊥
 Left g v n index (StackRead side window version scan sum) = Reads g v n side index window (version .0) scan sum
 Left g v n index (Check side version seen) = Checks v n index (version .0) (seen .0)
-Left g v n index (QueueCommit side seen) = ⊥
+Left g v n index (QueueCommit side window seen) = ⊥
 Left g v n index (StackCommit side seen) = seen .0 ≡ v .version index
 Left g v n index (QueueShift side window) = ⊥
 Left g v n index (StackShift side version scan sum) = Shifts g v n side index (version .0) sum
-Left g v n index (Confirm side scan sum) = AtConfirm (g .width) (v .version) n index scan sum
+Left g v n index (QueueConfirm window scan sum) = ⊥
+Left g v n index (StackConfirm side scan sum) = AtConfirm (g .width) (v .version) n index scan sum
 
 abbrev pub stackLeft : Settings → Measure
 stackLeft g s n index p = Left g (sight s) n index p

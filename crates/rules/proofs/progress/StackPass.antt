@@ -1,27 +1,26 @@
 -- The steps of a stack's worker, alone, up to its commit: each lowers what it has left (StackLeft), and the commit is final.
 use mathlib.Core.Path.{_≡_, refl, sym}
 use mathlib.Core.Bool.{false}
-use Prim.Native.Nat.{ℕ, suc, _+_, _-_, _≤_, _<_}
+use Prim.Native.Nat.{ℕ, suc, _-_, _≤_, _<_}
 use native.Mathlib.Omega.{arith}
 use lib.Dec.{eqb}
-use borrow.Author.Tests.{ltb-false, eqb-false}
-use Rattle.laws.specs.Choice.{cond, cond-false, cases}
-use Rattle.laws.specs.Wrap.{sub32}
+use borrow.Author.Tests.{ltb-false, eqb-true, eqb-false}
+use Rattle.laws.specs.Choice.{cases}
+use Rattle.laws.specs.Wrap.{add32, sub32}
 use Rattle.rules.specs.Worker.{zeroSlot}
-use Rattle.rules.specs.Effects.{nextOf}
-use Rattle.rules.specs.Window.{windowRule, queueSeen, stackSeen}
+use Rattle.rules.specs.Effects.{nextOf, windowVersion}
+use Rattle.rules.specs.Window.{windowRule}
 use Rattle.rules.specs.Read.{stackRead, stackHit}
 use Rattle.rules.specs.Check.{checkRule}
 use Rattle.rules.specs.Commit.{stackCommit}
 use Rattle.rules.specs.Sequential.{Contents}
 use Rattle.rules.proofs.Types.{Settings, Side, Putting, Taking, StackRead, Check, StackCommit, StackShift, Version, Effect}
-use Rattle.rules.proofs.counts.Wraps.{add32-is, sub32-is}
+use Rattle.rules.proofs.counts.Wraps.{sub32-is}
 use Rattle.rules.proofs.order.Gives.{final-put, final-taken}
 use Rattle.rules.proofs.machine.Machine.{State, subIn, viewIn, phaseIn, applyIn, applyInBy}
 use Rattle.rules.proofs.machine.Good.{Good}
 use Rattle.rules.proofs.machine.Turns.{Common}
-use Rattle.rules.proofs.stack.Inv.{sight, Hit, Reading, Inv, versions-few}
-use Rattle.rules.proofs.stack.Pass.{sum-le-versions}
+use Rattle.rules.proofs.stack.Inv.{sight, Hit, Reading, Inv}
 use Rattle.rules.proofs.stack.Commit.{landsOf, commit-cases}
 use Rattle.rules.proofs.progress.Clean.{Clean, clean-start, clean-more}
 use Rattle.rules.proofs.progress.StackDue.{AtWindow, window-left, window-read, read-again, read-shift}
@@ -48,9 +47,9 @@ module _ (g : Settings) (good : Good g) (kind : g .kind ≡ 1) (s : State) (q : 
   unfolding windowRule
   window-step a =
       let many : 2 < n = window-left hit-base a in
-      let seen : cond (eqb (g .kind) 0) (queueSeen (viewIn g s i) side) (stackSeen (viewIn g s i) side) ≡ stackSeen (viewIn g s i) side =
-      rw kind (cond-false _ _) in
-      rw seen (stack-on g kind s i n j (stackSeen (viewIn g s i) side) tt zeroSlot (omega arith)
+      cases Steps (eqb (g .kind) 0) _ _
+      (λ e. absurd (omega (arith, eqb-true (g .kind) 0 e)))
+      (λ e. stack-on g kind s i n j (StackRead side (s .top) (windowVersion (viewIn g s i)) 0 0) tt zeroSlot (omega arith)
       (record { window-is = refl; version-is = refl; clean = clean-start (g .width) (s .second) j; left = window-read hit-base a }))
 
   module _ (window : ℕ) (version : Version) (scan sum : ℕ) (now : phaseIn g s i ≡ StackRead side window version scan sum)
@@ -66,8 +65,8 @@ module _ (g : Settings) (good : Good g) (kind : g .kind ≡ 1) (s : State) (q : 
         sub32-is window (g .depth) (k .depth-le) (omega (arith, k .le-rows, good .bounds .rows1024)) in
         omega (arith, a .window-is, k .depth-le, ltb-false (sub32 window (g .depth)) (s .first j) t)
 
-    more : Clean (g .width) (s .second) (nextOf g j) (suc scan) (sum + s .second j)
-    more = clean-more g (s .second) j scan sum index (k .scan-lt) (a .clean)
+    more : Clean (g .width) (s .second) (nextOf (g .width) j) (suc scan) (add32 sum (s .second j))
+    more = clean-more (s .second) j index (k .scan-lt) (a .clean)
 
     pub read-step : Steps (stackRead g (viewIn g s i) side window version scan sum)
     unfolding stackRead
@@ -78,17 +77,16 @@ module _ (g : Settings) (good : Good g) (kind : g .kind ≡ 1) (s : State) (q : 
         (record { version-is = a .version-is; seen-is = refl; able = omega arith }))
         (λ t.
         let none : NearBy 0 → ⊥ = λ near. no-miss side t (near j index) in
-        rw (add32-is sum (s .second j) (omega (arith, versions-few (inv .pool), sum-le-versions index k)))
-        (miss-cases g good (viewIn g s i) Steps scan (λ x. StackRead side window version x (sum + s .second j)) (StackShift side version 0 (sum + s .second j)) _ (k .scan-lt)
-        (λ l. stack-on g kind s i n (nextOf g j) (StackRead side window version (suc scan) (sum + s .second j)) tt _ (omega arith)
+        miss-cases (g .width) (good .bounds .width16) (viewIn g s i) Steps scan (λ x. StackRead side window version x (add32 sum (s .second j))) (StackShift side version 0 (add32 sum (s .second j))) _ (k .scan-lt)
+        (λ l. stack-on g kind s i n (nextOf (g .width) j) (StackRead side window version (suc scan) (add32 sum (s .second j))) tt _ (omega arith)
         (record {
           window-is = a .window-is;
           version-is = a .version-is;
           clean = more;
           left = read-again (a .left) hit-base none l;
         }))
-        (λ e. stack-on g kind s i n (nextOf g j) (StackShift side version 0 (sum + s .second j)) tt _ (omega arith)
-        (record { version-is = a .version-is; clean = rw e at more; left = read-shift (a .left) none e }))))
+        (λ e. stack-on g kind s i n (nextOf (g .width) j) (StackShift side version 0 (add32 sum (s .second j))) tt _ (omega arith)
+        (record { version-is = a .version-is; clean = rw e at more; left = read-shift (a .left) none e })))
 
   pub check-step : (version seen : Version) → Checks (sight s) n j (version .0) (seen .0) → Steps (checkRule (viewIn g s i) side version seen)
   unfolding checkRule

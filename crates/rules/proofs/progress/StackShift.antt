@@ -4,20 +4,19 @@ use Prim.Native.Nat.{ℕ, zero, suc, _+_, _-_, _^_, _<_}
 use native.Mathlib.Omega.{arith}
 use lib.Dec.{eqb}
 use borrow.Author.Tests.{eqb-false}
-use Rattle.laws.specs.Choice.{cond-false, cases}
+use Rattle.laws.specs.Choice.{cases}
 use Rattle.laws.specs.Wrap.{add32, sub32}
 use Rattle.rules.specs.Effects.{movedOf, nextOf}
 use Rattle.rules.specs.Shift.{stackShift, shiftBy, shiftedOf}
-use Rattle.rules.specs.Confirm.{counted, confirmRule}
+use Rattle.rules.specs.Confirm.{stackConfirm}
 use Rattle.rules.specs.Sequential.{Contents}
-use Rattle.rules.proofs.Types.{Settings, Side, Putting, Taking, Window, StackShift, Confirm, Version, Effect}
-use Rattle.rules.proofs.counts.Sums.{sumN}
+use Rattle.rules.proofs.Types.{Settings, Side, Putting, Taking, StackShift, StackConfirm, Version, Effect}
+use Rattle.rules.specs.declared.Outcome.the-variants.{Shifted}
 use Rattle.rules.proofs.counts.Wraps.{add32-is, add32-suc, sub32-is}
-use Rattle.rules.proofs.machine.Machine.{State, subIn, viewIn, phaseIn, applyIn}
-use Rattle.rules.proofs.machine.Phases.{worker, stack-phase}
+use Rattle.rules.proofs.machine.Machine.{State, subIn, viewIn, phaseIn, applyIn, apply-shifted}
 use Rattle.rules.proofs.machine.Good.{Good}
 use Rattle.rules.proofs.machine.Turns.{Common}
-use Rattle.rules.proofs.stack.Inv.{sight, Shifting, Inv, versions-few, window-ge, window-le}
+use Rattle.rules.proofs.stack.Inv.{sight, Shifting, Inv, versions-few, version-few, window-ge, window-le}
 use Rattle.rules.proofs.progress.Clean.{rest-start}
 use Rattle.rules.proofs.progress.StackDue.{shift-window, shift-confirm, shift-left}
 use Rattle.rules.proofs.progress.Steps.{Result, goes, shifts-on, finds-nothing}
@@ -43,17 +42,17 @@ module _ (g : Settings) (good : Good g) (kind : g .kind ≡ 1) (s : State) (q : 
     nearer Putting c (suc k) h = h
     nearer Taking c (suc k) h = h
 
-    moved : (side : Side) → Shifts g (sight s) n side j (version .0) sum → Steps (shiftedOf (viewIn g s i) side (shifted g side (s .top)) (suc (s .mark)))
+    moved : (side : Side) → Shifts g (sight s) n side j (version .0) sum → Steps (shiftedOf (viewIn g s i) Shifted side (shifted g side (s .top)) (suc (s .mark)))
     moved side a =
-        goes (shifts-on g (stackLeft g) s i n side (shifted g side (s .top)) (suc (s .mark)) (stack-phase g kind (worker (s .slot i .value) j (Window side)) tt (s .slot i))
+        goes (shifts-on g (stackLeft g) s i n side (shifted g side (s .top)) (suc (s .mark)) (s .frame) _ (apply-shifted g s i side (shifted g side (s .top)) (suc (s .mark)))
         (shift-left (a .left)) (shift-window (a .left) (λ k near m l. nearer side (s .first m) k (near m l))))
 
     to-confirm : (side : Side) → phaseIn g s i ≡ StackShift side version scan sum → Shifts g (sight s) n side j (version .0) sum
-        → Steps (movedOf (viewIn g s i) j (Confirm side scan sum) (s .slot i))
+        → Steps (movedOf (viewIn g s i) j (StackConfirm side scan sum) (s .slot i))
     to-confirm side now a =
         let knows : Shifting g (sight s) (inv .ghost) side (version .0) j scan sum = rw now at (inv .knows i) in
         let start : scan ≡ 0 = knows .scan-is in
-        stack-on g kind s i n j (Confirm side scan sum) tt _ (shift-left (a .left))
+        stack-on g kind s i n j (StackConfirm side scan sum) tt _ (shift-left (a .left))
         (record { rest = rw start (rest-start index (a .clean)); left = omega (arith, shift-confirm (a .left) (omega arith), shift-left (a .left)) })
 
     mark-is : add32 (s .mark) 1 ≡ suc (s .mark)
@@ -77,13 +76,14 @@ module _ (g : Settings) (good : Good g) (kind : g .kind ≡ 1) (s : State) (q : 
         (λ t. cases Steps _ _ _ (λ u. moved Taking a) (λ u. to-confirm Taking now a))
         (λ t. absurd (eqb-false _ _ t (sym (a .version-is)))))
 
-  pub stack-confirm : (side : Side) (scan sum : ℕ) → phaseIn g s i ≡ Confirm side scan sum → AtConfirm (g .width) (s .second) n j scan sum
-      → Steps (confirmRule g (viewIn g s i) side scan sum)
+  pub stack-confirm : (side : Side) (scan sum : ℕ) → phaseIn g s i ≡ StackConfirm side scan sum → AtConfirm (g .width) (s .second) n j scan sum
+      → Steps (stackConfirm g (viewIn g s i) side scan sum)
+  unfolding stackConfirm
   stack-confirm side scan sum now a =
-      let read : counted g (viewIn g s i) ≡ s .second j = rw kind (cond-false _ _) in
-      let few : sumN (s .second) (g .width) < 2 ^ 32 = omega (arith, versions-few (inv .pool)) in
+      let small : s .second j < 2 ^ 32 = omega (arith, version-few (inv .pool) j index) in
       let scan-lt : scan < g .width = rw now at (inv .knows i) in
-      confirm-cases g good (viewIn g s i) Steps side scan sum (s .second j) read scan-lt
-      (λ l. stack-on g kind s i n (nextOf g j) (Confirm side (suc scan) (sub32 sum (s .second j))) tt _ (confirm-some a l) (confirm-more g a few index scan-lt))
-      (λ e. finds-nothing g (stackLeft g) s i n side (nextOf g j))
-      (λ e z kept. absurd (z (confirm-ends g a few index scan-lt good e)))
+      let rest : ℕ = sub32 sum (s .second j) in
+      confirm-cases (g .width) (good .bounds .width16) (viewIn g s i) Steps side scan rest (λ x. StackConfirm side x rest) scan-lt
+      (λ l. stack-on g kind s i n (nextOf (g .width) j) (StackConfirm side (suc scan) rest) tt _ (confirm-some a l) (confirm-more a small index scan-lt))
+      (λ e. finds-nothing g (stackLeft g) s i n side (nextOf (g .width) j))
+      (λ e z kept. absurd (z (confirm-ends a small index scan-lt e)))

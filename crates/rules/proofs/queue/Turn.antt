@@ -1,8 +1,8 @@
 -- The queue is a kind: its invariant holds of a new pool, every begin and every step keeps it, and each step is a turn of the
 -- placed order. Puts and takes are placed at their commits, "full" at the shift that cannot move; "empty" likewise, or at the read that
 -- sent a take to confirm. Each phase's step is in the file of the phase; here they are put together.
-use mathlib.Core.Path.{_≡_, refl, subst}
-use Prim.Native.Nat.{ℕ}
+use mathlib.Core.Path.{_≡_, refl, subst, _∙_}
+use Prim.Native.Nat.{ℕ, _<_}
 use native.Mathlib.Nat.{le-refl}
 use native.Mathlib.Omega.{arith}
 use lib.Dec.{eqb}
@@ -12,25 +12,23 @@ use Rattle.rules.specs.Worker.{zeroSlot}
 use Rattle.rules.specs.Effects.{refusedOf}
 use Rattle.rules.specs.Step.{ruleOf, ruleBy}
 use Rattle.rules.specs.Sequential.{Contents, noItems}
-use Rattle.rules.proofs.Types.{Settings, Side, Putting, Taking, Phase, Idle, Window, QueuePutRead, QueueTakeRead, StackRead, Check, QueueCommit, StackCommit, QueueShift, StackShift, Confirm}
+use Rattle.rules.proofs.Types.{Settings, Side, Putting, Taking, Phase, Idle, Window, QueuePutRead, QueueTakeRead, StackRead, Check, QueueCommit, StackCommit, QueueShift, StackShift, QueueConfirm, StackConfirm}
 use Rattle.rules.proofs.counts.Sums.{sum-zero}
+use Rattle.rules.proofs.figures.Figures.{full-queue}
 use Rattle.rules.proofs.order.Law.{refused}
-use Rattle.rules.proofs.machine.Machine.{State, subIn, viewIn, phaseIn, applyIn, applyInBy, madeIn}
-use Rattle.rules.proofs.machine.Phases.{idle-phase, worker}
+use Rattle.rules.proofs.machine.Machine.{State, placesIn, subIn, viewIn, phaseIn, applyIn, applyInBy, madeIn}
+use Rattle.rules.proofs.machine.Phases.{idle-phase, queue-phase, worker}
 use Rattle.rules.proofs.counts.Held.{count-none}
 use Rattle.rules.proofs.machine.Good.{Good}
 use Rattle.rules.proofs.machine.Turns.{Common, Kind}
 use Rattle.rules.proofs.machine.Calls.{begun}
 use Rattle.rules.proofs.machine.Ways.{Snap, Written, others-after}
-use Rattle.rules.proofs.queue.Inv.{Windows, Stamps, Knows, Inv, putsIn, holds-below}
-use Rattle.rules.proofs.queue.Others.{Grown}
-use Rattle.rules.proofs.queue.Moves.{Stepped, written, inv-after}
-use Rattle.rules.proofs.queue.Window.{put-window, take-window}
-use Rattle.rules.proofs.queue.Read.{put-read, take-read}
+use Rattle.rules.proofs.queue.Inv.{Windows, Knows, Inv, Grown, putsIn}
+use Rattle.rules.proofs.queue.Moves.{Stepped, inv-after}
+use Rattle.rules.proofs.queue.Put.{put-window, put-read, put-shift}
+use Rattle.rules.proofs.queue.Take.{take-window, take-read, take-shift, take-confirm}
 use Rattle.rules.proofs.queue.CommitPut.{put-commit}
-use Rattle.rules.proofs.queue.CommitTake.{take-commit}
-use Rattle.rules.proofs.queue.Shift.{put-shift, take-shift}
-use Rattle.rules.proofs.queue.Confirm.{take-confirm}
+use Rattle.rules.proofs.queue.CommitTake.{take-commit, holds-below}
 use Rattle.rules.proofs.queue.Safe.{queue-counts, queue-safe}
 
 module _ (g : Settings) (good : Good g) (kind : g .kind ≡ 0) where
@@ -38,32 +36,18 @@ module _ (g : Settings) (good : Good g) (kind : g .kind ≡ 0) where
   mark-made : cond (eqb (g .kind) 0) (g .depth) 0 ≡ g .depth
   mark-made = rw kind (cond-true _ _)
 
-  windows-made : Windows g (g .depth) (g .depth) (λ j. 0) (λ j. 0)
+  windows-made : Windows g (madeIn g .frame)
+  unfolding madeIn
   windows-made =
       record {
-        tops = 1;
-        marks = 1;
-        top-is = omega arith;
-        mark-is = omega arith;
         order = le-refl _;
+        ground = omega arith;
+        rise = λ k m l u. let a : k ≡ 0 = omega arith in let b : m ≡ 1 = omega arith in rw (a, b) (omega (arith, good .bounds .depth1));
+        deep = λ k l. omega (arith, good .bounds .depth64);
+        half = λ k l. omega (arith, good .bounds .rows2);
+        wide1 = λ k l. good .bounds .width1;
+        wide-le = λ k l. le-refl _;
         room = omega (arith, good .bounds .rows2);
-        put-le = λ j l. omega arith;
-        put-ge = λ j l. omega arith;
-        taken-le = λ j l. omega arith;
-        taken-ge = λ j l. omega arith;
-        held = λ j l. le-refl _;
-      }
-
-  stamps-made : Stamps g (λ j. 0) (λ j r. record { value = 0; stamp = 0 }) 0
-  stamps-made =
-      record {
-        each = record {
-          least = λ j r l a b. absurd (omega arith);
-          low = λ j r l a b. absurd (omega arith);
-          rise = λ j r r′ l a b c. absurd (omega arith);
-          apart = λ j k r r′ l l′ n a b a′ b′ e. omega arith;
-        };
-        order = λ j k r r′ c l l′ a b c′ a′ b′. absurd (omega arith);
       }
 
   pub at-first : Inv g (madeIn g) noItems
@@ -71,32 +55,77 @@ module _ (g : Settings) (good : Good g) (kind : g .kind ≡ 0) where
   at-first =
       record {
         pool = record {
-          windows = rw mark-made windows-made;
-          stamps = stamps-made;
-          total = sum-zero (g .width);
+          top = omega arith;
+          mark = mark-made ∙ omega arith;
+          windows = windows-made;
+          subs = record {
+            held = λ j. le-refl _;
+            put-le = λ j. omega arith;
+            taken-le = λ j. omega arith;
+            filled = λ k j l m. absurd (omega arith);
+            spent = λ k j l m. absurd (omega arith);
+            outside = λ k j l m n. omega arith;
+            low = λ j l. le-refl _;
+          };
+          items = record {
+            few = λ j r. le-refl _;
+            rise = λ j r r′ l m n. absurd (omega arith);
+            apart = λ j m r r′ n l. absurd (omega arith);
+            below = λ j r l. absurd (omega arith);
+            place = λ j r l. absurd (omega arith);
+            there = λ k j r l m n u v. absurd (omega arith);
+            order = λ c j m r r′ l u v x. absurd (omega arith);
+          };
+          size = record { wide1 = good .bounds .width1; wide-le = le-refl _; deep1 = good .bounds .depth1; deep64 = good .bounds .depth64; half = good .bounds .rows2 };
+          plain = λ e. record { base-is = λ k l. refl; wide-is = λ k l. refl; next-wide = refl; next-deep = refl; total = sum-zero (g .width) };
+          old = record { not-set = refl; times = good .times; rows-is = good .queue-rows kind };
+          first-few = le-refl _;
           puts-few = le-refl _;
           steps-few = omega arith;
           holds = record { same = λ p. omega (arith, count-none p) };
           count = refl;
         };
-        knows = λ i. rw (idle-phase (g .kind) (madeIn g .slot i) refl) tt;
+        knows = λ i. rw (idle-phase g (madeIn g .slot i) refl) tt;
       }
 
   -- ---- a begin
   module _ (s : State) (i : ℕ) (side : Side) (v : ℕ) where
-    up : Grown s (begun s i side v)
-    up = record { top = le-refl _; mark = le-refl _; put = λ j. le-refl _; taken = λ j. le-refl _ }
+    module _ (q : Contents) (inv : Inv g s q) where
+      up : Grown s (begun s i side v)
+      up =
+          record {
+            order = inv .pool .windows .order;
+            head = le-refl _;
+            tail = le-refl _;
+            base = λ k l. refl;
+            wide = λ k l. refl;
+            top = le-refl _;
+            put = λ j. le-refl _;
+            taken = λ j. le-refl _;
+          }
 
     pub opens : Written g putsIn s i (worker v (subIn s i) (Window side)) (begun s i side v)
-    opens = written g kind s i (worker v (subIn s i) (Window side)) zeroSlot (begun s i side v) tt refl up
+    opens =
+        record {
+          kept = zeroSlot;
+          slots = refl;
+          phase = queue-phase g kind (worker v (subIn s i) (Window side)) tt zeroSlot;
+          grown = λ j. le-refl _;
+        }
 
     pub begins : (q : Contents) → Inv g s q → Inv g (begun s i side v) q
     begins q inv =
         let o = inv .pool in
-        inv-after opens up inv (record {
+        inv-after opens (up q inv) inv (record {
+          top = o .top;
+          mark = o .mark;
           windows = o .windows;
-          stamps = o .stamps;
-          total = o .total;
+          subs = o .subs;
+          items = o .items;
+          size = o .size;
+          plain = o .plain;
+          old = o .old;
+          first-few = o .first-few;
           puts-few = o .puts-few;
           steps-few = o .steps-few;
           holds = o .holds;
@@ -107,28 +136,31 @@ module _ (g : Settings) (good : Good g) (kind : g .kind ≡ 0) where
   module _ (s : State) (q : Contents) (common : Common g s) (inv : Inv g s q) (i : ℕ) where
     rests : Stepped g s q i (applyIn g s i (refusedOf (viewIn g s i) workerIdle))
     unfolding applyIn applyInBy
-    rests = record { turn = λ few. refused (omega arith) refl; able = omega arith }
+    rests = record { turn = λ few. refused (omega arith) refl; able = omega arith; full = λ e. absurd (omega arith) }
 
-    knows-now : (p : Phase) → phaseIn g s i ≡ p → Knows g s (subIn s i) p
-    knows-now p now = subst (Knows g s (subIn s i)) now (inv .knows i)
+    knows-now : (p : Phase) → phaseIn g s i ≡ p → Knows s (subIn s i) p
+    knows-now p now = subst (Knows s (subIn s i)) now (inv .knows i)
+
+    index : subIn s i < g .width
+    index = common .slots i .index
 
     by-phase : (p : Phase) → phaseIn g s i ≡ p → Stepped g s q i (applyIn g s i (ruleBy g (viewIn g s i) p))
     unfolding ruleBy
     by-phase Idle now = rests
-    by-phase (Window Putting) now = put-window g good kind s q common inv i now
-    by-phase (Window Taking) now = take-window g good kind s q common inv i now
-    by-phase (QueuePutRead window scan) now = put-read g good kind s q common inv i window scan now
-    by-phase (QueueTakeRead window bare scan sum) now = take-read g good kind s q common inv i window bare scan sum now
+    by-phase (Window Putting) now = put-window g (good .bounds) kind s q inv i now
+    by-phase (Window Taking) now = take-window g (good .bounds) kind s q inv i index now
+    by-phase (QueuePutRead window scan) now = put-read g (good .bounds) kind s q inv i window scan now
+    by-phase (QueueTakeRead window bare scan sum) now = take-read g (good .bounds) kind s q inv i index window bare scan sum now
     by-phase (StackRead side window version scan sum) now = absurd (knows-now _ now)
     by-phase (Check side version seen) now = absurd (knows-now _ now)
-    by-phase (QueueCommit Putting seen) now = put-commit g good kind s q common inv i seen now
-    by-phase (QueueCommit Taking seen) now = take-commit g good kind s q common inv i seen now
+    by-phase (QueueCommit Putting window seen) now = put-commit g kind s q inv i window seen now
+    by-phase (QueueCommit Taking window seen) now = take-commit g kind s q inv i window seen now
     by-phase (StackCommit side seen) now = absurd (knows-now _ now)
-    by-phase (QueueShift Putting window) now = put-shift g good kind s q common inv i window now
-    by-phase (QueueShift Taking window) now = take-shift g good kind s q common inv i window now
+    by-phase (QueueShift Putting window) now = put-shift g (good .bounds) kind s q inv i window now
+    by-phase (QueueShift Taking window) now = take-shift g (good .bounds) kind s q inv i index window now
     by-phase (StackShift side version scan sum) now = absurd (knows-now _ now)
-    by-phase (Confirm Putting scan sum) now = absurd (knows-now _ now)
-    by-phase (Confirm Taking scan sum) now = take-confirm g good kind s q common inv i scan sum now
+    by-phase (QueueConfirm window scan sum) now = take-confirm g (good .bounds) kind s q inv i index window scan sum now
+    by-phase (StackConfirm side scan sum) now = absurd (knows-now _ now)
 
     pub stepped : Stepped g s q i (applyIn g s i (ruleOf g (viewIn g s i)))
     unfolding ruleOf
@@ -146,6 +178,7 @@ queueKind g good kind =
       counts = λ s q inv. queue-counts good kind inv;
       holding = λ s q inv. record { held = holds-below g kind s q (inv .pool); count = inv .pool .count };
       safe = λ s q common inv. queue-safe good kind inv common (λ i. stepped g good kind s q common inv i .able);
+      full = λ s q common inv i e. full-queue g (placesIn g s) (stepped g good kind s q common inv i .full e);
     }
 
 -- its invariant, from the kind, which stays shut

@@ -8,10 +8,12 @@ use Rattle.laws.specs.Wrap.{add32, sub32}
 use Rattle.rules.specs.Held.{Item}
 use Rattle.rules.specs.Effects.{hopOf}
 use Rattle.rules.specs.Commit.{stackCommit, removedOf}
-use Rattle.rules.specs.Sequential.{Contents, passedBy}
+use Rattle.rules.specs.Windows.{sizeOf}
+use Rattle.rules.specs.Measures.{ofSize}
+use Rattle.rules.specs.Sequential.{Contents, boundBy, passedBy}
 use Rattle.rules.proofs.Types.{Settings, Taking, StackCommit, Version}
 use Rattle.rules.proofs.counts.Sums.{upd, upd-same, upd-other, upd-all}
-use Rattle.rules.proofs.machine.Machine.{State, next, subIn, viewIn, phaseIn, takenIn, distanceIn, applyIn, applyInBy, lost-restarts}
+use Rattle.rules.proofs.machine.Machine.{State, answered, subIn, viewIn, phaseIn, takenIn, distanceIn, applyIn, applyInBy, lost-restarts}
 use Rattle.rules.proofs.counts.Wraps.{add32-suc, sub32-is}
 use Rattle.rules.proofs.counts.Held.{holds-top}
 use Rattle.rules.proofs.counts.Find.{RowFound, find-row}
@@ -22,13 +24,13 @@ use Rattle.rules.proofs.machine.Turns.{Holding}
 use Rattle.rules.proofs.stack.Inv.{Pairs, Inv, version-few, held-le, held-rows, rows-held}
 use Rattle.rules.proofs.stack.Moves.{Stepping, On, restart}
 use Rattle.rules.proofs.stack.Commit.{live-fits, take-row, commit-cases, committed, commits}
-use Rattle.rules.specs.Newer.{exactBound}
+use Rattle.rules.specs.Newer.{exactRows}
 use Rattle.rules.proofs.stack.Distance.{distance-is, newer-few}
 
 -- a live take passes over few newer items
 pub take-newer : {g : Settings} {s : State} {q : Contents} → Good g → g .kind ≡ 1 → (inv : Inv g s q) (i : ℕ) → subIn s i < g .width → (seen : Version)
     → phaseIn g s i ≡ StackCommit Taking seen → seen .0 ≡ s .second (subIn s i)
-    → passedBy g q (s .item (subIn s i) (s .first (subIn s i)) .stamp) ≤ exactBound g
+    → passedBy g q (s .item (subIn s i) (s .first (subIn s i)) .stamp) ≤ boundBy g (exactRows g) (sizeOf g)
 take-newer {g} {s} good kind inv i lj seen e live = newer-few g good kind (inv .pool) (subIn s i) lj (live-fits inv i Taking seen e live)
 
 module _ {g : Settings} {s : State} {q : Contents} {i : ℕ} (a : Stepping g s q i)
@@ -65,7 +67,7 @@ module _ {g : Settings} {s : State} {q : Contents} {i : ℕ} (a : Stepping g s q
   -- ---- the item that leaves
   found : RowFound it (q .items)
   found =
-      find-row (held-rows (a .inv .pool) (a .kind)) (λ m l. omega arith) j r j-lt there (le-refl _)
+      find-row (held-rows (a .inv .pool) (a .kind)) (λ m l. omega arith) j r j-lt there (le-refl _) (a .inv .pool .stamps .least j r j-lt there (le-refl _))
       (single (a .inv .pool .stamps) j r j-lt there (le-refl _))
 
   abbrev t : State
@@ -74,18 +76,18 @@ module _ {g : Settings} {s : State} {q : Contents} {i : ℕ} (a : Stepping g s q
   row-is : suc (held′ j) ≡ r
   row-is = omega (arith, upd-same (s .first) j (r - 1), there)
 
-  holding : Holding g t (takenOff g q (found .out))
+  holding : Holding g t (takenOff q (found .out))
   holding =
       record {
         held =
             rows-held g (a .kind) t (found .out .others)
-            (holds-top (held-rows (a .inv .pool) (a .kind)) j j-lt (sym row-is) (λ m n. upd-other (s .first) j (r - 1) m n)
+            (holds-top (held-rows (a .inv .pool) (a .kind)) j j-lt (rw row-is (a .inv .pool .stamps .least j r j-lt there (le-refl _))) (sym row-is) (λ m n. upd-other (s .first) j (r - 1) m n)
             (λ p. rw row-is (found .counts p)));
         count = a .inv .pool .holding .count;
       }
 
   -- ---- the step
-  pub apply-removed : applyIn g s i (removedOf (viewIn g s i) (sub32 r 1) (add32 (s .second j) 1) (record { 0 = r })) ≡ next (takenIn g s j r) t
+  pub apply-removed : applyIn g s i (removedOf (viewIn g s i) (sub32 r 1) (add32 (s .second j) 1) (record { 0 = r })) ≡ answered g s (takenIn g s j r) t
   unfolding applyIn applyInBy
   apply-removed =
       let o = a .inv .pool in
@@ -96,9 +98,9 @@ module _ {g : Settings} {s : State} {q : Contents} {i : ℕ} (a : Stepping g s q
   pub take-lands : On a (removedOf (viewIn g s i) (sub32 r 1) (add32 (s .second j) 1) (record { 0 = r }))
   take-lands =
       rw apply-removed
-      (commits a Taking seen e live (s .puts) (s .item) (takenOff g q (found .out)) (omega arith) stamps pairs holding
-      (takenIn g s j r) (final-taken _ _ _ _ _)
-      (gives-taken g q it j (record { 0 = r }) (distanceIn g s (it .stamp)) found (distance-is g (a .kind) (a .inv .pool) (it .stamp))
+      (commits a Taking seen e live (s .puts) (s .item) (takenOff q (found .out)) (omega arith) stamps pairs holding
+      (takenIn g s j r) (ofSize (sizeOf g)) (final-taken _ _ _ _ _)
+      (gives-taken g q (ofSize (sizeOf g)) it j (record { 0 = r }) (distanceIn g s (it .stamp)) found (distance-is g (a .kind) (a .inv .pool) (it .stamp))
       (take-newer (a .good) (a .kind) (a .inv) i j-lt seen e live)))
 
 pub take-commit : {g : Settings} {s : State} {q : Contents} {i : ℕ} (a : Stepping g s q i) (seen : Version) → phaseIn g s i ≡ StackCommit Taking seen

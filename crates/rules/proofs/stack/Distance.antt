@@ -5,7 +5,7 @@
 -- and none of its own. And lo + s is a window's height and at most R, so no sub holds more items than the highest window there is.
 use mathlib.Core.Path.{_≡_, ap, _∙_}
 use mathlib.Core.Logic.{_⊎_, inl, inr}
-use mathlib.Core.Bool.{Bool, false}
+use mathlib.Core.Bool.{Bool, false, _&&_}
 use Prim.Native.Nat.{ℕ, suc, _+_, _-_, _*_, _≤_, _<_}
 use native.Mathlib.Nat.{le-of-eq, eq-or-lt-of-le, le-refl}
 use native.Mathlib.Decide.{decLe}
@@ -13,14 +13,15 @@ use native.Mathlib.Omega.{arith}
 use borrow.Author.Tests.{le-ltb}
 use Rattle.laws.specs.Choice.{cond-false}
 use Rattle.rules.specs.Held.{Item, passedOver}
-use Rattle.rules.specs.Sequential.{Contents, passedBy, reportedBy}
-use Rattle.rules.specs.Newer.{exactRows, exactBound}
+use Rattle.rules.specs.Windows.{sizeOf}
+use Rattle.rules.specs.Sequential.{Contents, boundBy, passedBy, reportedBy}
+use Rattle.rules.specs.Newer.{exactRows}
 use Rattle.rules.proofs.Types.{Settings}
 use Rattle.rules.proofs.Cells.{stack-below}
 use Rattle.rules.proofs.counts.Sums.{sumN, upTo, upTo-none, rows-more, rows-flat, sum-zero, sum-within-but, times-pred}
 use Rattle.rules.proofs.counts.Wraps.{multiple-lt}
 use Rattle.rules.proofs.machine.Machine.{State, belowIn, countIn, distanceIn}
-use Rattle.rules.proofs.counts.Held.{held-count}
+use Rattle.rules.proofs.counts.Held.{real, fails-row, held-count}
 use Rattle.rules.proofs.machine.Good.{Good}
 use Rattle.rules.proofs.machine.Turns.{distance-held}
 use Rattle.rules.proofs.stack.Inv.{Ghost, Pool}
@@ -58,10 +59,10 @@ module _ (g : Settings) (good : Good g) (kind : g .kind ≡ 1) {s : State} {q : 
 
   -- row n of sub m is newer
   abbrev newer : ℕ → ℕ → Bool
-  newer m n = passedOver (g .kind) (it .stamp) (s .item m n)
+  newer m n = real (s .item m n) && passedOver (g .kind) (it .stamp) (s .item m n)
 
   not-newer : (m n : ℕ) → s .item m n .stamp ≤ it .stamp → newer m n ≡ false
-  not-newer m n l = rw kind (cond-false _ _ ∙ le-ltb _ _ l)
+  not-newer m n l = fails-row (passedOver (g .kind) (it .stamp)) (s .item m n) (rw kind (cond-false _ _ ∙ le-ltb _ _ l))
 
   -- the corridor's foot
   abbrev l : ℕ
@@ -114,10 +115,9 @@ module _ (g : Settings) (good : Good g) (kind : g .kind ≡ 1) {s : State} {q : 
       at-most n a (inl y) = le-of-eq (ap (λ (m : ℕ). s .item j m .stamp) y)
       at-most n a (inr y) = omega (arith, o .stamps .rise j n r lj a y (le-refl _))
 
-  pub newer-few : passedBy g q (it .stamp) ≤ exactBound g
-  unfolding exactBound
+  pub newer-few : passedBy g q (it .stamp) ≤ boundBy g (exactRows g) (sizeOf g)
   newer-few =
-      rw (bound-stack g _ kind) (omega (
+      rw (bound-stack g _ (sizeOf g) kind) (omega (
         arith,
         passed-is g kind o (it .stamp),
         times-pred (g .width) (exactRows g) (good .bounds .width1),

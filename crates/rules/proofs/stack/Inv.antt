@@ -12,7 +12,7 @@ use native.Mathlib.Omega.{arith}
 use Rattle.rules.specs.Limits.{stepLimit}
 use Rattle.rules.specs.Held.{Item}
 use Rattle.rules.specs.Sequential.{Contents}
-use Rattle.rules.proofs.Types.{Settings, Side, Putting, Taking, Phase, Idle, Window, QueuePutRead, QueueTakeRead, StackRead, Check, QueueCommit, StackCommit, QueueShift, StackShift, Confirm}
+use Rattle.rules.proofs.Types.{Settings, Side, Putting, Taking, Phase, Idle, Window, QueuePutRead, QueueTakeRead, StackRead, Check, QueueCommit, StackCommit, QueueShift, StackShift, QueueConfirm, StackConfirm}
 use Rattle.rules.proofs.Cells.{stack-below}
 use Rattle.rules.proofs.counts.Sums.{sumN, sum-gap-at, sum-zero}
 use Rattle.rules.proofs.machine.Machine.{State, belowIn, subIn, phaseIn}
@@ -135,7 +135,7 @@ Left g v ghost side read j =
 -- a pass that began at a version of the window
 pub record Passed (g : Settings) (v : Sight) (ghost : Ghost) (side : Side) (version index scan sum : ℕ) : Type 0 where
   pub began : version ≤ v .mark
-  pub summed : Summed (g .width) (v .version) index scan sum
+  pub summed : Summed (g .width) 0 (v .version) index scan sum
   pub left : version ≡ v .mark → (j : ℕ) → j < g .width → Visited (g .width) index scan j → Left g v ghost side (summed .reads j) j
 
 pub record Reading (g : Settings) (v : Sight) (ghost : Ghost) (side : Side) (window version index scan sum : ℕ) : Type 0 where
@@ -167,11 +167,12 @@ Knows g v ghost index (QueuePutRead window scan) = ⊥
 Knows g v ghost index (QueueTakeRead window bare scan sum) = ⊥
 Knows g v ghost index (StackRead side window version scan sum) = Reading g v ghost side window (version .0) index scan sum
 Knows g v ghost index (Check side version seen) = Checking g v side (version .0) (seen .0) index
-Knows g v ghost index (QueueCommit side seen) = ⊥
+Knows g v ghost index (QueueCommit side window seen) = ⊥
 Knows g v ghost index (StackCommit side seen) = Committing g v ghost side (seen .0) index
 Knows g v ghost index (QueueShift side window) = ⊥
 Knows g v ghost index (StackShift side version scan sum) = Shifting g v ghost side (version .0) index scan sum
-Knows g v ghost index (Confirm side scan sum) = scan < g .width
+Knows g v ghost index (QueueConfirm window scan sum) = ⊥
+Knows g v ghost index (StackConfirm side scan sum) = scan < g .width
 
 pub record Inv (g : Settings) (s : State) (q : Contents) : Type 0 where
   pub ghost : Ghost

@@ -33,7 +33,7 @@ abbrev pub moves : State → ℕ → ℕ → Phase → Worker
 moves s i index p = worker (s .slot i .value) index p
 
 abbrev pub still : State → ℕ → Worker → Slot → State
-still s i k kept = turnedIn s i (s .top) (s .mark) (encode k kept)
+still s i k kept = turnedIn s i (s .top) (s .mark) (s .frame) (encode k kept)
 
 -- worker i is written with a phase of the stack, and no version has fallen
 pub written : (g : Settings) → g .kind ≡ 1 → (s : State) (i : ℕ) (k : Worker) (kept : Slot) (t : State) → OfStack (k .phase)

@@ -8,7 +8,7 @@ use native.Mathlib.Nat.{le-trans}
 use native.Mathlib.Decide.{ℕ-discrete}
 use native.Mathlib.Omega.{arith}
 use Rattle.rules.specs.Limits.{Bounds}
-use Rattle.rules.proofs.Types.{Settings, Side, Phase, Idle, Window, QueuePutRead, QueueTakeRead, StackRead, Check, QueueCommit, StackCommit, QueueShift, StackShift, Confirm}
+use Rattle.rules.proofs.Types.{Settings, Side, Phase, Idle, Window, QueuePutRead, QueueTakeRead, StackRead, Check, QueueCommit, StackCommit, QueueShift, StackShift, QueueConfirm, StackConfirm}
 use Rattle.rules.proofs.counts.Passes.{summed-grow}
 use Rattle.rules.proofs.stack.Inv.{Ghost, Sight, Hit, Near, Fits, Windowed, Left, Passed, Committing, Knows}
 use Rattle.rules.proofs.stack.Corridor.{Able, windowAfter, loAfter, fits-fresh, fits-stale}
@@ -82,11 +82,12 @@ module _ {g : Settings} {v : Sight} {ghost : Ghost} {j : ℕ} {held′ version�
           seen-le = le-trans (k .seen-le) (versions-grow index);
           hit = λ u. unchanged (λ c. Hit g side (v .window) c) index (seen .0) (k .seen-le) (k .hit u);
         }
-    knows-touched index (QueueCommit side seen) k = k
+    knows-touched index (QueueCommit side window seen) k = k
     knows-touched index (StackCommit side seen) k = committing-touched k
     knows-touched index (QueueShift side window) k = k
     knows-touched index (StackShift side version scan sum) k = record { scan-is = k .scan-is; passed = passed-touched (k .passed) }
-    knows-touched index (Confirm side scan sum) k = k
+    knows-touched index (QueueConfirm window scan sum) k = k
+    knows-touched index (StackConfirm side scan sum) k = k
 
 -- ---- a shift
 module _ (g : Settings) (bounds : Bounds g) (v : Sight) (ghost : Ghost) (o : Windowed g (v .window) (ghost .lo))
@@ -124,8 +125,9 @@ module _ (g : Settings) (bounds : Bounds g) (v : Sight) (ghost : Ghost) (o : Win
       }
   knows-shifted index l (Check a version seen) k =
       record { began = omega (arith, k .began); seen-le = k .seen-le; hit = λ u. absurd (omega (arith, k .began)) }
-  knows-shifted index l (QueueCommit a seen) k = k
+  knows-shifted index l (QueueCommit a window seen) k = k
   knows-shifted index l (StackCommit a seen) k = committing-shifted l k
   knows-shifted index l (QueueShift a window) k = k
   knows-shifted index l (StackShift a version scan sum) k = record { scan-is = k .scan-is; passed = passed-shifted (k .passed) }
-  knows-shifted index l (Confirm a scan sum) k = k
+  knows-shifted index l (QueueConfirm window scan sum) k = k
+  knows-shifted index l (StackConfirm a scan sum) k = k

@@ -1,7 +1,7 @@
 -- The read step. A hit goes to check, knowing that it is one at the window seen; a miss goes on (Pass), and after the last one to shift.
 use mathlib.Core.Path.{_≡_, refl}
 use mathlib.Core.Bool.{true, false}
-use Prim.Native.Nat.{ℕ, suc, _+_, _-_}
+use Prim.Native.Nat.{ℕ, suc, _-_}
 use native.Mathlib.Nat.{le-refl}
 use native.Mathlib.Omega.{arith}
 use borrow.Author.Tests.{ltb-true, ltb-false}
@@ -13,10 +13,10 @@ use Rattle.rules.specs.Read.{stackRead, stackHit, missOf}
 use Rattle.rules.specs.Sequential.{Contents}
 use Rattle.rules.proofs.Types.{Settings, Side, Putting, Taking, StackRead, Check, StackShift, Version}
 use Rattle.rules.proofs.machine.Machine.{State, subIn, viewIn, phaseIn}
-use Rattle.rules.proofs.counts.Wraps.{add32-is, add32-suc, sub32-is}
-use Rattle.rules.proofs.stack.Inv.{sight, Hit, Missed, Passed, Reading, Checking, versions-few}
+use Rattle.rules.proofs.counts.Wraps.{add32-suc, sub32-is}
+use Rattle.rules.proofs.stack.Inv.{sight, Hit, Missed, Passed, Reading, Checking}
 use Rattle.rules.proofs.stack.Moves.{Stepping, On, known, walk}
-use Rattle.rules.proofs.stack.Pass.{sum-le-versions, passed-more}
+use Rattle.rules.proofs.stack.Pass.{passed-more}
 
 module _ {g : Settings} {s : State} {q : Contents} {i : ℕ} (a : Stepping g s q i)
     (side : Side) (window : ℕ) (version : Version) (scan sum : ℕ) (e : phaseIn g s i ≡ StackRead side window version scan sum) where
@@ -41,16 +41,13 @@ module _ {g : Settings} {s : State} {q : Contents} {i : ℕ} (a : Stepping g s q
   checks t = record { began = k .passed .began; seen-le = le-refl _; hit = λ u y. rw (k .same u) at (hits side t) }
 
   goes-by : stackHit g (viewIn g s i) side window ≡ false
-      → Passed g (sight s) (a .inv .ghost) side (version .0) (nextOf g j) (suc scan) (sum + s .second j)
+      → Passed g (sight s) (a .inv .ghost) side (version .0) (nextOf (g .width) j) (suc scan) (add32 sum (s .second j))
   goes-by t =
       passed-more g (sight s) (a .inv .ghost) side (version .0) j scan sum (a .common .slots i .index) (k .scan-lt)
       (λ u. rw (k .same u) at (misses side t)) (k .passed)
 
   scan-is : add32 scan 1 ≡ suc scan
   scan-is = add32-suc scan (omega (arith, k .scan-lt, a .good .bounds .width16))
-
-  sum-is : add32 sum (s .second j) ≡ sum + s .second j
-  sum-is = add32-is sum (s .second j) (omega (arith, versions-few (a .inv .pool), sum-le-versions (a .common .slots i .index) k))
 
   all-missed : ltb (suc scan) (g .width) ≡ false → suc scan ≡ g .width
   all-missed l = omega (arith, ltb-false, k .scan-lt)
@@ -60,16 +57,16 @@ module _ {g : Settings} {s : State} {q : Contents} {i : ℕ} (a : Stepping g s q
   turn-read =
       cases (On a) (stackHit g (viewIn g s i) side window) _ _
       (λ t. walk a e side refl j (Check side version (record { 0 = s .second j })) _ refl tt (checks t))
-      (λ t. rw (scan-is, sum-is)
+      (λ t. rw scan-is
       (cases (On a) (ltb (suc scan) (g .width)) _ _
-      (λ l. walk a e side refl (nextOf g j) (StackRead side window version (suc scan) (sum + s .second j)) _ refl tt (record {
+      (λ l. walk a e side refl (nextOf (g .width) j) (StackRead side window version (suc scan) (add32 sum (s .second j))) _ refl tt (record {
         scan-lt = ltb-true _ _ l;
         depth-le = k .depth-le;
         le-rows = k .le-rows;
         same = k .same;
         passed = goes-by t;
       }))
-      (λ l. walk a e side refl (nextOf g j) (StackShift side version 0 (sum + s .second j)) _ refl tt (record {
+      (λ l. walk a e side refl (nextOf (g .width) j) (StackShift side version 0 (add32 sum (s .second j))) _ refl tt (record {
         scan-is = refl;
         passed = rw (all-missed l) at (goes-by t);
       }))))

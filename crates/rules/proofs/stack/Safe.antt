@@ -12,12 +12,12 @@ use Rattle.rules.specs.Window.{windowRule}
 use Rattle.rules.specs.Read.{stackRead, missOf}
 use Rattle.rules.specs.Check.{checkRule}
 use Rattle.rules.specs.Shift.{stackShift, shiftBy}
-use Rattle.rules.specs.Confirm.{confirmRule, confirmedOf}
+use Rattle.rules.specs.Confirm.{stackConfirm, confirmBy, confirmedOf}
 use Rattle.rules.specs.Step.{ruleOf, ruleBy}
 use Rattle.rules.specs.Sequential.{Contents}
 use Rattle.rules.specs.Consequences.{NoWrap}
 use Rattle.rules.specs.Commit.{lostOf}
-use Rattle.rules.proofs.Types.{Settings, Side, Putting, Taking, Phase, Idle, Window, QueuePutRead, QueueTakeRead, StackRead, Check, QueueCommit, StackCommit, QueueShift, StackShift, Confirm, Version, Effect}
+use Rattle.rules.proofs.Types.{Settings, Side, Putting, Taking, Phase, Idle, Window, QueuePutRead, QueueTakeRead, StackRead, Check, QueueCommit, StackCommit, QueueShift, StackShift, QueueConfirm, StackConfirm, Version, Effect}
 use Rattle.rules.proofs.machine.Machine.{State, subIn, viewIn, phaseIn, applyIn, applyInBy}
 use Rattle.rules.proofs.machine.Good.{Good}
 use Rattle.rules.proofs.machine.Turns.{Common, Safe, Counts}
@@ -45,24 +45,25 @@ module _ {g : Settings} {s : State} {q : Contents} (good : Good g) (kind : g .ki
     able-shift Putting version scan sum = cases F (eqb (s .mark) (version .0)) _ _ (λ u. cases F _ _ _ (λ x. omega arith) (λ x. omega arith)) (λ u. omega arith)
     able-shift Taking version scan sum = cases F (eqb (s .mark) (version .0)) _ _ (λ u. cases F _ _ _ (λ x. omega arith) (λ x. omega arith)) (λ u. omega arith)
 
-    able-confirm : (side : Side) (scan sum : ℕ) → F (confirmRule g (viewIn g s i) side scan sum)
-    unfolding confirmRule confirmedOf applyIn applyInBy
+    able-confirm : (side : Side) (scan sum : ℕ) → F (stackConfirm g (viewIn g s i) side scan sum)
+    unfolding stackConfirm confirmBy confirmedOf applyIn applyInBy
     able-confirm Putting scan sum = cases F _ _ _ (λ u. omega arith) (λ u. cases F _ _ _ (λ x. omega arith) (λ x. omega arith))
     able-confirm Taking scan sum = cases F _ _ _ (λ u. omega arith) (λ u. cases F _ _ _ (λ x. omega arith) (λ x. omega arith))
 
     able-by : (p : Phase) → phaseIn g s i ≡ p → Knows g (sight s) (inv .ghost) (subIn s i) p → F (ruleBy g (viewIn g s i) p)
     unfolding ruleBy windowRule stackRead missOf checkRule applyIn applyInBy
     able-by Idle e k = omega arith
-    able-by (Window side) e k = omega arith
+    able-by (Window side) e k = cases F _ _ _ (λ u. omega arith) (λ u. omega arith)
     able-by (QueuePutRead window scan) e k = absurd k
     able-by (QueueTakeRead window bare scan sum) e k = absurd k
     able-by (StackRead side window version scan sum) e k = cases F _ _ _ (λ u. omega arith) (λ u. cases F _ _ _ (λ x. omega arith) (λ x. omega arith))
     able-by (Check side version seen) e k = cases F _ _ _ (λ u. omega arith) (λ u. omega arith)
-    able-by (QueueCommit side seen) e k = absurd k
+    able-by (QueueCommit side window seen) e k = absurd k
     able-by (StackCommit side seen) e k = commit-cases inv i F side seen e (λ live. able-lands side) (λ other. able-lost side)
     able-by (QueueShift side window) e k = absurd k
     able-by (StackShift side version scan sum) e k = able-shift side version scan sum
-    able-by (Confirm side scan sum) e k = able-confirm side scan sum
+    able-by (QueueConfirm window scan sum) e k = absurd k
+    able-by (StackConfirm side scan sum) e k = able-confirm side scan sum
 
     not-refused : F (ruleOf g (viewIn g s i))
     unfolding ruleOf
@@ -87,7 +88,7 @@ module _ {g : Settings} {s : State} {q : Contents} (good : Good g) (kind : g .ki
       k .depth-le,
     )
     no-wrap (Check side version seen) k = tt
-    no-wrap (QueueCommit side seen) k = absurd k
+    no-wrap (QueueCommit side window seen) k = absurd k
     no-wrap (StackCommit Putting seen) k = (
       omega (arith, held-le (inv .pool) (subIn s i) index, good .bounds .rows1024),
       omega (arith, few),
@@ -106,7 +107,8 @@ module _ {g : Settings} {s : State} {q : Contents} (good : Good g) (kind : g .ki
       omega (arith, window-ge (inv .pool), good .bounds .shift-depth),
       omega (arith, versions-few (inv .pool)),
     )
-    no-wrap (Confirm side scan sum) k = omega (arith, k, good .bounds .width16)
+    no-wrap (QueueConfirm window scan sum) k = absurd k
+    no-wrap (StackConfirm side scan sum) k = omega (arith, k, good .bounds .width16)
 
   pub stack-safe : Safe g s
   stack-safe =
@@ -128,5 +130,6 @@ stack-counts {g} {s} good kind inv =
     record {
       sub = λ j l. record { queue-order = λ z. absurd (omega arith); queue-rows = λ z. absurd (omega arith); stack-rows = λ z. held-le o j l };
       first-few = λ j l. omega (arith, held-le o j l, good .bounds .rows1024);
-      second-few = λ j l. version-few o j l;
+      second-few = λ j l. omega (arith, version-few o j l);
+      stamped = λ j r l a b. o .stamps .least j r l (omega arith) b;
     }

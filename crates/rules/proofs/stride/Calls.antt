@@ -19,13 +19,13 @@ use Rattle.rules.specs.Apply.{countLost, putItem, putLanded, applyBy, ap
 use Rattle.rules.specs.Step.{ruleOf, slotStep, fitStep, checkedStep}
 use Rattle.rules.specs.Run.{Call, beginPut, beginTake, step, callOf}
 use Rattle.rules.specs.Stride.{withStride}
-use Rattle.rules.specs.declared.Outcome.the-variants.{Refused, Moving, Lost, Shifted, Landed, Removed, Empty, Full}
+use Rattle.rules.specs.declared.Outcome.the-variants.{Refused, Moving, Lost, Shifted, Raised, Dropped, Landed, Removed, Empty, Full}
 use Rattle.rules.proofs.Types.{Settings, Side, Putting, Taking, Effect, Outcome}
 use Rattle.rules.proofs.Fitness.{fit-pool}
 use Rattle.rules.proofs.Checked.{checkedCall, call-is, unfit-call}
 use Rattle.rules.proofs.Untouched.{begin-keeps, step-keeps}
 use Rattle.rules.proofs.words.Writes.{Still}
-use Rattle.rules.proofs.stride.Stores.{lost-commutes, slot-commutes, worker-commutes, shifted-commutes, sub-commutes, landed-commutes, off, high, same-items, reads-alike}
+use Rattle.rules.proofs.stride.Stores.{lost-commutes, slot-commutes, worker-commutes, shifted-commutes, raised-commutes, dropped-commutes, sub-commutes, landed-commutes, off, high, same-items, reads-alike}
 use Rattle.rules.proofs.Alike.{Alike, rule-same, taken-same, view-same}
 
 -- an answer, and its words with a store after it
@@ -54,6 +54,8 @@ module _ (p : ℕ) (still : Still p) (x : ℕ) (g : Settings) (y : ℕ) (hops : 
   apply-commutes at j e Moving l m = rw (worker-commutes p still x at e l ws) refl
   apply-commutes at j e Lost l m = rw (lost-commutes p still x g at l ws, worker-commutes p still x at e l _) refl
   apply-commutes at j e Shifted l m = rw (shifted-commutes p still x e ws, worker-commutes p still x at e l _) refl
+  apply-commutes at j e Raised l m = rw (raised-commutes p still x e ws, worker-commutes p still x at e l _) refl
+  apply-commutes at j e Dropped l m = rw (dropped-commutes p still x e ws, worker-commutes p still x at e l _) refl
   apply-commutes at j e (Landed value row stamp) l m = rw (landed-commutes p still x g j value row stamp e ws, worker-commutes p still x at e l _) refl
   apply-commutes at j e (Removed row) l m =
       rw (taken-same g y (g .edition) ws vs alike (λ k r low. same-items p still x g y ws k r) j row m, sub-commutes p still x j e ws, worker-commutes p still x at e l _) refl

@@ -14,7 +14,7 @@ use Rattle.rules.specs.Layout.{headWords, stepsAt, putsAt, topAt, markAt
 use Rattle.rules.specs.Worker.{wordsOf, putSlot}
 use Rattle.rules.specs.Make.{indexed}
 use Rattle.rules.specs.Held.{itemAt}
-use Rattle.rules.specs.Apply.{putItem, putSub, putLanded, putShifted, putWorker, countLost}
+use Rattle.rules.specs.Apply.{putItem, putSub, putLanded, putShifted, putRaised, putDropped, putWorker, countLost}
 use Rattle.rules.specs.Stride.{withStride}
 use Rattle.rules.proofs.Types.{Settings, Slot, Row, Stamp, Effect}
 use Rattle.rules.proofs.words.Writes.{Still, item-kept}
@@ -61,6 +61,14 @@ module _ (p : ℕ) (still : Still p) (x : ℕ) where
   pub shifted-commutes : (e : Effect) → Commutes (λ ws. putShifted ws e)
   unfolding putShifted
   shifted-commutes e = more-commutes (λ ws. set ws topAt (e .top)) markAt (e .mark) (still .mark) (one-commutes topAt (e .top) (still .top))
+
+  pub raised-commutes : (e : Effect) → Commutes (λ ws. putRaised ws e)
+  unfolding putRaised
+  raised-commutes e = one-commutes topAt (e .top) (still .top)
+
+  pub dropped-commutes : (e : Effect) → Commutes (λ ws. putDropped ws e)
+  unfolding putDropped
+  dropped-commutes e = one-commutes markAt (e .mark) (still .mark)
 
   pub sub-commutes : (j : ℕ) (e : Effect) → Commutes (λ ws. putSub ws j e)
   unfolding putSub

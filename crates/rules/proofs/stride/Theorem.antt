@@ -12,13 +12,13 @@ use lib.Seq.{getD-set-same, getD-set-other, set-comm, set-set, sets}
 use lib.Dec.{eqb}
 use borrow.Author.Tests.{lt-ltb, le-ltb}
 use Rattle.laws.specs.Choice.{cond, cond-under}
-use Rattle.rules.specs.Answers.{notFit, out, numberOf}
+use Rattle.rules.specs.Answers.{Out, notFit, out, numberOf}
 use Rattle.rules.specs.Layout.{headWords, widthAt, strideAt, editionAt, needed, settingsOf}
 use Rattle.rules.specs.Limits.{settingsFit}
 use Rattle.rules.specs.Fit.{Checked, Unfit, Fit, headChecked, checkedBy, checkedOf}
 use Rattle.rules.specs.Make.{zeroed, newHead, indexed, madeWords, makeOf}
 use Rattle.rules.specs.Effects.{hopOf}
-use Rattle.rules.specs.Run.{Call, callOf, run}
+use Rattle.rules.specs.Run.{Call, callOf, measuresAt, run}
 use Rattle.rules.specs.Consequences.{wordsAfter}
 use Rattle.rules.specs.Stride.{StrideOneOnWords, withStride, AsStrideZero, StrideOne, WidthTwo}
 use Rattle.rules.specs.declared.Answer.the-variants.{Moving}
@@ -26,7 +26,7 @@ use Rattle.rules.proofs.Types.{Settings}
 use Rattle.rules.proofs.Fitness.{settings-bounds, fit-pool}
 use Rattle.rules.proofs.words.Writes.{Still, still-low, still-high, set-kept}
 use Rattle.rules.proofs.words.Made.{accepted, made-says}
-use Rattle.rules.proofs.Alike.{settings-alike, inOther, body-same}
+use Rattle.rules.proofs.Alike.{measures-alike, settings-alike, inOther, body-same}
 use Rattle.rules.proofs.stride.Stores.{indexed-commutes, reads-alike}
 use Rattle.rules.proofs.Checked.{checkedCall, call-is, unfit-call}
 use Rattle.rules.proofs.stride.Calls.{thenSet, call-commutes, kept}
@@ -107,7 +107,14 @@ unfolding run wordsAfter
 runs-alike ed ws z n [] = record { answers = refl; words = refl }
 runs-alike ed ws z n (c ∷ cs) =
     let rest = runs-alike ed (callOf ed ws c .words) (kept ed strideAt stride-still ws c ∙ z) (λ u. n (sym (kept ed widthAt width-still ws c) ∙ u)) cs in
-    record { answers = rw (call-alike ed ws z n c, rest .answers) refl; words = rw (call-alike ed ws z n c, rest .words) refl }
+    let answer : callOf ed (set ws strideAt 1) c .answer ≡ callOf ed ws c .answer = ap (λ (o : Out). o .answer) (call-alike ed ws z n c) in
+    let words : callOf ed (set ws strideAt 1) c .words ≡ set (callOf ed ws c .words) strideAt 1 = ap (λ (o : Out). o .words) (call-alike ed ws z n c) in
+    let told = measures-alike ws (set ws strideAt 1) (λ m l. getD-set-other ws strideAt m 1 0 (λ u. omega arith)) c in
+    let later : run ed (callOf ed (set ws strideAt 1) c .words) cs ≡ run ed (callOf ed ws c .words) cs = ap (λ (vs : List ℕ). run ed vs cs) words ∙ rest .answers in
+    record {
+      answers = λ u. record { call = c; answer = answer u; measures = (ap (measuresAt (set ws strideAt 1) c) answer ∙ told (callOf ed ws c .answer)) u } ∷ later u;
+      words = rw (call-alike ed ws z n c, rest .words) refl;
+    }
 
 -- ---- on any words
 zero-set : (ws : List ℕ) (m : ℕ) → getD (set ws m 0) m 0 ≡ 0

@@ -20,7 +20,7 @@ use Rattle.rules.specs.Begin.{slotBegin, fitBegin, checkedBegin, beginOf
 use Rattle.rules.specs.Step.{ruleOf, slotStep, fitStep, checkedStep, stepOf}
 use Rattle.rules.specs.Run.{Call, beginPut, beginTake, step, callOf}
 use Rattle.rules.proofs.Types.{Settings, Side, Putting, Taking, Window, Effect, Outcome}
-use Rattle.rules.specs.declared.Outcome.the-variants.{Refused, Moving, Lost, Shifted, Landed, Removed, Empty, Full}
+use Rattle.rules.specs.declared.Outcome.the-variants.{Refused, Moving, Lost, Shifted, Raised, Dropped, Landed, Removed, Empty, Full}
 use Rattle.rules.specs.declared.Answer.the-variants.{Moving as Moves, Taken, Refused as NotDone}
 use Rattle.rules.proofs.order.Law.{Next}
 use Rattle.rules.proofs.Fitness.{settings-bounds}
@@ -32,7 +32,7 @@ use Rattle.rules.proofs.words.Says.{Says, distance-same}
 use Rattle.rules.proofs.words.Writes.{SameTop, landed-shared, removed-shared}
 use Rattle.rules.proofs.words.Fit.{checked-fit}
 use Rattle.rules.proofs.words.After.{after-says}
-use Rattle.rules.proofs.words.Stores.{begun-says, counted-says, index-same, number-same, view-same, puts-as, top-as, stores, stores-worker, stores-shifted}
+use Rattle.rules.proofs.words.Stores.{begun-says, counted-says, index-same, number-same, view-same, puts-as, top-as, stores, stores-worker, stores-shifted, stores-raised, stores-dropped}
 use Rattle.rules.proofs.words.Landed.{landed-says, landed-cells}
 
 pub record Follows (g : Settings) (o : Out) (n : Next State) : Type 0 where
@@ -61,7 +61,7 @@ module _ (g : Settings) (limits : settingsFit g ≡ true) (ws : List ℕ) (s : S
       taken-same r a b =
           ap (λ (x : Item). Taken (x .value) (subIn s i) (record { 0 = r }) (record { 0 = x .stamp }) (distanceOf ws g (record { 0 = x .stamp }))) (says .cell (subIn s i) r lj a b)
           ∙ ap (λ (d : ℕ). Taken (s .item (subIn s i) r .value) (subIn s i) (record { 0 = r }) (record { 0 = s .item (subIn s i) r .stamp }) d)
-          (distance-same g ws s says order (record { 0 = s .item (subIn s i) r .stamp }))
+          (distance-same g ws s says order (counts .stamped) (record { 0 = s .item (subIn s i) r .stamp }))
 
       follow-apply : (o : Outcome) → SharedAfter g (viewIn g s i) e o → Follows g (applyBy ws g (workerAt g i) (subIn s i) e o) (applyInBy g s i e o)
       unfolding putLanded applyBy applyInBy
@@ -69,6 +69,8 @@ module _ (g : Settings) (limits : settingsFit g ≡ true) (ws : List ℕ) (s : S
       follow-apply Moving h = record { answer = refl; says = stores-worker g ws s says i li lj few e h }
       follow-apply Lost h = record { answer = refl; says = stores-worker g (countLost ws g (workerAt g i)) s (counted-says g ws s says i li) i li lj few e h }
       follow-apply Shifted h = record { answer = refl; says = stores-shifted g ws s says i li lj few e h }
+      follow-apply Raised h = record { answer = refl; says = stores-raised g ws s says i li lj few e h _ }
+      follow-apply Dropped h = record { answer = refl; says = stores-dropped g ws s says i li lj few e h _ }
       follow-apply (Landed value row stamp) lands =
           let h = lands (counted-in g bounds s common counts i) in
           let stored = landed-says g ws s says bounds i lj (counts .first-few _ lj) (order _ lj) value row stamp e h in

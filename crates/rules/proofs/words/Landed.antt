@@ -7,7 +7,7 @@ use native.Mathlib.Decide.{ℕ-discrete}
 use native.Mathlib.Omega.{arith}
 use lib.ListN.{length, getD}
 use Rattle.laws.specs.Wrap.{sub32}
-use Rattle.rules.specs.Limits.{Bounds, stepLimit}
+use Rattle.rules.specs.Limits.{Bounds}
 use Rattle.rules.specs.Layout.{subAt, workerAt, cellsAt, cellAt, stepsAt, putsAt, topAt, markAt, secondAt, stampAt}
 use Rattle.rules.specs.Held.{Item, itemAt, rowsBelow}
 use Rattle.rules.specs.Apply.{putItem}
@@ -17,6 +17,7 @@ use Rattle.rules.proofs.counts.Sums.{upd, upd-same, upd-other}
 use Rattle.rules.proofs.counts.Stamps.{item-new, item-old}
 use Rattle.rules.proofs.machine.Machine.{State, subIn, viewIn, belowIn, afterIn, withItem}
 use Rattle.rules.proofs.machine.Does.{Lands}
+use Rattle.rules.proofs.machine.Turns.{fewRows}
 use Rattle.rules.proofs.Workers.{slot-within, worker-within}
 use Rattle.rules.proofs.words.Says.{Says}
 use Rattle.rules.proofs.words.Writes.{settings-kept, slot-kept}
@@ -24,7 +25,7 @@ use Rattle.rules.proofs.words.Places.{place, places-apart, item-length,
 use Rattle.rules.proofs.words.After.{CellsSay}
 
 module _ (g : Settings) (ws : List ℕ) (s : State) (says : Says g ws s) (bounds : Bounds g)
-    (i : ℕ) (lj : subIn s i < g .width) (first-few : s .first (subIn s i) ≤ stepLimit) (order : belowIn g s (subIn s i) ≤ s .first (subIn s i))
+    (i : ℕ) (lj : subIn s i < g .width) (first-few : s .first (subIn s i) ≤ fewRows) (order : belowIn g s (subIn s i) ≤ s .first (subIn s i))
     (value : ℕ) (at : Row) (stamp : Stamp) (e : Effect) (h : Lands g (viewIn g s i) e at) where
   abbrev j : ℕ
   j = subIn s i

@@ -14,6 +14,7 @@ use Rattle.laws.specs.Choice.{cond, cond-true, cases}
 use Rattle.rules.specs.Answers.{Out, numberOf}
 use Rattle.rules.specs.Layout.{stepsAt, putsAt, topAt, markAt, workerAt, firstOf, secondOf, indexAt}
 use Rattle.rules.specs.Limits.{Bounds, stepLimit}
+use Rattle.rules.specs.Windows.{sizeOf}
 use Rattle.rules.specs.Worker.{slotAt, zeroSlot}
 use Rattle.rules.specs.Held.{itemAt}
 use Rattle.rules.specs.Effects.{viewOf}
@@ -22,17 +23,17 @@ use Rattle.rules.specs.Begin.{outOfSteps}
 use Rattle.rules.specs.Apply.{countLost, takenOf, applyBy, applyOf}
 use Rattle.rules.specs.Step.{ruleOf, slotStep, fitStep}
 use Rattle.rules.proofs.Types.{Settings, Slot, Effect, Outcome, Answer}
-use Rattle.rules.specs.declared.Outcome.the-variants.{Refused as Stopped, Moving as Moves, Lost, Shifted, Landed, Removed, Empty as NoItem, Full as NoRoom}
+use Rattle.rules.specs.declared.Outcome.the-variants.{Refused as Stopped, Moving as Moves, Lost, Shifted, Raised, Dropped, Landed, Removed, Empty as NoItem, Full as NoRoom}
 use Rattle.rules.specs.declared.Answer.the-variants.{Moving, Put, Taken, Empty, Full, Refused}
 use Rattle.rules.proofs.Fitness.{fit-pool, fit-head, fit-number}
 use Rattle.rules.proofs.counts.Sums.{upd-same, upd-all, upd-self}
-use Rattle.rules.proofs.machine.Machine.{State, subIn, viewIn, afterIn}
+use Rattle.rules.proofs.machine.Machine.{Frame, State, subIn, viewIn, framedIn, afterIn, madeIn}
 use Rattle.rules.proofs.machine.Turns.{SlotFits, Common}
 use Rattle.rules.proofs.machine.Does.{SameItems, Does, SharedAfter, BusyAfter, rule-in}
 use Rattle.rules.proofs.machine.Slots.{of-both}
 use Rattle.rules.proofs.words.Says.{Says}
 use Rattle.rules.proofs.words.Fit.{checked-fit}
-use Rattle.rules.proofs.words.Stores.{counted-says, index-same, number-same, view-same, stores-worker, stores-shifted}
+use Rattle.rules.proofs.words.Stores.{counted-says, index-same, number-same, view-same, stores-worker, stores-shifted, stores-raised, stores-dropped}
 
 -- a refusal's number is none of an answer's
 abbrev pub Numbered : Answer → Type 0
@@ -66,6 +67,9 @@ module _ (ws : List ℕ) (g : Settings) (fit : checkedOf (g .edition) ws ≡ Fit
         puts = getD ws putsAt 0;
         top = getD ws topAt 0;
         mark = getD ws markAt 0;
+        next = sizeOf g;
+        set = 0;
+        frame = madeIn g .frame;
         first = firstOf ws;
         second = secondOf ws;
         item = itemAt ws g;
@@ -122,11 +126,12 @@ module _ (ws : List ℕ) (g : Settings) (fit : checkedOf (g .edition) ws ≡ Fit
     after-subs same j l =
         rw (same .first, same .second, upd-self (firstOf ws) (subIn state i), upd-self (secondOf ws) (subIn state i)) (pool .sub j l)
 
-    stays : (vs : List ℕ) → SameItems (viewIn g state i) e → e .slot .number ≢ 0 → Says g vs (afterIn state i e) → Stays g vs i
-    stays vs same busy said =
+    stays : (vs : List ℕ) (f : Frame) → SameItems (viewIn g state i) e → e .slot .number ≢ 0 → Says g vs (framedIn state i e f) → Stays g vs i
+    stays vs f same busy said =
         record {
-          fit = checked-fit g (fit-head (g .edition) ws g fit .0) (bounds .kind1) vs (afterIn state i e) said after-common (after-subs same);
-          busy = λ z. busy (ap (λ (x : Slot). x .number) (sym (upd-same slots i (e .slot))) ∙ sym (number-same g vs (afterIn state i e) said i li) ∙ z);
+          fit = checked-fit g (fit-head (g .edition) ws g fit .0) (bounds .kind1) vs (framedIn state i e f) said
+              (record { slots = after-common .slots; steps-few = after-common .steps-few }) (after-subs same);
+          busy = λ z. busy (ap (λ (x : Slot). x .number) (sym (upd-same slots i (e .slot))) ∙ sym (number-same g vs (framedIn state i e f) said i li) ∙ z);
         }
 
     by-outcome : (o : Outcome) → SharedAfter g (viewIn g state i) e o → BusyAfter (e .slot) o
@@ -134,10 +139,12 @@ module _ (ws : List ℕ) (g : Settings) (fit : checkedOf (g .edition) ws ≡ Fit
     unfolding applyBy takenOf
     by-outcome (Stopped n) (inl u) busy z = absurd (omega arith)
     by-outcome (Stopped n) (inr u) busy z = absurd (omega arith)
-    by-outcome Moves shared busy z = stays _ (shared .0) busy (stores-worker g ws state says i li lj few e shared)
+    by-outcome Moves shared busy z = stays _ _ (shared .0) busy (stores-worker g ws state says i li lj few e shared)
     by-outcome Lost shared busy z =
-        stays _ (shared .0) busy (stores-worker g (countLost ws g (workerAt g i)) state (counted-says g ws state says i li) i li lj few e shared)
-    by-outcome Shifted shared busy z = stays _ shared busy (stores-shifted g ws state says i li lj few e shared)
+        stays _ _ (shared .0) busy (stores-worker g (countLost ws g (workerAt g i)) state (counted-says g ws state says i li) i li lj few e shared)
+    by-outcome Shifted shared busy z = stays _ _ shared busy (stores-shifted g ws state says i li lj few e shared)
+    by-outcome Raised shared busy z = stays _ _ (shared .0) busy (stores-raised g ws state says i li lj few e shared (state .frame))
+    by-outcome Dropped shared busy z = stays _ _ (shared .0) busy (stores-dropped g ws state says i li lj few e shared (state .frame))
     by-outcome (Landed value row stamp) shared busy z = absurd (omega arith)
     by-outcome (Removed row) shared busy z = absurd (omega arith)
     by-outcome NoItem shared busy z = absurd (omega arith)
@@ -150,6 +157,8 @@ module _ (ws : List ℕ) (g : Settings) (fit : checkedOf (g .edition) ws ≡ Fit
     numbered-by Moves shared = tt
     numbered-by Lost shared = tt
     numbered-by Shifted shared = tt
+    numbered-by Raised shared = tt
+    numbered-by Dropped shared = tt
     numbered-by (Landed value row stamp) shared = tt
     numbered-by (Removed row) shared = tt
     numbered-by NoItem shared = tt

@@ -13,22 +13,35 @@ use borrow.Author.Tests.{ltb-true}
 use Rattle.laws.specs.Choice.{cases}
 use Rattle.rules.specs.Limits.{stepLimit}
 use Rattle.rules.specs.Layout.{stepsAt, putsAt, topAt, markAt, subAt, workersAt, workerAt, cellsAt, workerWords, slotWords, lostWord, indexAt, lostAt, secondAt}
+use Rattle.rules.specs.Windows.{ownSizes}
 use Rattle.rules.specs.Worker.{slotAt, putSlot, decode}
 use Rattle.rules.specs.Effects.{viewOf}
-use Rattle.rules.specs.Apply.{countLost, putShifted, putWorker}
+use Rattle.rules.specs.Apply.{countLost, putShifted, putRaised, putDropped, putWorker}
 use Rattle.rules.proofs.Types.{Settings, Slot, Effect}
 use Rattle.rules.proofs.Workers.{slot-within, worker-within, slots-apart, lost-apart}
 use Rattle.rules.proofs.counts.Sums.{upd, upd-same, upd-other}
-use Rattle.rules.proofs.machine.Machine.{State, withSlot, subIn, viewIn, afterIn}
+use Rattle.rules.proofs.machine.Machine.{Frame, State, withSlot, subIn, viewIn, framedIn, afterIn}
 use Rattle.rules.proofs.machine.Does.{SameItems, SameWindow, Keeps, same-keeps}
 use Rattle.rules.proofs.words.Says.{Says}
-use Rattle.rules.proofs.words.Writes.{settings-kept, slot-length, slot-off, slot-on, slot-kept, item-kept, sharedSet, SamePuts, SameTop, SameSub, still-shared, shifted-shared}
+use Rattle.rules.proofs.words.Writes.{settings-kept, slot-length, slot-off, slot-on, slot-kept, item-kept, sharedSet, SamePuts, SameTop, SameSub, set-kept, still-shared, shifted-shared}
 use Rattle.rules.proofs.words.After.{after-says, keeps-cells}
 
 -- ---- words that differ in the workers' alone
 abbrev withSlots : State → (ℕ → Slot) → State
 withSlots s slot =
-    record { steps = s .steps; puts = s .puts; top = s .top; mark = s .mark; first = s .first; second = s .second; item = s .item; slot = slot }
+    record {
+      steps = s .steps;
+      puts = s .puts;
+      top = s .top;
+      mark = s .mark;
+      next = s .next;
+      set = s .set;
+      frame = s .frame;
+      first = s .first;
+      second = s .second;
+      item = s .item;
+      slot = slot;
+    }
 
 -- a place outside of them
 abbrev Outside : Settings → ℕ → Type 0
@@ -49,6 +62,22 @@ says-workers g ws vs s says long off slot slots =
       second = λ k l. low (secondAt k) (omega arith) ∙ says .second k l;
       slot = slots;
       cell = λ j r l a b. item-kept g ws vs (λ m c. off m (inr c)) j r ∙ says .cell j r l a b;
+    }
+
+-- the words say nothing of the frame
+framed-says : (g : Settings) (vs : List ℕ) (s : State) (i : ℕ) (e : Effect) (f : Frame) → Says g vs (afterIn s i e) → Says g vs (framedIn s i e f)
+framed-says g vs s i e f says =
+    record {
+      long = says .long;
+      settings = says .settings;
+      steps = says .steps;
+      puts = says .puts;
+      top = says .top;
+      mark = says .mark;
+      first = says .first;
+      second = says .second;
+      slot = says .slot;
+      cell = says .cell;
     }
 
 -- a worker's words stored: a begin
@@ -99,7 +128,16 @@ module _ (g : Settings) (ws : List ℕ) (s : State) (says : Says g ws s) (i : �
     view-same =
         let a = ap (λ (x : ℕ). getD ws (subAt x) 0) index-same ∙ says .first (subIn s i) lj in
         let b = ap (λ (x : ℕ). getD ws (secondAt x) 0) index-same ∙ says .second (subIn s i) lj in
-        λ u. record { top = says .top u; mark = says .mark u; puts = says .puts u; first = a u; second = b u; worker = decode (g .kind) (says .slot i li u); kept = says .slot i li u }
+        λ u. record {
+          top = says .top u;
+          mark = says .mark u;
+          sizes = ownSizes g;
+          puts = says .puts u;
+          first = a u;
+          second = b u;
+          worker = decode g (says .slot i li u);
+          kept = says .slot i li u;
+        }
 
     module _ (few : s .steps < stepLimit) (e : Effect) where
       -- where the words are as they were
@@ -122,3 +160,17 @@ module _ (g : Settings) (ws : List ℕ) (s : State) (says : Says g ws s) (i : �
 
       pub stores-shifted : SameItems (viewIn g s i) e → Says g (putWorker (putShifted ws e) (workerAt g i) e) (afterIn s i e)
       stores-shifted h = stores _ (shifted-shared ws (subIn s i) e (puts-as (h .puts)) (sub-as h)) (same-keeps g (viewIn g s i) e h)
+
+      -- a queue's shift stores one of the two words, and leaves the other
+      pub stores-raised : SameItems (viewIn g s i) e × (e .mark ≡ s .mark) → (f : Frame) → Says g (putWorker (putRaised ws e) (workerAt g i) e) (framedIn s i e f)
+      unfolding putRaised putShifted
+      stores-raised h f =
+          let same : putRaised ws e ≡ putShifted ws e =
+          sym (set-kept (set ws topAt (e .top)) markAt (e .mark) (getD-set-other ws topAt markAt (e .top) 0 (λ u. omega arith) ∙ says .mark ∙ sym (h .1))) in
+          framed-says g _ s i e f (rw same (stores-shifted (h .0)))
+
+      pub stores-dropped : SameItems (viewIn g s i) e × (e .top ≡ s .top) → (f : Frame) → Says g (putWorker (putDropped ws e) (workerAt g i) e) (framedIn s i e f)
+      unfolding putDropped putShifted
+      stores-dropped h f =
+          let same : putDropped ws e ≡ putShifted ws e = ap (λ (vs : List ℕ). set vs markAt (e .mark)) (sym (set-kept ws topAt (e .top) (says .top ∙ sym (h .1)))) in
+          framed-says g _ s i e f (rw same (stores-shifted (h .0)))

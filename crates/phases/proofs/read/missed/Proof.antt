@@ -10,11 +10,11 @@ plus-requires c κs = search needs
 
 returns : tie.Need-returns
 unfolding cond
-returns c = simp (← c .before .before .plus .ensures, lt-ltb _ _ (c .if1 .taken))
+returns c = simp (← c .before .plus .ensures, lt-ltb _ _ (c .if1 .taken))
 
 returns-2 : tie.Need-returns-2
 unfolding cond
-returns-2 c = simp (← c .before .before .plus .ensures, le-ltb _ _ (c .if1 .left))
+returns-2 c = simp (← c .before .plus .ensures, le-ltb _ _ (c .if1 .left))
 
 pub missed-spec : {M : Type 1} → statement M
 missed-spec = tie.close (tie.spec plus-requires returns returns-2)

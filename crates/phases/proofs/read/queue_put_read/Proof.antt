@@ -15,7 +15,7 @@ moved-requires c κs = search needs
 
 returns : tie.Need-returns
 unfolding queuePutRead cond
-returns c = c .moved .ensures ∙ simp (lt-ltb _ _ (rw (c .before .before .before .queue-view .ensures) at (c .before .if1 .taken)), c .before .before .before .queue-view .ensures)
+returns c = c .moved .ensures ∙ simp (lt-ltb _ _ (rw (c .before .before .before .before .queue-view .ensures) at (c .before .if1 .taken)), c .before .before .before .before .queue-view .ensures)
 
 plus-requires : tie.Need-plus-requires
 plus-requires c κs = search needs
@@ -28,7 +28,7 @@ miss-requires c κs = search needs
 
 returns-2 : tie.Need-returns-2
 unfolding queuePutRead cond
-returns-2 c = c .miss .ensures ∙ simp (le-ltb _ _ (rw (c .before .before .before .before .before .queue-view .ensures) at (c .before .before .before .if1 .left)), c .before .with-pass .ensures, c .before .before .plus .ensures)
+returns-2 c = c .miss .ensures ∙ simp (le-ltb _ _ (rw (c .before .before .before .before .before .before .queue-view .ensures) at (c .before .before .before .if1 .left)), c .before .with-pass .ensures, c .before .before .plus .ensures)
 
 pub queue-put-read-spec : {M : Type 1} → statement M
 queue-put-read-spec =

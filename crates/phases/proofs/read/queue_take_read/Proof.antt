@@ -18,7 +18,7 @@ queue-take-miss-requires c κs = search needs
 
 returns : tie.Need-returns
 unfolding queueTakeRead cond
-returns c = c .queue-take-miss .ensures ∙ simp (le-leb _ _ (rw (c .before .before .before .queue-view .ensures) at (c .before .if1 .taken)), c .before .before .plus .ensures, c .before .before .before .queue-view .ensures)
+returns c = c .queue-take-miss .ensures ∙ simp (le-leb _ _ (rw (c .before .before .before .before .queue-view .ensures) at (c .before .if1 .taken)), c .before .before .before .plus .ensures, c .before .before .before .before .queue-view .ensures)
 
 plus-requires-2 : tie.Need-plus-requires-2
 plus-requires-2 c κs = search needs
@@ -28,7 +28,7 @@ queue-take-miss-requires-2 c κs = search needs
 
 returns-2 : tie.Need-returns-2
 unfolding queueTakeRead cond
-returns-2 c = c .queue-take-miss2 .ensures ∙ simp (eq-eqb _ _ (rw (c .before .before .before .before .before .before .queue-view .ensures) at (c .before .before .if2 .taken)), lt-leb _ _ (rw (c .before .before .before .before .before .before .queue-view .ensures) at (c .before .before .before .before .if1 .left)), c .before .plus2 .ensures, c .before .before .before .before .before .plus .ensures, c .before .before .before .before .before .before .queue-view .ensures)
+returns-2 c = c .queue-take-miss2 .ensures ∙ simp (eq-eqb _ _ (rw (c .before .before .before .before .before .before .before .queue-view .ensures) at (c .before .before .if2 .taken)), lt-leb _ _ (rw (c .before .before .before .before .before .before .before .queue-view .ensures) at (c .before .before .before .before .if1 .left)), c .before .plus2 .ensures, c .before .before .before .before .before .before .plus .ensures, c .before .before .before .before .before .before .before .queue-view .ensures)
 
 with-pass-requires : tie.Need-with-pass-requires
 with-pass-requires c κs = search needs
@@ -38,7 +38,7 @@ moved-requires c κs = search needs
 
 returns-3 : tie.Need-returns-3
 unfolding queueTakeRead cond
-returns-3 c = c .moved .ensures ∙ simp (ne-eqb _ _ (rw (c .before .before .before .before .before .before .before .queue-view .ensures) at (c .before .before .before .if2 .left)), lt-leb _ _ (rw (c .before .before .before .before .before .before .before .queue-view .ensures) at (c .before .before .before .before .before .if1 .left)), c .before .with-pass .ensures, c .before .before .before .before .before .before .plus .ensures, c .before .before .before .before .before .before .before .queue-view .ensures)
+returns-3 c = c .moved .ensures ∙ simp (ne-eqb _ _ (rw (c .before .before .before .before .before .before .before .before .queue-view .ensures) at (c .before .before .before .if2 .left)), lt-leb _ _ (rw (c .before .before .before .before .before .before .before .before .queue-view .ensures) at (c .before .before .before .before .before .if1 .left)), c .before .with-pass .ensures, c .before .before .before .before .before .before .before .plus .ensures, c .before .before .before .before .before .before .before .before .queue-view .ensures)
 
 pub queue-take-read-spec : {M : Type 1} → statement M
 queue-take-read-spec =

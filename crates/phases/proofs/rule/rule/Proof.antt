@@ -21,13 +21,13 @@ enum-known-phase-2 : tie.Need-enum-known-phase-2
 enum-known-phase-2 c = search needs
 
 queue-put-read-requires : tie.Need-queue-put-read-requires
-queue-put-read-requires c κs = search needs
+queue-put-read-requires c κs = rw (c .before .phase2 .given .1) at (c .before .before .before .before .pre .1 .1 .seen)
 
 enum-known-phase-3 : tie.Need-enum-known-phase-3
 enum-known-phase-3 c = search needs
 
 queue-take-read-requires : tie.Need-queue-take-read-requires
-queue-take-read-requires c κs = search needs
+queue-take-read-requires c κs = rw (c .before .phase3 .given .1) at (c .before .before .before .before .pre .1 .1 .seen)
 
 enum-known-phase-4 : tie.Need-enum-known-phase-4
 enum-known-phase-4 c = search needs
@@ -68,8 +68,14 @@ stack-shift-requires c κs = search needs
 enum-known-phase-10 : tie.Need-enum-known-phase-10
 enum-known-phase-10 c = search needs
 
-confirm-requires : tie.Need-confirm-requires
-confirm-requires c κs = search needs
+queue-confirm-requires : tie.Need-queue-confirm-requires
+queue-confirm-requires c κs = rw (c .before .phase10 .given .1) at (c .before .before .before .before .pre .1 .1 .seen)
+
+enum-known-phase-11 : tie.Need-enum-known-phase-11
+enum-known-phase-11 c = search needs
+
+stack-confirm-requires : tie.Need-stack-confirm-requires
+stack-confirm-requires c κs = search needs
 
 returns : tie.Need-returns
 unfolding ruleOf ruleBy
@@ -113,7 +119,11 @@ returns-10 c = c .stack-shift .ensures ∙ simp (c .before .before .phase9 .give
 
 returns-11 : tie.Need-returns-11
 unfolding ruleOf ruleBy
-returns-11 c = c .confirm .ensures ∙ simp (c .before .before .phase10 .given .1)
+returns-11 c = c .queue-confirm .ensures ∙ simp (c .before .before .phase10 .given .1)
+
+returns-12 : tie.Need-returns-12
+unfolding ruleOf ruleBy
+returns-12 c = c .stack-confirm .ensures ∙ simp (c .before .before .phase11 .given .1)
 
 pub rule-spec : {M : Type 1} → statement M
 rule-spec =
@@ -140,7 +150,9 @@ rule-spec =
     enum-known-phase-9
     stack-shift-requires
     enum-known-phase-10
-    confirm-requires
+    queue-confirm-requires
+    enum-known-phase-11
+    stack-confirm-requires
     returns
     returns-2
     returns-3
@@ -151,4 +163,5 @@ rule-spec =
     returns-8
     returns-9
     returns-10
-    returns-11)
+    returns-11
+    returns-12)

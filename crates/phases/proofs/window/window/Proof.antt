@@ -1,47 +1,48 @@
--- `phases::window::window` meets its contract: the test of each branch is the definition's, and each call stands for what it ensures.
+-- `phases::window::window` meets its contract: the test of each branch is the definition's, and each call stands for what it ensures. Either window is wide enough for a remainder.
 use mathlib.Core.Path.{_∙_}
 use borrow.Author.Tests.{eq-eqb, ne-eqb}
+use Prim.Native.Nat.{_≤_}
 use borrow.Author.Needs.{needs}
 use Rattle.laws.specs.Choice.{cond}
-use Rattle.rules.specs.Window.{windowRule}
+use Rattle.rules.specs.Window.{windowFor, windowRule}
+use Rattle.rules.specs.declared.QueueView.{QueueView}
+use Rattle.rules.specs.declared.Side.{Side}
+use Rattle.rules.specs.declared.Side.the-variants.{Putting, Taking}
 use Rattle.phases.proofs.window.window.Statement.{statement}
 use Rattle.phases.proofs.window.window.Tie as tie
 
+-- the window of a side is as wide as the narrower of the two
+wide : (q : QueueView) (side : Side) → 1 ≤ q .put .width → 1 ≤ q .take .width → 1 ≤ windowFor q side .width
+wide q Putting p t = p
+wide q Taking p t = t
+
+queue-view-requires : tie.Need-queue-view-requires
+queue-view-requires c κs = search needs
+
+window-for-requires : tie.Need-window-for-requires
+window-for-requires c κs = search needs
+
 queue-seen-requires : tie.Need-queue-seen-requires
-queue-seen-requires c κs = search needs
-
-zero-slot-requires : tie.Need-zero-slot-requires
-zero-slot-requires c κs = search needs
-
-moved-requires : tie.Need-moved-requires
-moved-requires c κs = search needs
+queue-seen-requires c κs = let p = c .before .before .before .before .pre in rw (c .window-for .ensures, c .before .queue-view .ensures) (wide _ (c .before .before .before .before .args .side) (p .put1) (p .take1))
 
 returns : tie.Need-returns
-unfolding windowRule cond
-returns c = c .moved .ensures ∙ simp (eq-eqb _ _ (c .before .before .before .if1 .taken), c .before .zero-slot .ensures, c .before .before .queue-seen .ensures)
+unfolding cond windowRule
+returns c = c .queue-seen .ensures ∙ simp (eq-eqb _ _ (c .before .before .before .if1 .taken), c .before .window-for .ensures, c .before .before .queue-view .ensures)
 
 stack-seen-requires : tie.Need-stack-seen-requires
 stack-seen-requires c κs = search needs
 
-zero-slot-requires-2 : tie.Need-zero-slot-requires-2
-zero-slot-requires-2 c κs = search needs
-
-moved-requires-2 : tie.Need-moved-requires-2
-moved-requires-2 c κs = search needs
-
 returns-2 : tie.Need-returns-2
-unfolding windowRule cond
-returns-2 c = c .moved2 .ensures ∙ simp (ne-eqb _ _ (c .before .before .before .if1 .left), c .before .zero-slot2 .ensures, c .before .before .stack-seen .ensures)
+unfolding cond windowRule
+returns-2 c = c .stack-seen .ensures ∙ simp (ne-eqb _ _ (c .before .if1 .left))
 
 pub window-spec : {M : Type 1} → statement M
 window-spec =
     tie.close
     (tie.spec
+    queue-view-requires
+    window-for-requires
     queue-seen-requires
-    zero-slot-requires
-    moved-requires
     returns
     stack-seen-requires
-    zero-slot-requires-2
-    moved-requires-2
     returns-2)

@@ -31,14 +31,32 @@ put-shifted-requires c κs = search needs
 put-worker-requires-3 : tie.Need-put-worker-requires-3
 put-worker-requires-3 c κs = search needs
 
+enum-told-4 : tie.Need-enum-told-4
+enum-told-4 c = search needs
+
+put-raised-requires : tie.Need-put-raised-requires
+put-raised-requires c κs = search needs
+
+put-worker-requires-4 : tie.Need-put-worker-requires-4
+put-worker-requires-4 c κs = search needs
+
+enum-told-5 : tie.Need-enum-told-5
+enum-told-5 c = search needs
+
+put-dropped-requires : tie.Need-put-dropped-requires
+put-dropped-requires c κs = search needs
+
+put-worker-requires-5 : tie.Need-put-worker-requires-5
+put-worker-requires-5 c κs = search needs
+
 enum-known-outcome-2 : tie.Need-enum-known-outcome-2
 enum-known-outcome-2 c = search needs
 
 put-landed-requires : tie.Need-put-landed-requires
 put-landed-requires c κs = search needs
 
-put-worker-requires-4 : tie.Need-put-worker-requires-4
-put-worker-requires-4 c κs = search needs
+put-worker-requires-6 : tie.Need-put-worker-requires-6
+put-worker-requires-6 c κs = search needs
 
 enum-known-outcome-3 : tie.Need-enum-known-outcome-3
 enum-known-outcome-3 c = search needs
@@ -49,20 +67,20 @@ taken-requires c κs = search needs
 put-sub-requires : tie.Need-put-sub-requires
 put-sub-requires c κs = search needs
 
-put-worker-requires-5 : tie.Need-put-worker-requires-5
-put-worker-requires-5 c κs = search needs
-
-enum-told-4 : tie.Need-enum-told-4
-enum-told-4 c = search needs
-
-put-worker-requires-6 : tie.Need-put-worker-requires-6
-put-worker-requires-6 c κs = search needs
-
-enum-told-5 : tie.Need-enum-told-5
-enum-told-5 c = search needs
-
 put-worker-requires-7 : tie.Need-put-worker-requires-7
 put-worker-requires-7 c κs = search needs
+
+enum-told-6 : tie.Need-enum-told-6
+enum-told-6 c = search needs
+
+put-worker-requires-8 : tie.Need-put-worker-requires-8
+put-worker-requires-8 c κs = search needs
+
+enum-told-7 : tie.Need-enum-told-7
+enum-told-7 c = search needs
+
+put-worker-requires-9 : tie.Need-put-worker-requires-9
+put-worker-requires-9 c κs = search needs
 
 returns : tie.Need-returns
 unfolding applyOf applyBy
@@ -94,28 +112,42 @@ same-length-4 c = search needs
 
 returns-5 : tie.Need-returns-5
 unfolding applyOf applyBy
-returns-5 c = simp (c .before .before .put-worker4 .ensures, c .before .before .before .before .before .before .put-landed .ensures, c .before .before .before .before .before .before .before .before .before .outcome2 .given .1)
+returns-5 c = simp (c .before .before .put-worker4 .ensures, c .before .before .before .before .before .before .put-raised .ensures, c .before .before .before .before .before .before .before .before .enum-told4 .given .1)
 
 same-length-5 : tie.Need-same-length-5
 same-length-5 c = search needs
 
 returns-6 : tie.Need-returns-6
 unfolding applyOf applyBy
-returns-6 c = simp (c .before .before .put-worker5 .ensures, c .before .before .before .before .before .before .put-sub .ensures, c .before .before .before .before .before .before .before .before .taken .ensures, c .before .before .before .before .before .before .before .before .before .before .before .outcome3 .given .1)
+returns-6 c = simp (c .before .before .put-worker5 .ensures, c .before .before .before .before .before .before .put-dropped .ensures, c .before .before .before .before .before .before .before .before .enum-told5 .given .1)
 
 same-length-6 : tie.Need-same-length-6
 same-length-6 c = search needs
 
 returns-7 : tie.Need-returns-7
 unfolding applyOf applyBy
-returns-7 c = simp (c .before .before .put-worker6 .ensures, c .before .before .before .before .enum-told4 .given .1)
+returns-7 c = simp (c .before .before .put-worker6 .ensures, c .before .before .before .before .before .before .put-landed .ensures, c .before .before .before .before .before .before .before .before .before .outcome2 .given .1)
 
 same-length-7 : tie.Need-same-length-7
 same-length-7 c = search needs
 
 returns-8 : tie.Need-returns-8
 unfolding applyOf applyBy
-returns-8 c = simp (c .before .before .put-worker7 .ensures, c .before .before .before .before .enum-told5 .given .1)
+returns-8 c = simp (c .before .before .put-worker7 .ensures, c .before .before .before .before .before .before .put-sub .ensures, c .before .before .before .before .before .before .before .before .taken .ensures, c .before .before .before .before .before .before .before .before .before .before .before .outcome3 .given .1)
+
+same-length-8 : tie.Need-same-length-8
+same-length-8 c = search needs
+
+returns-9 : tie.Need-returns-9
+unfolding applyOf applyBy
+returns-9 c = simp (c .before .before .put-worker8 .ensures, c .before .before .before .before .enum-told6 .given .1)
+
+same-length-9 : tie.Need-same-length-9
+same-length-9 c = search needs
+
+returns-10 : tie.Need-returns-10
+unfolding applyOf applyBy
+returns-10 c = simp (c .before .before .put-worker9 .ensures, c .before .before .before .before .enum-told7 .given .1)
 
 pub apply-spec : {M : Type 1} → statement M
 apply-spec =
@@ -130,17 +162,23 @@ apply-spec =
     enum-told-3
     put-shifted-requires
     put-worker-requires-3
+    enum-told-4
+    put-raised-requires
+    put-worker-requires-4
+    enum-told-5
+    put-dropped-requires
+    put-worker-requires-5
     enum-known-outcome-2
     put-landed-requires
-    put-worker-requires-4
+    put-worker-requires-6
     enum-known-outcome-3
     taken-requires
     put-sub-requires
-    put-worker-requires-5
-    enum-told-4
-    put-worker-requires-6
-    enum-told-5
     put-worker-requires-7
+    enum-told-6
+    put-worker-requires-8
+    enum-told-7
+    put-worker-requires-9
     returns
     same-length
     returns-2
@@ -155,4 +193,8 @@ apply-spec =
     same-length-6
     returns-7
     same-length-7
-    returns-8)
+    returns-8
+    same-length-8
+    returns-9
+    same-length-9
+    returns-10)

@@ -6,6 +6,7 @@ use Rattle.rules.specs.Effects.{viewOf}
 use Rattle.rules.specs.Step.{slotStep}
 use Rattle.rules.specs.declared.View.{View}
 use borrow.Author.Needs.{needs}
+use Rattle.step.proofs.Seen.{view-inside}
 use Rattle.step.proofs.work.slot_step.Statement.{statement}
 use Rattle.step.proofs.work.slot_step.Tie as tie
 
@@ -39,7 +40,8 @@ rule-requires : tie.Need-rule-requires
 unfolding viewOf slotAt
 rule-requires c κs =
     let s = c .before .before .before .before .before .before .before .before .before .before .before in
-    (s .pre .0 .bounds, rw (ap (λ (v : View). v .worker .index) (c .view .ensures)) (s .pre .1 .1))
+    let b = s .pre .0 .bounds in
+    (b, (rw (ap (λ (v : View). v .worker .index) (c .view .ensures)) (s .pre .1 .1), rw (c .view .ensures) (view-inside (s .args .words .now) (s .args .g) (s .args .at) b (s .pre .1 .1))))
 
 apply-requires : tie.Need-apply-requires
 apply-requires c κs =

@@ -71,6 +71,12 @@ enum-known-phase-10 c = search needs
 words-requires-11 : tie.Need-words-requires-11
 words-requires-11 c κs = search needs
 
+enum-known-phase-11 : tie.Need-enum-known-phase-11
+enum-known-phase-11 c = search needs
+
+words-requires-12 : tie.Need-words-requires-12
+words-requires-12 c κs = search needs
+
 returns : tie.Need-returns
 unfolding encode encodePhase
 returns c = c .words .ensures ∙ simp (c .before .enum-told .given .1)
@@ -115,6 +121,10 @@ returns-11 : tie.Need-returns-11
 unfolding encode encodePhase
 returns-11 c = c .words11 .ensures ∙ simp (c .before .before .phase10 .given .1)
 
+returns-12 : tie.Need-returns-12
+unfolding encode encodePhase
+returns-12 c = c .words12 .ensures ∙ simp (c .before .before .phase11 .given .1)
+
 pub slot-of-spec : {M : Type 1} → statement M
 slot-of-spec =
     tie.close
@@ -141,6 +151,8 @@ slot-of-spec =
     words-requires-10
     enum-known-phase-10
     words-requires-11
+    enum-known-phase-11
+    words-requires-12
     returns
     returns-2
     returns-3
@@ -151,4 +163,5 @@ slot-of-spec =
     returns-8
     returns-9
     returns-10
-    returns-11)
+    returns-11
+    returns-12)

@@ -1,0 +1,143 @@
+-- The steps of a put, but its commit.
+--
+-- A pass starts at the put window, with no sub read. A sub that it misses has reached the window's top, and stays there; so a put that comes to its shift
+-- has seen every sub of the window's width at its top, and the next window may be added. Where it may not, because the rows are used up, every
+-- place after the take window holds an item.
+use mathlib.Core.Path.{_≡_, refl, subst, _∙_}
+use mathlib.Core.Logic.{_⊎_, inl, inr}
+use Prim.Native.Nat.{ℕ, suc, _+_, _-_, _%_, _≤_, _<_}
+use native.Mathlib.Nat.{le-refl, mod-lt}
+use native.Mathlib.Omega.{arith}
+use lib.Dec.{ltb, leb, eqb}
+use lib.ListN.{length}
+use borrow.Author.Tests.{ltb-true, ltb-false, leb-true, leb-false, eqb-true, eqb-false}
+use Rattle.laws.specs.Choice.{cases}
+use Rattle.rules.specs.Limits.{Bounds}
+use Rattle.rules.specs.Worker.{zeroSlot}
+use Rattle.rules.specs.Effects.{nextOf, putWindow}
+use Rattle.rules.specs.Window.{windowRule}
+use Rattle.rules.specs.Read.{queuePutRead, missOf}
+use Rattle.rules.specs.Shift.{queueShift, shiftBy, shiftedOf}
+use Rattle.rules.specs.Sequential.{Operation, putting, Contents}
+use Rattle.rules.proofs.Types.{Settings, Putting, Window, QueuePutRead, QueueCommit, QueueShift, Span, Effect}
+use Rattle.rules.specs.declared.Outcome.the-variants.{Raised}
+use Rattle.rules.proofs.counts.Visits.{Visited, visited-none, visited-all, visited-next}
+use Rattle.rules.proofs.counts.Wraps.{add32-is, add32-suc, sub32-is, next-lt}
+use Rattle.rules.proofs.machine.Machine.{Frame, State, topOf, placesIn, subIn, viewIn, phaseIn, applyIn}
+use Rattle.rules.proofs.machine.Phases.{OfQueue}
+use Rattle.rules.proofs.queue.Inv.{Windows, PutReads, PutShifts, Knows, Inv, same-top, base-le, top-few}
+use Rattle.rules.proofs.queue.Moves.{AllPlaces, Stepped, walk, raise-window, end-full}
+use Rattle.rules.proofs.queue.View.{of-now, plain, put-window-is, take-bottom, places-same}
+use Rattle.rules.proofs.queue.Raise.{raise}
+use Rattle.rules.proofs.queue.Full.{places-held, places-old}
+
+module _ (g : Settings) (bounds : Bounds g) (kind : g .kind ≡ 0) (s : State) (q : Contents) (inv : Inv g s q) (i : ℕ) where
+  abbrev Steps : Effect → Type 0
+  Steps e = Stepped g s q i (applyIn g s i e)
+
+  abbrev f : Frame
+  f = s .frame
+
+  abbrev w : Windows g f
+  w = inv .pool .windows
+
+  abbrev operation : Operation
+  operation = putting (s .slot i .value)
+
+  abbrev j : ℕ
+  j = subIn s i
+
+  -- ---- window
+  pub put-window : phaseIn g s i ≡ Window Putting → Steps (windowRule g (viewIn g s i) Putting)
+  unfolding windowRule
+  put-window now =
+      let k = put-window-is (inv .pool) i in
+      let wide : 1 ≤ g .width = bounds .width1 in
+      cases Steps (eqb (g .kind) 0) _ _
+      (λ e. walk g kind s q inv i (Window Putting) now (j % g .width) (QueuePutRead (putWindow (viewIn g s i)) 0) refl zeroSlot
+      (record { sees = k; index-lt = mod-lt j wide; scan-lt = wide; missed = λ m l v. absurd (visited-none l v) }) operation refl refl)
+      (λ e. absurd (eqb-false _ _ e kind))
+
+  -- ---- read
+  module _ (window : Span) (scan : ℕ) (now : phaseIn g s i ≡ QueuePutRead window scan) where
+    k : PutReads s j window scan
+    k = subst (Knows s j) now (inv .knows i)
+
+    wide16 : window .width ≤ 16
+    wide16 = omega (arith, k .sees .wide, w .wide-le (k .sees .at) (k .sees .at-le), bounds .width16)
+
+    on : nextOf (window .width) j < window .width
+    on = next-lt (window .width) j (omega (arith, k .index-lt))
+
+    -- one sub more has reached the window
+    more : window .top ≤ s .first j → (m : ℕ) → m < window .width
+        → Visited (window .width) (nextOf (window .width) j) (suc scan) m → window .top ≤ s .first m
+    more h m l v = go (visited-next (window .width) (k .index-lt) l v)
+      where
+        go : ((m ≡ j) ⊎ Visited (window .width) j scan m) → window .top ≤ s .first m
+        go (inl e) = rw e h
+        go (inr u) = k .missed m l u
+
+    of : OfQueue g (QueuePutRead window scan)
+    of = of-now g kind s i (QueuePutRead window scan) now
+
+    pub put-read : Steps (queuePutRead (viewIn g s i) window scan)
+    unfolding queuePutRead missOf
+    put-read =
+        cases Steps (ltb (s .first j) (window .top)) _ _
+        (λ a. walk g kind s q inv i (QueuePutRead window scan) now j (QueueCommit Putting window (s .first j)) of _
+        (record { sees = k .sees; index-lt = k .index-lt; below = ltb-true _ _ a }) operation refl refl)
+        (λ a. rw (add32-suc scan (omega (arith, k .scan-lt, wide16)))
+        (cases Steps (ltb (suc scan) (window .width)) _ _
+        (λ b. walk g kind s q inv i (QueuePutRead window scan) now (nextOf (window .width) j) (QueuePutRead window (suc scan)) of _
+        (record { sees = k .sees; index-lt = on; scan-lt = ltb-true _ _ b; missed = more (ltb-false _ _ a) }) operation refl refl)
+        (λ b. walk g kind s q inv i (QueuePutRead window scan) now (nextOf (window .width) j) (QueueShift Putting window) of _
+        (record { sees = k .sees; reached = reached (ltb-false _ _ a) (ltb-false _ _ b) }) operation refl refl)))
+      where
+        reached : window .top ≤ s .first j → window .width ≤ suc scan → (m : ℕ) → m < window .width → window .top ≤ s .first m
+        reached h b m l =
+            let e : suc scan ≡ window .width = omega (arith, k .scan-lt) in
+            more h m l (rw e (visited-all on l))
+
+  -- ---- shift
+  module _ (window : Span) (now : phaseIn g s i ≡ QueueShift Putting window) where
+    at-shift : PutShifts s window
+    at-shift = subst (Knows s j) now (inv .knows i)
+
+    -- the window seen is the put window, and each sub in its width has reached its top
+    pub reached : topOf f ≡ window .top → (m : ℕ) → m < f .wide (f .tail) → topOf f ≤ s .first m
+    reached same m l =
+        let e : at-shift .sees .at ≡ f .tail = same-top w (at-shift .sees .at) (f .tail) (at-shift .sees .at-le) (le-refl _) (omega (arith, at-shift .sees .top)) in
+        let wide : window .width ≡ f .wide (f .tail) = rw e at (at-shift .sees .wide) in
+        omega (arith, at-shift .reached m (omega arith))
+
+    -- where the rows allow it the next window is added
+    up : topOf f ≡ window .top → s .top + g .depth - f .base (f .head) ≤ g .rows
+        → Steps (shiftedOf (viewIn g s i) Raised Putting (s .top + g .depth) (s .mark))
+    up same fits =
+        raise-window g kind s q inv i (QueueShift Putting window) now (s .top + g .depth) refl
+        (raise g s q (inv .pool) (s .top + g .depth) (omega (arith, inv .pool .top, plain (inv .pool) .next-deep)) (omega arith) (reached same))
+
+    -- else each place after the take window holds an item
+    least : topOf f ≡ window .top → placesIn g s ≤ length (q .items)
+    least same = rw (places-same (inv .pool)) (places-held (inv .pool) (reached same))
+
+    -- and the live windows take up all rows
+    all : g .rows < s .top + g .depth - f .base (f .head) → AllPlaces g s
+    all full = places-same (inv .pool) ∙ places-old (inv .pool) (omega (arith, inv .pool .top, plain (inv .pool) .next-deep))
+
+    pub put-shift : Steps (queueShift g (viewIn g s i) Putting window)
+    unfolding queueShift shiftBy
+    put-shift =
+        let few = top-few (inv .pool) in
+        let top = inv .pool .top in
+        let low : f .base (f .head) ≤ topOf f = base-le w (f .head) (suc (f .tail)) (omega (arith, w .order)) (le-refl _) in
+        cases Steps (eqb (s .top) (window .top)) _ _
+        (λ a. let same : topOf f ≡ window .top = omega (arith, top, eqb-true (s .top) (window .top) a) in
+        rw (add32-is (s .top) (g .depth) (omega (arith, bounds .depth64)))
+        (rw (take-bottom (inv .pool) i)
+        (rw (sub32-is (s .top + g .depth) (f .base (f .head)) (omega arith) (omega (arith, bounds .depth64)))
+        (cases Steps (leb (s .top + g .depth - f .base (f .head)) (g .rows)) _ _
+        (λ b. up same (leb-true _ _ b))
+        (λ b. end-full g kind s q inv i (QueueShift Putting window) now j refl (least same) (all (leb-false _ _ b)))))))
+        (λ a. walk g kind s q inv i (QueueShift Putting window) now j (Window Putting) tt _ tt operation refl refl)
