@@ -159,8 +159,8 @@ pub const FAULTS: [Fault; 69] = [
     fault(
         "a distance that does not go on from the first cell",
         "stages/distance.rs",
-        "(1..=pool.items(j))",
-        "(1..=pool.items(j).min(pool.settings.rows - below % pool.settings.rows))",
+        "(1..=rows)",
+        "(1..=rows.min(pool.settings.rows - below % pool.settings.rows))",
     ),
     fault(
         "a distance that goes on from cell 1",
@@ -177,8 +177,8 @@ pub const FAULTS: [Fault; 69] = [
     trap(
         "a full sub whose lowest row counts twice",
         "stages/distance.rs",
-        "(1..=pool.items(j))",
-        "(1..=pool.items(j) + pool.items(j) / pool.settings.rows)",
+        "(1..=rows)",
+        "(1..=rows + rows / pool.settings.rows)",
     ),
     trap(
         "spacers counted in the distance",
@@ -219,8 +219,8 @@ pub const FAULTS: [Fault; 69] = [
     trap(
         "a one-at-a-time list whose limit leaves out spacers",
         "one_at_a_time/sequential.rs",
-        "self.passed_over(at) <= self.most_passed",
-        "self.reported(at) <= self.most_passed",
+        "self.passed_over(at) <= most_passed",
+        "self.reported(at) <= most_passed",
     ),
     fault(
         "a failed commit keeps its index",
@@ -333,8 +333,8 @@ pub const FAULTS: [Fault; 69] = [
     fault(
         "a move that looks at the edition before the settings",
         "pool/fit.rs",
-        "    if !settings.within_limits() {\n",
-        "    if if_another != UNFIT && words[layout::EDITION] != edition.word() {\n        return Err(if_another);\n    }\n    if !settings.within_limits() {\n",
+        "    if !settings.within_limits_in(edition) {\n",
+        "    if if_another != UNFIT && words[layout::EDITION] != edition.word() {\n        return Err(if_another);\n    }\n    if !settings.within_limits_in(edition) {\n",
     ),
     fault(
         "a move of edition 7 refused with 23",
@@ -344,57 +344,57 @@ pub const FAULTS: [Fault; 69] = [
     ),
     fault(
         "a move that looks at the target before subs and workers",
-        "moves.rs",
+        "moves/mod.rs",
         "    let source = match fit_to_move",
-        "    if from.len() >= layout::HEADER_WORDS {\n        let settings = crate::pool::settings::Settings::of_words(from);\n        let head_fits = settings.within_limits() && from[layout::EDITION] == old.word();\n        if head_fits && to.len() < settings.needed_words_in(new) {\n            return TOO_SHORT;\n        }\n    }\n    let source = match fit_to_move",
+        "    if from.len() >= layout::HEADER_WORDS {\n        let settings = crate::pool::settings::Settings::of_words(from);\n        let head_fits = settings.within_limits_in(old) && from[layout::EDITION] == old.word();\n        if head_fits && to.len() < settings.needed_words_in(new) {\n            return TOO_SHORT;\n        }\n    }\n    let source = match fit_to_move",
     ),
     fault(
         "a move that looks at the target before all else",
-        "moves.rs",
+        "moves/mod.rs",
         "    let source = match fit_to_move",
         "    if from.len() >= layout::HEADER_WORDS {\n        let settings = crate::pool::settings::Settings::of_words(from);\n        if to.len() < settings.needed_words_in(new) {\n            return TOO_SHORT;\n        }\n    }\n    let source = match fit_to_move",
     ),
     fault(
         "a move back that asks for nine words for each worker",
-        "moves.rs",
+        "moves/mod.rs",
         "needed_words_in(new)",
         "needed_words_in(Edition::One)",
     ),
     fault(
         "a move that keeps the source's edition",
-        "moves.rs",
+        "moves/mod.rs",
         "target.edition.word()",
         "source.edition.word()",
     ),
     fault(
         "a move on that leaves the target's old ninth words",
-        "moves.rs",
-        "target.set_worker(number, source.worker(number));",
-        "let moved = crate::pool::Worker {\n            failed_commits: target.worker(number).failed_commits,\n            ..source.worker(number)\n        };\n        target.set_worker(number, moved);",
+        "moves/mod.rs",
+        "target.set_worker(number, with_seen_size(source, source.worker(number)));",
+        "let moved = crate::pool::Worker {\n            failed_commits: target.worker(number).failed_commits,\n            ..with_seen_size(source, source.worker(number))\n        };\n        target.set_worker(number, moved);",
     ),
     fault(
         "a move back whose cells begin with the last ninth word",
-        "moves.rs",
+        "moves/mod.rs",
         "    target.words[cells].copy_from_slice(&source.words[source.cells()]);\n",
         "    let early = usize::from(source.edition == Edition::One);\n    let from = source.cells().start - early..source.cells().end - early;\n    target.words[cells].copy_from_slice(&source.words[from]);\n",
     ),
     fault(
         "a move that clears the words beyond the needed ones",
-        "moves.rs",
+        "moves/mod.rs",
         "    copy_pool(&source, &mut target);\n",
         "    copy_pool(&source, &mut target);\n    let needed = target.cells().end;\n    target.words[needed..].fill(0);\n",
     ),
     fault(
         "a move that ends the operations under way",
-        "moves.rs",
-        "target.set_worker(number, source.worker(number));",
-        "target.set_worker(number, source.worker(number).idle());",
+        "moves/mod.rs",
+        "with_seen_size(source, source.worker(number))",
+        "source.worker(number).idle()",
     ),
     fault(
         "a failed commit in edition 0 that hops by 1",
         "stages/commit.rs",
         "pool.settings.stride.max(1)",
-        "match pool.edition {\n        crate::pool::edition::Edition::Zero => 1,\n        crate::pool::edition::Edition::One => pool.settings.stride.max(1),\n    }",
+        "match pool.edition {\n        crate::pool::edition::Edition::Zero => 1,\n        _ => pool.settings.stride.max(1),\n    }",
     ),
     fault(
         "spacers counted in edition 0's distance",

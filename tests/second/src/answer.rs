@@ -36,6 +36,10 @@ pub const IDLE: u32 = 26;
 pub const SPENT: u32 = 27;
 /// K6: a move from another edition.
 pub const WRONG_EDITION: u32 = 31;
+/// K8: a next size off limits, or one for a stack.
+pub const NO_SUCH_SIZE: u32 = 32;
+/// K8: a move that the pool is excepted from.
+pub const MAY_NOT_MOVE: u32 = 33;
 
 /// A begin or step with this step count or more is refused with 27.
 pub const STEP_LIMIT: u32 = 4_000_000_000;

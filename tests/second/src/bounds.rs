@@ -5,6 +5,8 @@
 //! also stand above the distance, which counts no spacers.
 
 use crate::pool::settings::{Settings, QUEUE};
+use crate::pool::size::Size;
+use crate::pool::Pool;
 
 /// What a take passes over stands in the other subs: d older items in each of
 /// a queue's, the same in every figure here, and so many newer ones in each of
@@ -19,7 +21,8 @@ fn in_other_subs(settings: &Settings, of_stack: u32) -> u32 {
 }
 
 /// Demand 3: a take may pass over this many items: older ones of a queue,
-/// (w - 1) x d; newer ones of a stack, (w - 1) x (2d + 2s).
+/// (w - 1) x d; newer ones of a stack, (w - 1) x (2d + 2s). Of a queue whose windows
+/// have sizes of their own it is the figure of those that have the pool's.
 pub fn distance_bound(settings: &Settings) -> u32 {
     in_other_subs(settings, 2 * settings.depth + 2 * settings.shift)
 }
@@ -64,4 +67,22 @@ pub fn full_bound(settings: &Settings) -> u32 {
         settings.rows - settings.shift + 1
     };
     settings.width * per_sub
+}
+
+/// The window that a worker of a queue has seen, past its window phase, where windows
+/// have sizes of their own (K8).
+pub(crate) fn seen_size(pool: &Pool, worker: u32) -> Option<Size> {
+    let worker = pool.worker(worker);
+    pool.has_sizes().then(|| Size {
+        width: worker.seen_width,
+        depth: worker.seen_window.wrapping_sub(worker.seen_bottom),
+    })
+}
+
+/// How many places there are in the windows after the take window, where windows have
+/// sizes of their own.
+pub(crate) fn places_after_take_window(pool: &Pool) -> Option<u32> {
+    let places = |size: Size| size.width * size.depth;
+    let after = || (1..pool.live()).map(|k| places(pool.live_size(k))).sum();
+    pool.has_sizes().then(after)
 }

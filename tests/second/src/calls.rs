@@ -1,20 +1,22 @@
-//! The pool's calls: make, begin put, begin take and step. The edition decides what
-//! make writes, what is fit and where a word stands; the rules are the same in all.
+//! The pool's calls: make, begin put, begin take and step; and from edition 2 on the
+//! one that sets a size. The edition decides what make writes, what is fit and where a
+//! word stands; the rules are the same in all.
 
-use crate::answer::TOO_SHORT;
 use crate::answer::{Answer, BUSY, IDLE, MOVING, NO_WORKER, OFF_LIMITS, SPENT, STEP_LIMIT};
+use crate::answer::{NO_SUCH_SIZE, TOO_SHORT};
 use crate::pool::edition::Edition;
 use crate::pool::fit::fit;
 use crate::pool::phase::{self, Side, Stage};
 use crate::pool::settings::{Settings, QUEUE};
+use crate::pool::size::Size;
 use crate::pool::{layout, Pool, Worker};
 use crate::stages;
 
 /// Paper 01, "Make sets P = T = d, or G = d; worker i has index i mod w; all
-/// other needed words but the settings are zero", and K5's edition. Refusals:
-/// 22, then 21.
+/// other needed words but the settings are zero", and K5's edition. K8: the next size,
+/// and that of the one window, "is the pool's". Refusals: 22, then 21.
 pub fn make(edition: Edition, words: &mut [u32], settings: Settings) -> Answer {
-    if !settings.within_limits() {
+    if !settings.within_limits_in(edition) {
         return Answer::of(OFF_LIMITS);
     }
     let needed = settings.needed_words_in(edition);
@@ -41,6 +43,11 @@ pub fn make(edition: Edition, words: &mut [u32], settings: Settings) -> Answer {
         settings,
         edition,
     };
+    if pool.has_sizes() {
+        pool.set_next_size(Size::of_pool(&settings));
+        pool.set_live(1);
+        pool.set_live_size(0, Size::of_pool(&settings));
+    }
     for i in 0..settings.workers {
         let made = Worker {
             index: i % settings.width,
@@ -93,6 +100,23 @@ pub fn step(edition: Edition, words: &mut [u32], number: u32) -> Answer {
     // "A step not refused adds 1 to the step count", which is below its limit.
     pool.words[layout::STEPS_COUNTED] += 1;
     answer
+}
+
+/// K8: "A call sets the size of put windows from the next one on", and after fitness
+/// "refuses a next size off limits, or one for a pile, with 32". It is no step: it
+/// neither counts nor goes by the step count. Before edition 2 there is no such call.
+pub fn set_size(words: &mut [u32], size: Size) -> Answer {
+    let mut pool = match fit(words, Edition::Two) {
+        Ok(pool) => pool,
+        Err(refusal) => return Answer::of(refusal),
+    };
+    if !pool.is_queue() || !size.within_limits(&pool.settings) {
+        return Answer::of(NO_SUCH_SIZE);
+    }
+    pool.set_next_size(size);
+    let set = pool.size_word(layout::SIZE_SET);
+    pool.words[set] = 1;
+    Answer::of(MOVING)
 }
 
 /// Paper 01, Order: fit (21 and 23), then 24, 25 or 26, 27.

@@ -4,7 +4,8 @@ use crate::answer::Answer;
 use crate::dispatch::Dispatched;
 use crate::pool::edition::Edition;
 use crate::pool::settings::Settings;
-use crate::{calls, dispatch as dispatcher};
+use crate::{calls, dispatch as dispatcher, listing};
+use std::io::{Read, Result, Write};
 
 const CURRENT: Edition = Edition::CURRENT;
 
@@ -35,4 +36,12 @@ pub fn dispatch_watched(
     watch: impl FnMut(u32, Answer),
 ) -> Dispatched {
     dispatcher::dispatch_watched(CURRENT, words, named, count, watch)
+}
+
+pub fn list<R: Read, W: Write>(input: R, output: W) -> Result<()> {
+    listing::list(CURRENT, input, output)
+}
+
+pub fn summarize<R: Read, W: Write>(input: R, output: W) -> Result<()> {
+    listing::summarize(CURRENT, input, output)
 }

@@ -5,10 +5,10 @@ mod common;
 
 use common::failed_commits::{commit_fails, failed_commits, phase, set_failed_commits};
 use common::states::{every_state, small_pools, CALLS, STEP};
-use common::{finish, made, put_answer, queue, stack, strided, taken_answer, Numbers};
+use common::{finish, made, put_answer, queue, set_phase, stack, strided, taken_answer, Numbers};
 use second::phase::{decode, Side, Stage};
-use second::{begin_put, begin_take, dispatch, layout, make, step};
-use second::{Answer, Dispatched, Settings, CURRENT_EDITION, STACK, STEP_LIMIT};
+use second::{begin_put, begin_take, dispatch, in_edition, layout, step};
+use second::{Answer, Dispatched, Edition, Settings, CURRENT_EDITION, STACK, STEP_LIMIT};
 use second::{EMPTY, FULL, MOVING, NO_WORKER, PUT, SPENT, TAKEN, TOO_SHORT, UNFIT};
 use std::collections::BTreeSet;
 
@@ -135,7 +135,7 @@ fn name(before: &[u32], after: &[u32], worker: u32, answer: Answer) -> String {
 fn at_commit(settings: Settings, side: Side, seen: u32) -> Vec<u32> {
     let mut words = made(settings);
     let at = settings.workers_at() + layout::WORKER_WORDS;
-    words[at + layout::PHASE] = side.phase(Stage::Commit);
+    set_phase(&mut words, 1, side.phase(Stage::Commit));
     words[at + layout::SEEN] = seen;
     words
 }
@@ -236,12 +236,12 @@ fn the_edition_among_the_refusals() {
         words.push(0);
         for index in [0, settings.width] {
             words[settings.workers_at() + layout::INDEX] = index;
-            for edition in [0, CURRENT_EDITION, 2, 3, 1 << 31, TOP] {
+            for edition in [0, 1, 2, 3, 1 << 31, TOP] {
                 words[layout::EDITION] = edition;
                 for len in 0..=needed + 1 {
                     let expected = match len {
                         0..=11 => TOO_SHORT,
-                        _ if edition != 1 => UNFIT,
+                        _ if edition != CURRENT_EDITION => UNFIT,
                         _ if len < needed => TOO_SHORT,
                         _ if index == settings.width => UNFIT,
                         _ => NO_WORKER,
@@ -259,12 +259,13 @@ fn nine_words_for_each_worker() {
         for rows in [2, 3, 256] {
             for settings in [queue(w, 1, rows, n), stack(w, 1, 1, rows, n)] {
                 let needed = (12 + 2 * w + 9 * n + 2 * w * rows) as usize;
-                assert_eq!(settings.needed_words(), needed);
+                assert_eq!(settings.needed_words_in(Edition::One), needed);
+                let make = |words: &mut [u32]| in_edition::make(Edition::One, words, settings);
                 let mut words = vec![0; needed];
                 for len in [needed - n as usize, needed - 1] {
-                    assert_eq!(make(&mut words[..len], settings).number, TOO_SHORT);
+                    assert_eq!(make(&mut words[..len]).number, TOO_SHORT);
                 }
-                assert_eq!(make(&mut words, settings).number, MOVING);
+                assert_eq!(make(&mut words).number, MOVING);
             }
         }
     }

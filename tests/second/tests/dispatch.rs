@@ -6,7 +6,7 @@ mod common;
 
 use common::dispatch::dispatch_by_steps;
 use common::states::every_state;
-use common::{made, put_answer, queue, stack};
+use common::{made, put_answer, queue, set_phase, stack};
 use second::phase::{Side, Stage};
 use second::{begin_put, begin_take, dispatch, dispatch_watched, layout, step};
 use second::{Answer, Dispatched, Settings, EMPTY, MOVING, NO_WORKER, PUT};
@@ -201,7 +201,7 @@ fn a_commits_refusal_passes_through() {
         let mut words = made(settings);
         words[settings.subs_at()] = 2;
         let at = worker_at(&words, 1);
-        words[at + layout::PHASE] = Side::Put.phase(Stage::Commit);
+        set_phase(&mut words, 1, Side::Put.phase(Stage::Commit));
         words[at + layout::SEEN] = seen;
         refused_unchanged(&mut words, 1, 1, UNFIT);
         // Worker 0's step stands.
@@ -221,7 +221,7 @@ fn an_answer_that_leaves_no_fit_pool() {
     let mut words = made(settings);
     words[settings.subs_at()..settings.workers_at()].fill(TOP);
     let at = worker_at(&words, 0);
-    words[at + layout::PHASE] = Side::Put.phase(Stage::Commit);
+    set_phase(&mut words, 0, Side::Put.phase(Stage::Commit));
     words[at + layout::SEEN] = TOP;
     begin_take(&mut words, 1);
     let (number, fields) = dispatch(&mut words, 0, TOP).returned();

@@ -7,7 +7,8 @@ mod common;
 use common::{made, queue, stack};
 use second::phase::Side;
 use second::{begin_put, begin_take, one_at_a_time, step, worst_distance};
-use second::{Answer, AtLast, Event, Settings, EMPTY, FULL, MOVING, PUT, TAKEN};
+use second::{Answer, AtLast, Edition, Event, Fed, Settings};
+use second::{EMPTY, FULL, MOVING, PUT, TAKEN};
 
 /// A run, with its calls and answers.
 struct Run {
@@ -43,8 +44,14 @@ impl Run {
     }
 
     fn step(&mut self, worker: u32) -> Answer {
+        let before = self.words.clone();
         let answer = step(&mut self.words, worker);
-        self.events.push(Event::Step { worker, answer });
+        let fed = Fed::of(Edition::CURRENT, &before, worker, &answer);
+        self.events.push(Event::Step {
+            worker,
+            answer,
+            fed,
+        });
         answer
     }
 

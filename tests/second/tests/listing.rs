@@ -4,6 +4,7 @@
 mod common;
 
 use common::run_file::{a_lost_commit, a_take_at_the_bound, bytes, EXAMPLE, REFUSED_CALLS};
+use second::Edition;
 
 fn listing(file: &[u8]) -> String {
     let mut output = Vec::new();
@@ -51,7 +52,8 @@ fn a_kind_out_of_place_and_a_spare_bit() {
     for position in 0..EXAMPLE.len() {
         let right = EXAMPLE[position] >> 28;
         for kind in 0..16 {
-            let fits_too = position > 1 && (3..=6).contains(&kind);
+            let calls = (3..=6).contains(&kind) || kind == 8 && Edition::CURRENT.has_sizes();
+            let fits_too = position > 1 && calls;
             if kind == right || fits_too {
                 continue;
             }
@@ -99,10 +101,11 @@ fn settings_off_limits_stop_at_position_1() {
         (0x10001021, 0x20000801), // R 1
         (0x10001021, 0x20000002), // n 0
         (0x10001021, 0x20010802), // n 33
-        (0x10002041, 0x20000805), // queue, d 2, R 5
         (0x10101021, 0x20000802), // stride 1, w 1
     ];
-    for (first, second) in headers {
+    // Queue, d 2, R 5: where all windows have the pool's depth.
+    let no_multiple = Some((0x10002041, 0x20000805)).filter(|_| !Edition::CURRENT.has_sizes());
+    for (first, second) in headers.into_iter().chain(no_multiple) {
         // A word after the header changes nothing, not even a faulty one.
         for rest in [vec![], vec![0x60000000], vec![0xffffffff]] {
             let words = [vec![first, second], rest].concat();

@@ -1,11 +1,16 @@
-//! Make: its words, its limits, its refusals.
+//! Make: its words, its limits, its refusals, in edition 1. What edition 2 has more,
+//! or allows, is in size_words.rs.
 
 mod common;
 
 use common::{queue, stack, strided};
-use second::{make, Answer, Settings, MOVING, OFF_LIMITS, TOO_SHORT};
+use second::{in_edition, Answer, Edition, Settings, MOVING, OFF_LIMITS, TOO_SHORT};
 
 const JUNK: u32 = 0x5eed_5eed;
+
+fn make(words: &mut [u32], settings: Settings) -> Answer {
+    in_edition::make(Edition::One, words, settings)
+}
 
 #[test]
 fn every_needed_word_and_none_beyond() {
@@ -77,7 +82,7 @@ fn limits() {
 #[test]
 fn the_largest_pool() {
     for settings in [queue(16, 64, 256, 32), stack(16, 64, 64, 256, 32)] {
-        assert_eq!(settings.needed_words(), 8524);
+        assert_eq!(settings.needed_words_in(Edition::One), 8524);
         assert_eq!(number(settings, 8524), MOVING);
         assert_eq!(number(settings, 8523), TOO_SHORT);
     }
@@ -86,7 +91,7 @@ fn the_largest_pool() {
 #[test]
 fn too_few_words() {
     for settings in [queue(1, 1, 2, 1), stack(16, 64, 64, 256, 32)] {
-        for len in [0, 11, 12, settings.needed_words() - 1] {
+        for len in [0, 11, 12, settings.needed_words_in(Edition::One) - 1] {
             assert_eq!(number(settings, len), TOO_SHORT);
         }
     }

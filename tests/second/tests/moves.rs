@@ -1,14 +1,14 @@
-//! Moves between editions (K6): the words, the order of the refusals, and that the
-//! operations under way go on.
+//! Moves between editions 0 and 1 (K6): the words, the order of the refusals, and that
+//! the operations under way go on.
 
 mod common;
 
 use common::editions::{back, on};
 use common::failed_commits::{failed_commits, set_failed_commits};
-use common::states::{every_state, small_pools};
-use common::{made, queue, stack, strided, Numbers};
+use common::states::{every_state_in, small_pools};
+use common::{made_in, queue, stack, strided, Numbers};
 use second::phase::is_of_kind;
-use second::{dispatch, in_edition, layout, move_0_to_1, move_1_to_0};
+use second::{in_edition, layout, move_0_to_1, move_1_to_0};
 use second::{Answer, Edition, Settings, QUEUE, STEP_LIMIT};
 use second::{EMPTY, FULL, MOVING, PUT, TAKEN, TOO_SHORT, UNFIT, WRONG_EDITION};
 use std::collections::BTreeSet;
@@ -31,11 +31,8 @@ fn moved(mover: Mover, from: &[u32], len: usize) -> Vec<u32> {
     to
 }
 
-fn made_in(edition: Edition, settings: Settings) -> Vec<u32> {
-    let mut words = vec![0; settings.needed_words_in(edition)];
-    let answer = in_edition::make(edition, &mut words, settings);
-    assert_eq!(answer, Answer::of(MOVING));
-    words
+fn made(settings: Settings) -> Vec<u32> {
+    made_in(Edition::One, settings)
 }
 
 #[test]
@@ -301,7 +298,7 @@ fn every_state_goes_on() {
     for settings in small_pools() {
         let mut phases = BTreeSet::new();
         let mut answers = BTreeSet::new();
-        every_state(settings, |words| {
+        every_state_in(Edition::One, settings, |words| {
             for (ninth, counted) in [(0, 0), (TOP, 5), (3, STEP_LIMIT - 1), (1, STEP_LIMIT)] {
                 let mut one = words.to_vec();
                 set_failed_commits(&mut one, [ninth, ninth]);
@@ -318,9 +315,8 @@ fn every_state_goes_on() {
                     }
                 }
             }
-            for worker in
-                words[settings.workers_at()..settings.cells_at()].chunks(layout::WORKER_WORDS)
-            {
+            let workers = settings.workers_at()..settings.cells_at_in(Edition::One);
+            for worker in words[workers].chunks(Edition::One.worker_words()) {
                 phases.insert(worker[layout::PHASE]);
             }
         });
@@ -350,7 +346,7 @@ fn images_go_on() {
             let worker = numbers.below(workers) as u32;
             if numbers.below(10) == 0 {
                 let count = numbers.below(9) as u32;
-                let dispatched = dispatch(&mut one, worker, count);
+                let dispatched = in_edition::dispatch(Edition::One, &mut one, worker, count);
                 let in_0 = in_edition::dispatch(Edition::Zero, &mut zero, worker, count);
                 assert_eq!(in_0, dispatched);
                 assert_eq!(back(&one), zero);

@@ -1,14 +1,26 @@
-//! Images that no make leads to: the order of refusals, and the readings of
-//! "sums in a step are modulo 2^32".
+//! Images that no make leads to, of edition 1: the order of refusals, and the readings
+//! of "sums in a step are modulo 2^32". Those of edition 2 are in size_rows.rs.
 
 mod common;
 
-use common::{made, queue, stack};
+use common::{made_in, queue, stack};
 use second::phase::{Side, Stage};
-use second::{begin_put, layout, step, Answer, Settings};
+use second::{in_edition, layout, Answer, Edition, Settings};
 use second::{BUSY, EMPTY, IDLE, MOVING, NO_WORKER, PUT, SPENT, STEP_LIMIT, TOO_SHORT, UNFIT};
 
 const TOP: u32 = u32::MAX;
+
+fn made(settings: Settings) -> Vec<u32> {
+    made_in(Edition::One, settings)
+}
+
+fn begin_put(words: &mut [u32], worker: u32, value: u32) -> Answer {
+    in_edition::begin_put(Edition::One, words, worker, value)
+}
+
+fn step(words: &mut [u32], worker: u32) -> Answer {
+    in_edition::step(Edition::One, words, worker)
+}
 
 /// A made pool whose worker 0 has these words.
 fn with_worker(settings: Settings, phase: u32, set: &[(usize, u32)]) -> Vec<u32> {
@@ -44,7 +56,7 @@ fn refusals_stand_in_their_order() {
     refused_unchanged(&mut words, 1, NO_WORKER);
     words[settings.subs_at() + layout::ITEMS_TAKEN] = 1;
     refused_unchanged(&mut words, 1, UNFIT);
-    let short = settings.needed_words() - 1;
+    let short = settings.needed_words_in(Edition::One) - 1;
     refused_unchanged(&mut words[..short], 1, TOO_SHORT);
     words[layout::EDITION] = 0;
     refused_unchanged(&mut words[..short], 1, UNFIT);
@@ -93,7 +105,8 @@ fn a_put_count_that_wraps() {
     assert_eq!((answer.number, answer.row, answer.stamp), (PUT, 0, 0));
     assert_eq!(words[settings.subs_at()], 0);
     // 2^32 - 1 is 0 modulo 3.
-    assert_eq!(words[settings.cells_at() + layout::CELL_VALUE], 8);
+    let cells_at = settings.cells_at_in(Edition::One);
+    assert_eq!(words[cells_at + layout::CELL_VALUE], 8);
 }
 
 #[test]

@@ -6,7 +6,7 @@ mod common;
 use common::{put_answer, queue, stack, taken_answer};
 use second::phase::Side;
 use second::{closer_distance_bound, distance_bound, worst_distance};
-use second::{one_at_a_time, Answer, AtLast, Event, Settings};
+use second::{one_at_a_time, Answer, AtLast, Event, Fed, Settings};
 use second::{EMPTY, FULL, MOVING, SPENT};
 
 fn begin_put(worker: u32, value: u32) -> Event {
@@ -32,7 +32,11 @@ fn moves(worker: u32) -> Event {
 }
 
 fn ends(worker: u32, answer: Answer) -> Event {
-    Event::Step { worker, answer }
+    Event::Step {
+        worker,
+        answer,
+        fed: Fed::Nothing,
+    }
 }
 
 fn put(stamp: u32, value: u32) -> Answer {

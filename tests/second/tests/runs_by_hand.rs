@@ -1,22 +1,28 @@
-//! Paper 01, Runs by hand, the first with K5's numbers: a test for each of them,
-//! in its order.
+//! Paper 01, Runs by hand, the first with K5's numbers and K8's: a test for each of
+//! them, in its order.
 
 mod common;
 
 use common::{finish, made, put, put_answer, queue, stack, take, taken_answer};
-use second::{begin_put, layout, make, step, Answer, Settings};
+use second::{begin_put, in_edition, layout, step, Answer, Edition, Settings};
 use second::{EMPTY, FULL, MOVING, OFF_LIMITS, SPENT, STEP_LIMIT, TOO_SHORT};
 
 fn make_number(settings: Settings, len: usize) -> u32 {
-    make(&mut vec![0; len], settings).number
+    make_number_in(Edition::CURRENT, settings, len)
+}
+
+fn make_number_in(edition: Edition, settings: Settings, len: usize) -> u32 {
+    in_edition::make(edition, &mut vec![0; len], settings).number
 }
 
 #[test]
 fn needed_words() {
     for settings in [queue(2, 1, 4, 2), queue(2, 2, 4, 2), stack(2, 2, 1, 4, 2)] {
-        assert_eq!(settings.needed_words(), 50);
-        assert_eq!(make_number(settings, 50), MOVING);
-        assert_eq!(make_number(settings, 49), TOO_SHORT);
+        for (edition, needed) in [(Edition::Zero, 48), (Edition::One, 50), (Edition::Two, 90)] {
+            assert_eq!(settings.needed_words_in(edition), needed);
+            assert_eq!(make_number_in(edition, settings, needed), MOVING);
+            assert_eq!(make_number_in(edition, settings, needed - 1), TOO_SHORT);
+        }
     }
 }
 

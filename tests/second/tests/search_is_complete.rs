@@ -7,7 +7,7 @@ mod common;
 use common::{put_answer, queue, stack, taken_answer, Numbers};
 use second::phase::Side;
 use second::{distance_bound, full_bound, worst_distance};
-use second::{one_at_a_time, Answer, AtLast, Event, Placed, Settings};
+use second::{one_at_a_time, Answer, AtLast, Event, Fed, Placed, Settings};
 use second::{EMPTY, FULL, MOVING, PUT, QUEUE, TAKEN};
 
 /// An operation with the events of its own steps.
@@ -124,6 +124,7 @@ fn plan(numbers: &mut Numbers) -> (Vec<Planned>, Vec<Event>) {
                 events.push(Event::Step {
                     worker: worker as u32,
                     answer: Answer::of(MOVING),
+                    fed: Fed::Nothing,
                 });
             }
         }
@@ -162,6 +163,7 @@ fn answer(numbers: &mut Numbers, claim: Claim, planned: &mut [Planned], events: 
         events[*operation.steps.last().expect("it has steps")] = Event::Step {
             worker: operation.worker,
             answer: operation.answer,
+            fed: Fed::Nothing,
         };
     }
 }

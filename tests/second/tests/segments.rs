@@ -3,9 +3,9 @@
 
 mod common;
 
-use common::{made, queue, stack, Numbers};
+use common::{made_in, queue, stack, Numbers};
 use second::phase::{Side, Stage};
-use second::{layout, segments, step, Settings, QUEUE, SPACER, TAKEN};
+use second::{in_edition, layout, segments, Edition, Settings, QUEUE, SPACER, TAKEN};
 use std::ops::Range;
 
 const TOP: u32 = u32::MAX;
@@ -87,18 +87,18 @@ fn every_sub(settings: &Settings) -> Vec<(u32, u32)> {
     starts.into_iter().flat_map(held).collect()
 }
 
-/// A pool of two subs, the first of which worker 0 is about to take from. Its
+/// A pool of two subs in edition 1, in which no window bears on what is held; the first of which worker 0 is about to take from. Its
 /// stamps are few, so that beside each there are smaller, equal and greater ones,
 /// and so are its values, a quarter of them spacers.
 fn before_a_take(settings: Settings, subs: [(u32, u32); 2], numbers: &mut Numbers) -> Vec<u32> {
-    let mut words = made(settings);
+    let mut words = made_in(Edition::One, settings);
     let [first, second] = subs.map(|(below, held)| sub_words(&settings, below, held));
     words[settings.subs_at()..settings.workers_at()].copy_from_slice(&[first, second].concat());
     let worker = settings.workers_at();
     words[worker + layout::PHASE] = Side::Take.phase(Stage::Commit);
     // Items taken of a queue, the version of a stack.
     words[worker + layout::SEEN] = first[1];
-    for cell in words[settings.cells_at()..].chunks_mut(layout::CELL_WORDS) {
+    for cell in words[settings.cells_in(Edition::One)].chunks_mut(layout::CELL_WORDS) {
         cell[layout::CELL_VALUE] = numbers.below(4) as u32;
         cell[layout::CELL_STAMP] = numbers.below(8) as u32;
     }
@@ -108,7 +108,7 @@ fn before_a_take(settings: Settings, subs: [(u32, u32); 2], numbers: &mut Number
 /// The items that count beside this stamp, gone through by segments.
 fn ahead(words: &[u32], subs: [(u32, u32); 2], stamp: u32) -> u32 {
     let settings = Settings::of_words(words);
-    let (cells, _) = words[settings.cells_at()..].as_chunks::<{ layout::CELL_WORDS }>();
+    let (cells, _) = words[settings.cells_in(Edition::One)].as_chunks::<{ layout::CELL_WORDS }>();
     let mut ahead = 0;
     for ((below, held), ring) in subs.into_iter().zip(cells.chunks(settings.rows as usize)) {
         for segment in segments(settings.rows, below, held) {
@@ -130,7 +130,7 @@ fn compare_distances(settings: Settings, subs: [(u32, u32); 2], numbers: &mut Nu
     for _ in 0..10 {
         let mut words = before_a_take(settings, subs, numbers);
         let before = words.clone();
-        let answer = step(&mut words, 0);
+        let answer = in_edition::step(Edition::One, &mut words, 0);
         assert_eq!(answer.number, TAKEN);
         let counted = ahead(&before, subs, answer.stamp);
         assert_eq!(answer.distance, counted, "{settings:?}, {subs:?}");

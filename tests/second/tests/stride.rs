@@ -5,7 +5,7 @@ mod common;
 
 use common::solo::is_idle;
 use common::states::CALLS;
-use common::{finish, made, put_answer, queue, stack, strided, Numbers};
+use common::{finish, made, put_answer, queue, set_phase, stack, strided, Numbers};
 use second::phase::{decode, Side, Stage};
 use second::{begin_put, layout, make, step, Answer, Settings};
 use second::{CURRENT_EDITION, MOVING, OFF_LIMITS, TOO_SHORT, UNFIT};
@@ -86,7 +86,7 @@ fn a_commit_that_failed_hops() {
         for side in [Side::Put, Side::Take] {
             for index in 0..settings.width {
                 let mut words = made(settings);
-                words[at + layout::PHASE] = side.phase(Stage::Commit);
+                set_phase(&mut words, 0, side.phase(Stage::Commit));
                 words[at + layout::INDEX] = index;
                 words[at + layout::SEEN] = 1;
                 let mut expected = words.clone();

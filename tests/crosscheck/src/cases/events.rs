@@ -1,11 +1,12 @@
 //! The calls of a run from make as events of demand 3's list.
 
 use second::phase::Side;
-use second::{Answer, Event, PUT, TAKEN};
+use second::{Answer, Edition, Event, Fed, PUT, TAKEN};
 use sides::Call;
 use std::collections::BTreeMap;
 
-pub fn event(call: Call, answer: Answer) -> Event {
+/// With the words just before the call.
+pub fn event(before: &[u32], call: Call, answer: Answer) -> Event {
     let begin = |worker, side, value| Event::Begin {
         worker,
         side,
@@ -15,8 +16,16 @@ pub fn event(call: Call, answer: Answer) -> Event {
     match call {
         Call::BeginPut { worker, value } => begin(worker, Side::Put, value),
         Call::BeginTake { worker } => begin(worker, Side::Take, 0),
-        Call::Step { worker } => Event::Step { worker, answer },
+        Call::Step { worker } => step(before, worker, answer),
         Call::Make(_) => unreachable!("a run has one make, its first call"),
+    }
+}
+
+pub fn step(before: &[u32], worker: u32, answer: Answer) -> Event {
+    Event::Step {
+        worker,
+        answer,
+        fed: Fed::of(Edition::CURRENT, before, worker, &answer),
     }
 }
 
@@ -30,7 +39,7 @@ pub fn at_last_steps(events: &[Event]) -> Vec<Event> {
             Event::Begin { worker, answer, .. } if !answer.is_refusal() => {
                 begun.insert(worker, *event);
             }
-            Event::Step { worker, answer } if [PUT, TAKEN].contains(&answer.number) => {
+            Event::Step { worker, answer, .. } if [PUT, TAKEN].contains(&answer.number) => {
                 at_last_steps.extend(begun.remove(&worker));
                 at_last_steps.push(*event);
             }

@@ -1,7 +1,7 @@
 //! A run from make on all implementations: its calls, and then the same run one
 //! at a time.
 
-use super::events::{at_last_steps, event};
+use super::events::{at_last_steps, event, step};
 use super::failed_commits::FailedCommits;
 use crate::failure::Failure;
 use crate::make_up::junk;
@@ -71,7 +71,8 @@ impl FromMake {
 
     pub fn call(&mut self, call: Call, checks: &mut Checks) -> Result<Answer, Failure> {
         let answer = self.pools.call(call, checks)?;
-        self.events.push(event(call, answer));
+        self.events
+            .push(event(self.pools.words_before(), call, answer));
         if let Call::Step { worker } = call {
             let before = self.pools.words_before();
             self.failed_commits.note(before, worker, answer);
@@ -89,7 +90,7 @@ impl FromMake {
         let mut words = self.words().to_vec();
         let (dispatched, made) = self.pools.dispatch(dispatch, checks)?;
         for (worker, answer) in made {
-            self.events.push(Event::Step { worker, answer });
+            self.events.push(step(&words, worker, answer));
             self.failed_commits.note(&words, worker, answer);
             SECOND.call(&mut words, Call::Step { worker });
             self.note_step(answer)?;

@@ -75,7 +75,7 @@ fn bare(seen: &Seen) -> bool {
 }
 
 fn in_two_cells(seen: &Seen) -> bool {
-    let cells = &seen.before[seen.settings.cells_at()..seen.settings.needed_words()];
+    let cells = &seen.before[seen.settings.cells()];
     let stamps = cells
         .iter()
         .skip(layout::CELL_STAMP)

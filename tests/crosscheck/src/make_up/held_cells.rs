@@ -73,8 +73,7 @@ fn with_rings(
     }
     let worker = rng.below(settings.workers);
     before_the_take(settings, &mut words, worker, index);
-    let cells = settings.cells_at()..settings.needed_words();
-    fill(rng, &mut words[cells], values);
+    fill(rng, &mut words[settings.cells()], values);
     (words, worker)
 }
 

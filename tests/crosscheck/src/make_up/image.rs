@@ -51,7 +51,7 @@ pub fn of_edition(rng: &mut Rng, settings: &Settings, edition: Edition) -> Vec<u
             words[at + layout::FAILED_COMMITS] = junk::near_the_top(rng);
         }
     }
-    cells(rng, &mut words[settings.cells_at_in(edition)..needed]);
+    cells(rng, &mut words[settings.cells_in(edition)]);
     words
 }
 

@@ -35,7 +35,7 @@ impl<'a> Sub<'a> {
             below,
             held,
             segments: segments(rows, below, held),
-            cells: &words[at..settings.needed_words()],
+            cells: &words[at..settings.cells().end],
             is_queue,
             taken_stamp,
         }

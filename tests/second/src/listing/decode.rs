@@ -1,7 +1,9 @@
 //! The kinds of words in a run file. None stands for refusal 29: a kind out of
 //! place or a nonzero spare bit.
 
+use crate::pool::edition::Edition;
 use crate::pool::settings::Settings;
+use crate::pool::size::Size;
 
 /// The settings of the first word; the second has the others.
 pub(super) struct Shape {
@@ -16,6 +18,7 @@ pub(super) enum Call {
     BeginPut { worker: u32, value: u32 },
     BeginTake { worker: u32 },
     Step { worker: u32 },
+    SetSize(Size),
     End,
 }
 
@@ -49,8 +52,9 @@ pub(super) fn second(shape: Shape, word: u32) -> Option<Settings> {
     })
 }
 
-/// Kind 3 begin put, 4 begin take, 5 step, 6 the end.
-pub(super) fn call(word: u32) -> Option<Call> {
+/// Kind 3 begin put, 4 begin take, 5 step, 6 the end; and where windows have sizes 8,
+/// bits 0-4 width, 5-11 depth.
+pub(super) fn call(edition: Edition, word: u32) -> Option<Call> {
     let worker = bits(word, 22, 27);
     match kind(word) {
         3 => Some(Call::BeginPut {
@@ -60,6 +64,10 @@ pub(super) fn call(word: u32) -> Option<Call> {
         4 if bits(word, 0, 21) == 0 => Some(Call::BeginTake { worker }),
         5 if bits(word, 0, 21) == 0 => Some(Call::Step { worker }),
         6 if bits(word, 0, 27) == 0 => Some(Call::End),
+        8 if edition.has_sizes() && bits(word, 12, 27) == 0 => Some(Call::SetSize(Size {
+            width: bits(word, 0, 4),
+            depth: bits(word, 5, 11),
+        })),
         _ => None,
     }
 }

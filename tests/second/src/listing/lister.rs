@@ -3,13 +3,13 @@
 use super::replay::{Called, Replay};
 use super::{Fault, Stop, ABOVE_BOUND};
 use crate::answer::{Answer, MOVING, TAKEN};
-use crate::bounds::distance_bound;
+use crate::pool::edition::Edition;
 use std::io::{self, BufWriter, Read, Write};
 
-/// Lists the run file that `input` yields.
-pub fn list<R: Read, W: Write>(input: R, output: W) -> io::Result<()> {
+/// Lists the run file that `input` yields, of a pool of this edition.
+pub fn list<R: Read, W: Write>(edition: Edition, input: R, output: W) -> io::Result<()> {
     let mut output = BufWriter::new(output);
-    match run(input, &mut output) {
+    match run(edition, input, &mut output) {
         Ok(()) => {}
         Err(Stop::At(Fault { position, number })) => {
             print(&mut output, position, 0, &Answer::of(number))?;
@@ -19,15 +19,16 @@ pub fn list<R: Read, W: Write>(input: R, output: W) -> io::Result<()> {
     output.flush()
 }
 
-fn run<R: Read, W: Write>(input: R, output: &mut W) -> Result<(), Stop> {
-    let mut replay = Replay::open(input)?;
-    let bound = distance_bound(&replay.settings);
+fn run<R: Read, W: Write>(edition: Edition, input: R, output: &mut W) -> Result<(), Stop> {
+    let mut replay = Replay::open(edition, input)?;
     let mut worst = 0;
     while let Some(called) = replay.next_call()? {
         let Called {
             position,
             worker,
             answer,
+            bound,
+            ..
         } = called;
         // By the distance, as number 30 says: it counts no spacers (K4). "A 30 is
         // printed in place of that take's answer", and the listing stops.

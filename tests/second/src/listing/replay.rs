@@ -5,21 +5,28 @@
 use super::decode::{self, Call};
 use super::reader::Words;
 use super::{Fault, Stop};
-use crate::answer::{Answer, OFF_LIMITS};
-use crate::current::{begin_put, begin_take, make, step};
+use crate::answer::{Answer, MOVING, OFF_LIMITS};
+use crate::bounds::{distance_bound, seen_size};
+use crate::calls::{begin_put, begin_take, make, set_size, step};
 use crate::pool::edition::Edition;
 use crate::pool::settings::Settings;
+use crate::pool::size::Size;
 use crate::pool::Pool;
 use std::io::Read;
 
-/// A call of the file: where it stands, its worker and its answer.
+/// A call of the file: where it stands, its worker, or 0, and its answer.
 pub(super) struct Called {
     pub position: u64,
     pub worker: u32,
     pub answer: Answer,
+    /// Demand 3's, should it be a take: by the window seen before it.
+    pub bound: u32,
+    /// One that it set.
+    pub size: Option<Size>,
 }
 
 pub(super) struct Replay<R: Read> {
+    edition: Edition,
     words: Words<R>,
     pub settings: Settings,
     lent: Vec<u32>,
@@ -27,19 +34,20 @@ pub(super) struct Replay<R: Read> {
 
 impl<R: Read> Replay<R> {
     /// Reads the opening words and makes their pool. "22 is printed at position 1."
-    pub fn open(input: R) -> Result<Replay<R>, Stop> {
+    pub fn open(edition: Edition, input: R) -> Result<Replay<R>, Stop> {
         let mut words = Words::new(input);
         let shape = words.next(decode::first)?;
         let settings = words.next(|word| decode::second(shape, word))?;
-        if !settings.within_limits() {
+        if !settings.within_limits_in(edition) {
             return Err(Stop::At(Fault {
                 position: 1,
                 number: OFF_LIMITS,
             }));
         }
-        let mut lent = vec![0; settings.needed_words()];
-        make(&mut lent, settings);
+        let mut lent = vec![0; settings.needed_words_in(edition)];
+        make(edition, &mut lent, settings);
         Ok(Replay {
+            edition,
             words,
             settings,
             lent,
@@ -49,11 +57,23 @@ impl<R: Read> Replay<R> {
     /// Makes the next call; none after an end word that is the file's last.
     pub fn next_call(&mut self) -> Result<Option<Called>, Stop> {
         let position = self.words.position;
+        let edition = self.edition;
+        let mut size = None;
+        let mut bound = distance_bound(&self.settings);
+        let call = self.words.next(|word| decode::call(edition, word))?;
+        if let Call::Step { worker } = call {
+            bound = self.bound_of(worker).unwrap_or(bound);
+        }
         let lent = &mut self.lent;
-        let (worker, answer) = match self.words.next(decode::call)? {
-            Call::BeginPut { worker, value } => (worker, begin_put(lent, worker, value)),
-            Call::BeginTake { worker } => (worker, begin_take(lent, worker)),
-            Call::Step { worker } => (worker, step(lent, worker)),
+        let (worker, answer) = match call {
+            Call::BeginPut { worker, value } => (worker, begin_put(edition, lent, worker, value)),
+            Call::BeginTake { worker } => (worker, begin_take(edition, lent, worker)),
+            Call::Step { worker } => (worker, step(edition, lent, worker)),
+            Call::SetSize(next) => {
+                let answer = set_size(lent, next);
+                size = Some(next).filter(|_| answer.number == MOVING);
+                (0, answer)
+            }
             Call::End => {
                 self.words.nothing_more()?;
                 return Ok(None);
@@ -63,7 +83,17 @@ impl<R: Read> Replay<R> {
             position,
             worker,
             answer,
+            bound,
+            size,
         }))
+    }
+
+    /// K8: a take's, by its own window's sizes; none of a worker that sees no sizes.
+    fn bound_of(&mut self, worker: u32) -> Option<u32> {
+        let sees = worker < self.settings.workers;
+        let size = sees.then(|| seen_size(&self.pool(), worker)).flatten()?;
+        size.within_limits(&self.settings)
+            .then(|| size.distance_bound())
     }
 
     /// How many words were read.
@@ -76,7 +106,7 @@ impl<R: Read> Replay<R> {
         Pool {
             words: &mut self.lent,
             settings: self.settings,
-            edition: Edition::CURRENT,
+            edition: self.edition,
         }
     }
 }

@@ -5,6 +5,7 @@ use super::replay::{Called, Replay};
 use super::{Fault, Stop};
 use crate::answer::{EMPTY, FULL, MOVING, PUT, STEP_LIMIT, TAKEN};
 use crate::bounds::distance_bound;
+use crate::pool::edition::Edition;
 use crate::pool::layout;
 use std::fmt;
 use std::io::{self, Read, Write};
@@ -21,28 +22,34 @@ pub struct Summary {
     pub taken: u64,
     pub empty: u64,
     pub full: u64,
-    /// Begins and steps; a refused make is a fault of the file.
+    /// Begins, steps and sizes; a refused make is a fault of the file.
     pub refused: u64,
     pub held: u32,
     /// The greatest distance of a take.
     pub worst: u32,
-    /// Demand 3's, for the file's settings.
+    /// Demand 3's, for the file's settings. Reading: where sizes were set, the greatest
+    /// of theirs and of the pool's own, so that it stands above every take's.
     pub bound: u32,
     /// The failed commits of all workers together.
     pub lost: u64,
     pub steps: u32,
 }
 
-/// Prints the summary of the run file that `input` yields.
-pub fn summarize<R: Read, W: Write>(input: R, mut output: W) -> io::Result<()> {
-    write!(output, "{}", Summary::of(input)?)?;
+/// Prints the summary of the run file that `input` yields, of a pool of this edition.
+pub fn summarize<R: Read, W: Write>(edition: Edition, input: R, mut output: W) -> io::Result<()> {
+    write!(output, "{}", Summary::in_edition(edition, input)?)?;
     output.flush()
 }
 
 impl Summary {
+    /// In the current edition.
     pub fn of<R: Read>(input: R) -> io::Result<Summary> {
+        Summary::in_edition(Edition::CURRENT, input)
+    }
+
+    pub fn in_edition<R: Read>(edition: Edition, input: R) -> io::Result<Summary> {
         let mut summary = Summary::default();
-        match summary.run(input) {
+        match summary.run(edition, input) {
             Ok(words) => summary.words = words,
             Err(Stop::At(fault)) => {
                 summary.words = fault.position;
@@ -54,8 +61,8 @@ impl Summary {
     }
 
     /// All that a made pool comes to; how many words a whole file has.
-    fn run<R: Read>(&mut self, input: R) -> Result<u64, Stop> {
-        let mut replay = Replay::open(input)?;
+    fn run<R: Read>(&mut self, edition: Edition, input: R) -> Result<u64, Stop> {
+        let mut replay = Replay::open(edition, input)?;
         self.bound = distance_bound(&replay.settings);
         let ended = self.calls(&mut replay);
         let pool = replay.pool();
@@ -68,7 +75,10 @@ impl Summary {
     }
 
     fn calls<R: Read>(&mut self, replay: &mut Replay<R>) -> Result<(), Stop> {
-        while let Some(Called { answer, .. }) = replay.next_call()? {
+        while let Some(Called { answer, size, .. }) = replay.next_call()? {
+            if let Some(size) = size {
+                self.bound = self.bound.max(size.distance_bound());
+            }
             match answer.number {
                 MOVING => {}
                 PUT => self.put += 1,

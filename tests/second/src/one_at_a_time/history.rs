@@ -1,5 +1,6 @@
 //! The finished operations of a run, and the steps that are their own.
 
+use super::fed::Fed;
 use crate::answer::{Answer, EMPTY, FULL, MOVING};
 use crate::pool::phase::Side;
 use crate::pool::settings::Settings;
@@ -18,6 +19,7 @@ pub enum Event {
     Step {
         worker: u32,
         answer: Answer,
+        fed: Fed,
     },
 }
 
@@ -25,7 +27,7 @@ impl Event {
     fn worker_and_answer(&self) -> (u32, Answer) {
         match *self {
             Event::Begin { worker, answer, .. } => (worker, answer),
-            Event::Step { worker, answer } => (worker, answer),
+            Event::Step { worker, answer, .. } => (worker, answer),
         }
     }
 }
@@ -37,6 +39,7 @@ pub(super) struct Operation {
     pub side: Side,
     pub value: u32,
     pub answer: Answer,
+    pub fed: Fed,
 }
 
 impl Operation {
@@ -105,13 +108,17 @@ impl History {
                 let was_busy = open.insert(worker, Open { side, value, steps }).is_some();
                 !was_busy && answer.number == MOVING
             }
-            Event::Step { worker, answer } => {
+            Event::Step {
+                worker,
+                answer,
+                fed,
+            } => {
                 let Some(mut own) = open.remove(&worker) else {
                     return false;
                 };
                 own.steps.push(at);
                 if answer.is_final() {
-                    self.add(worker, own, answer);
+                    self.add(worker, own, (answer, fed));
                 } else {
                     open.insert(worker, own);
                 }
@@ -120,7 +127,7 @@ impl History {
         }
     }
 
-    fn add(&mut self, worker: u32, finished: Open, answer: Answer) {
+    fn add(&mut self, worker: u32, finished: Open, (answer, fed): (Answer, Fed)) {
         let Open { side, value, steps } = finished;
         let operation = self.operations.len();
         for (k, event) in steps.iter().copied().enumerate() {
@@ -136,6 +143,7 @@ impl History {
             side,
             value,
             answer,
+            fed,
         });
     }
 }

@@ -2,12 +2,15 @@
 //! its finished operations can be placed at one of its own steps, its
 //! linearization point, so that the operations in the order of these steps are
 //! answered alike by the sequential specification (the one-at-a-time list).
-//! Nothing of the pool's words is used here, only the calls and their answers.
+//! Nothing of the pool's words is used here, only the calls and their answers, and
+//! what K8 feeds with them.
 
+mod fed;
 mod history;
 mod search;
 mod sequential;
 
+pub use fed::Fed;
 pub use history::Event;
 
 use crate::pool::settings::Settings;
@@ -43,7 +46,8 @@ pub enum AtLast {
 
 /// The linearization points of a run in which no take passes over more items
 /// than `most_passed`, or why there are none. Demand 3's own claim has the
-/// number `distance_bound`; a lower one makes a stronger claim. Spacers are
+/// number `distance_bound`; a lower one makes a stronger claim. A take that is fed its
+/// window's sizes may not pass over more than their number either. Spacers are
 /// passed over like all items, and only the distance does not count them (K4).
 pub fn one_at_a_time(
     settings: &Settings,

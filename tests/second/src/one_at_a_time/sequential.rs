@@ -1,6 +1,7 @@
 //! The sequential specification: the paper's one-at-a-time list. It holds
 //! items, each a value and a stamp, and counts puts.
 
+use super::fed::Fed;
 use super::history::Operation;
 use crate::answer::{EMPTY, FULL, PUT, TAKEN};
 use crate::bounds::full_bound;
@@ -23,7 +24,7 @@ pub(super) enum Undo {
 
 pub(super) struct Sequential {
     settings: Settings,
-    /// A take may pass over this many items.
+    /// A take may pass over this many items, and no more than its own window says.
     most_passed: u32,
     /// In the order of stamps, which is the order of joining.
     items: Vec<Item>,
@@ -89,9 +90,9 @@ impl Sequential {
         let held = self.items.len();
         match (operation.answer.number, operation.side) {
             (PUT, Side::Put) => Some((operation.value, self.puts + 1, 0)),
-            (TAKEN, Side::Take) => self.gives_item(operation.answer.stamp),
+            (TAKEN, Side::Take) => self.gives_item(operation.answer.stamp, operation.fed),
             (EMPTY, Side::Take) if held == 0 => Some((0, 0, 0)),
-            (FULL, Side::Put) if held >= full_bound(&self.settings) as usize => Some((0, 0, 0)),
+            (FULL, Side::Put) if held >= self.full_with(operation.fed) => Some((0, 0, 0)),
             _ => None,
         }
     }
@@ -99,10 +100,23 @@ impl Sequential {
     /// "An item with the fed stamp must be there, with no more older ones
     /// (line) or newer ones (pile) than demand 3 allows", or than a closer
     /// bound does. Its value plays no part in either count.
-    fn gives_item(&self, stamp: u32) -> Option<Given> {
+    fn gives_item(&self, stamp: u32, fed: Fed) -> Option<Given> {
         let at = self.find(stamp)?;
-        let allowed = self.passed_over(at) <= self.most_passed;
+        let most_passed = match fed {
+            Fed::Window(size) => self.most_passed.min(size.distance_bound()),
+            _ => self.most_passed,
+        };
+        let allowed = self.passed_over(at) <= most_passed;
         allowed.then(|| (self.items[at].value, stamp, self.reported(at)))
+    }
+
+    /// "4, only for a put: at least demand 3's number of items must be there", which
+    /// is the fed one if there is one.
+    fn full_with(&self, fed: Fed) -> usize {
+        match fed {
+            Fed::Places(places) => places as usize,
+            _ => full_bound(&self.settings) as usize,
+        }
     }
 
     /// K4: "the limit on items passed over still counts them all".

@@ -54,6 +54,11 @@ pub fn decode(phase: u32) -> Option<(Side, Stage)> {
     None
 }
 
+/// K8: "past its window phase", busy and not in it.
+pub fn is_past_window(phase: u32) -> bool {
+    decode(phase).is_some_and(|(_, stage)| stage != Stage::Window)
+}
+
 /// "A phase of its kind": queues have no 3, 6 or 11.
 pub fn is_of_kind(kind: u32, phase: u32) -> bool {
     let missing_in_queue = [3, 6, 11].contains(&phase);

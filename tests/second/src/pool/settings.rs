@@ -2,6 +2,7 @@
 
 use super::edition::Edition;
 use super::layout;
+use std::ops::Range;
 
 /// The paper's line.
 pub const QUEUE: u32 = 0;
@@ -34,7 +35,12 @@ impl Settings {
         }
     }
 
+    /// In the current edition.
     pub fn within_limits(&self) -> bool {
+        self.within_limits_in(Edition::CURRENT)
+    }
+
+    pub fn within_limits_in(&self, edition: Edition) -> bool {
         let known = self.kind == QUEUE || self.kind == STACK;
         known
             && (1..=16).contains(&self.width)
@@ -44,12 +50,18 @@ impl Settings {
             && (1..=32).contains(&self.workers)
             && self.width * self.rows <= 4096
             && self.stride < self.width
-            && (self.kind == STACK || self.suits_a_queue())
+            && (self.kind == STACK || self.suits_a_queue(edition))
     }
 
-    /// A queue has shift = depth, and its rows are a multiple of the depth.
-    fn suits_a_queue(&self) -> bool {
-        self.shift == self.depth && self.rows.is_multiple_of(self.depth)
+    /// A queue has shift = depth, and its rows are a multiple of the depth. K8: "R
+    /// need no longer be a multiple of d".
+    fn suits_a_queue(&self, edition: Edition) -> bool {
+        self.shift == self.depth && (edition.has_sizes() || self.rows_are_whole_windows())
+    }
+
+    /// Of the pool's depth.
+    pub fn rows_are_whole_windows(&self) -> bool {
+        self.rows.is_multiple_of(self.depth)
     }
 
     /// Of settings within limits, in the current edition.
@@ -57,10 +69,10 @@ impl Settings {
         self.needed_words_in(Edition::CURRENT)
     }
 
-    /// 12 + 2w + 8n + 2wR in edition 0, 12 + 2w + 9n + 2wR in edition 1.
+    /// 12 + 2w + 8n + 2wR in edition 0, 12 + 2w + 9n + 2wR in edition 1, and
+    /// 48 + 2w + 11n + 2wR in edition 2.
     pub fn needed_words_in(&self, edition: Edition) -> usize {
-        let cells = self.width as usize * self.rows as usize;
-        self.cells_at_in(edition) + layout::CELL_WORDS * cells
+        self.sizes_at_in(edition) + edition.size_words()
     }
 
     pub fn subs_at(&self) -> usize {
@@ -77,5 +89,20 @@ impl Settings {
 
     pub fn cells_at_in(&self, edition: Edition) -> usize {
         self.workers_at() + edition.worker_words() * self.workers as usize
+    }
+
+    /// Those of all subs, in the current edition.
+    pub fn cells(&self) -> Range<usize> {
+        self.cells_in(Edition::CURRENT)
+    }
+
+    pub fn cells_in(&self, edition: Edition) -> Range<usize> {
+        self.cells_at_in(edition)..self.sizes_at_in(edition)
+    }
+
+    /// Where the cells end.
+    pub fn sizes_at_in(&self, edition: Edition) -> usize {
+        let cells = self.width as usize * self.rows as usize;
+        self.cells_at_in(edition) + layout::CELL_WORDS * cells
     }
 }

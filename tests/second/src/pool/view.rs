@@ -27,20 +27,6 @@ impl Pool<'_> {
         self.words[at] = word;
     }
 
-    /// The items in sub j; fit keeps them at 0 to R.
-    pub fn items(&self, j: u32) -> u32 {
-        if self.is_queue() {
-            self.sub(j, layout::ITEMS_PUT) - self.sub(j, layout::ITEMS_TAKEN)
-        } else {
-            self.sub(j, layout::ITEMS_HELD)
-        }
-    }
-
-    /// The items in all subs.
-    pub fn held(&self) -> u32 {
-        (0..self.settings.width).map(|j| self.items(j)).sum()
-    }
-
     pub fn worker(&self, number: u32) -> Worker {
         Worker::from_words(&self.words[self.worker_words(number)])
     }
@@ -72,8 +58,7 @@ impl Pool<'_> {
 
     /// The cells of all subs.
     pub fn cells(&self) -> Range<usize> {
-        let settings = &self.settings;
-        settings.cells_at_in(self.edition)..settings.needed_words_in(self.edition)
+        self.settings.cells_in(self.edition)
     }
 
     /// Row r of sub j is cell j x R + (r - 1) mod R. Reading: r - 1 is modulo

@@ -1,5 +1,5 @@
-//! A worker's nine words, read and written as a whole. In edition 0 there is no
-//! ninth: it is read as 0, and nowhere written.
+//! A worker's words, read and written as a whole. One that its edition has not is
+//! read as 0, and nowhere written.
 
 use super::layout;
 
@@ -14,6 +14,8 @@ pub(crate) struct Worker {
     pub seen: u32,
     pub sum: u32,
     pub failed_commits: u32,
+    pub seen_bottom: u32,
+    pub seen_width: u32,
 }
 
 impl Worker {
@@ -29,6 +31,7 @@ impl Worker {
     }
 
     pub fn from_words(words: &[u32]) -> Worker {
+        let later = |which: usize| words.get(which).copied().unwrap_or(0);
         Worker {
             phase: words[layout::PHASE],
             value: words[layout::VALUE],
@@ -38,7 +41,9 @@ impl Worker {
             scan: words[layout::SCAN],
             seen: words[layout::SEEN],
             sum: words[layout::SUM],
-            failed_commits: words.get(layout::FAILED_COMMITS).copied().unwrap_or(0),
+            failed_commits: later(layout::FAILED_COMMITS),
+            seen_bottom: later(layout::SEEN_BOTTOM),
+            seen_width: later(layout::SEEN_WIDTH),
         }
     }
 
@@ -51,8 +56,14 @@ impl Worker {
         words[layout::SCAN] = self.scan;
         words[layout::SEEN] = self.seen;
         words[layout::SUM] = self.sum;
-        if let Some(ninth) = words.get_mut(layout::FAILED_COMMITS) {
-            *ninth = self.failed_commits;
+        for (which, word) in [
+            (layout::FAILED_COMMITS, self.failed_commits),
+            (layout::SEEN_BOTTOM, self.seen_bottom),
+            (layout::SEEN_WIDTH, self.seen_width),
+        ] {
+            if let Some(later) = words.get_mut(which) {
+                *later = word;
+            }
         }
     }
 }

@@ -13,16 +13,56 @@ pub(super) fn commit(pool: &mut Pool, worker: &mut Worker, side: Side) -> Answer
         restart(worker, side);
         return Answer::of(MOVING);
     }
+    let row = row(pool, worker, side);
     match side {
-        Side::Put if pool.items(worker.index) == pool.settings.rows => Answer::of(UNFIT),
-        Side::Put => commit_put(pool, worker),
-        Side::Take if pool.items(worker.index) == 0 => Answer::of(UNFIT),
-        Side::Take => commit_take(pool, worker),
+        Side::Put if !has_free_cell(pool, worker.index, row) => Answer::of(UNFIT),
+        Side::Put => commit_put(pool, worker, row),
+        Side::Take if !has_item(pool, worker.index, row) => Answer::of(UNFIT),
+        Side::Take => commit_take(pool, worker, row),
+    }
+}
+
+/// Put: "the row above", and in a queue K8's "row above the higher of the sub's last
+/// put row and the seen window's bottom". Take: "the oldest (line) or top (pile) row",
+/// the oldest being above the last taken one, "likewise". A plain number, which may be
+/// 2^32.
+fn row(pool: &Pool, worker: &Worker, side: Side) -> u64 {
+    let above = |which| {
+        let last = pool.sub(worker.index, which);
+        u64::from(pool.higher(last, worker.seen_bottom)) + 1
+    };
+    match (pool.is_queue(), side) {
+        (true, Side::Put) => above(layout::ITEMS_PUT),
+        (true, Side::Take) => above(layout::ITEMS_TAKEN),
+        (false, Side::Put) => u64::from(pool.sub(worker.index, layout::ITEMS_HELD)) + 1,
+        (false, Side::Take) => u64::from(pool.sub(worker.index, layout::ITEMS_HELD)),
+    }
+}
+
+/// K8: "A commit has no free cell if its row passes the higher of last taken row and
+/// take window's bottom by more than R". Reading: plain numbers, so that a row at or
+/// below it has one.
+fn has_free_cell(pool: &Pool, sub: u32, row: u64) -> bool {
+    let below = if pool.is_queue() {
+        pool.higher(pool.sub(sub, layout::ITEMS_TAKEN), pool.take_bottom())
+    } else {
+        0
+    };
+    row <= u64::from(below) + u64::from(pool.settings.rows)
+}
+
+/// "And no item if it passes the last put row"; of a stack if no row is held.
+fn has_item(pool: &Pool, sub: u32, row: u64) -> bool {
+    if pool.is_queue() {
+        row <= u64::from(pool.sub(sub, layout::ITEMS_PUT))
+    } else {
+        row > 0
     }
 }
 
 /// "After a commit that failed, only there the index moves on by the stride
-/// instead of by 1", and a stride of 0 stands for 1.
+/// instead of by 1", and a stride of 0 stands for 1. K8: that "is mod the pool's w",
+/// whatever the seen window's width.
 fn hop(pool: &Pool, worker: &mut Worker) {
     let stride = pool.settings.stride.max(1);
     worker.index = (worker.index + stride) % pool.settings.width;
@@ -43,15 +83,16 @@ fn now(pool: &Pool, sub: u32, side: Side) -> u32 {
     pool.sub(sub, which)
 }
 
-/// "A put stores value and new stamp in the row above and answers 1."
-fn commit_put(pool: &mut Pool, worker: &Worker) -> Answer {
+/// "A put stores value and new stamp in the row above and answers 1." Reading: the row
+/// that is stored and answered is modulo 2^32.
+fn commit_put(pool: &mut Pool, worker: &Worker, row: u64) -> Answer {
     let sub = worker.index;
     let count = if pool.is_queue() {
         layout::ITEMS_PUT
     } else {
         layout::ITEMS_HELD
     };
-    let row = pool.sub(sub, count).wrapping_add(1);
+    let row = row as u32;
     let stamp = pool.words[layout::PUTS_MADE].wrapping_add(1);
     pool.set_cell(sub, row, layout::CELL_VALUE, worker.value);
     pool.set_cell(sub, row, layout::CELL_STAMP, stamp);
@@ -70,13 +111,10 @@ fn commit_put(pool: &mut Pool, worker: &Worker) -> Answer {
 
 /// "A take answers 2 with the oldest (line) or top (pile) row." A taken cell
 /// keeps its old words.
-fn commit_take(pool: &mut Pool, worker: &Worker) -> Answer {
+fn commit_take(pool: &mut Pool, worker: &Worker, row: u64) -> Answer {
     let sub = worker.index;
-    let row = if pool.is_queue() {
-        pool.sub(sub, layout::ITEMS_TAKEN) + 1
-    } else {
-        pool.sub(sub, layout::ITEMS_HELD)
-    };
+    // No more than a last put row, or than R.
+    let row = row as u32;
     let stamp = pool.cell(sub, row, layout::CELL_STAMP);
     let answer = Answer {
         number: TAKEN,

@@ -3,7 +3,7 @@
 //! held items whose value isn't 0. A spacer's own take has a distance too": the
 //! value of the item taken plays no part.
 
-use crate::pool::{layout, Pool};
+use crate::pool::{layout, Held, Pool};
 use crate::spacer::SPACER;
 
 pub(super) fn distance(pool: &Pool, stamp: u32) -> u32 {
@@ -27,12 +27,11 @@ fn ahead_in_sub(pool: &Pool, j: u32, stamp: u32) -> u32 {
     ahead
 }
 
-/// Queue: rows taken + 1 to put. Stack: rows 1 to held.
-fn held_rows(pool: &Pool, j: u32) -> impl Iterator<Item = u32> {
-    let below = if pool.is_queue() {
-        pool.sub(j, layout::ITEMS_TAKEN)
-    } else {
-        0
-    };
-    (1..=pool.items(j)).map(move |k| below + k)
+/// Row by row.
+fn held_rows(pool: &Pool, j: u32) -> Vec<u32> {
+    let mut all = Vec::new();
+    for Held { below, rows } in pool.held_rows(j) {
+        all.extend((1..=rows).map(move |k| below + k));
+    }
+    all
 }

@@ -1,6 +1,6 @@
 //! Paper 01, Read, of the sub at the index.
 
-use super::{next_index, scanned_all};
+use super::{next_index, scanned_all, summed};
 use crate::answer::{Answer, MOVING};
 use crate::pool::phase::{Side, Stage};
 use crate::pool::{layout, Pool, Worker};
@@ -40,12 +40,12 @@ pub(super) fn read(pool: &Pool, worker: &mut Worker, side: Side) -> Answer {
 fn add_to_sum(pool: &Pool, worker: &mut Worker, side: Side) {
     let grown_by = match (pool.is_queue(), side) {
         (true, Side::Put) => 0,
-        (true, Side::Take) => pool.sub(worker.index, layout::ITEMS_PUT),
-        (false, _) => pool.sub(worker.index, layout::VERSION),
+        _ => summed(pool, worker),
     };
     worker.sum = worker.sum.wrapping_add(grown_by);
 }
 
+/// A queue's last rows as they are, whatever the seen window's bottom.
 fn look(pool: &Pool, worker: &Worker, side: Side) -> Look {
     match (pool.is_queue(), side) {
         (true, Side::Put) => look_queue_put(pool, worker),

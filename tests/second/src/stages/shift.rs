@@ -24,14 +24,16 @@ pub(super) fn shift(pool: &mut Pool, worker: &mut Worker, side: Side) -> Answer 
     }
 }
 
-/// Reading: P + 2d - T is modulo 2^32, also where no make leads (P below T).
+/// K8: "A put shift needs new top minus the take window's bottom at most R, and fewer
+/// than 16 live windows; else it is full." Where each window has the pool's depth, the
+/// top is P + d and the bottom T - d: paper 01's P + 2d - T. Reading: that is modulo
+/// 2^32, also where no make leads (P below T).
 fn shift_queue_put(pool: &mut Pool, worker: &mut Worker) -> Answer {
-    let depth = pool.settings.depth;
     let put_window = pool.words[layout::PUT_WINDOW];
-    let take_window = pool.words[layout::TAKE_WINDOW];
-    let reach = put_window.wrapping_add(2 * depth).wrapping_sub(take_window);
-    if reach <= pool.settings.rows {
-        pool.words[layout::PUT_WINDOW] = put_window.wrapping_add(depth);
+    let new_top = put_window.wrapping_add(pool.next_size().depth);
+    let reach = new_top.wrapping_sub(pool.take_bottom());
+    if reach <= pool.settings.rows && pool.may_have_another_window() {
+        pool.add_window();
         restart(worker, Side::Put);
         Answer::of(MOVING)
     } else {
@@ -40,9 +42,8 @@ fn shift_queue_put(pool: &mut Pool, worker: &mut Worker) -> Answer {
 }
 
 fn shift_queue_take(pool: &mut Pool, worker: &mut Worker) -> Answer {
-    let take_window = pool.words[layout::TAKE_WINDOW];
-    if take_window < pool.words[layout::PUT_WINDOW] {
-        pool.words[layout::TAKE_WINDOW] = take_window.wrapping_add(pool.settings.depth);
+    if pool.words[layout::TAKE_WINDOW] < pool.words[layout::PUT_WINDOW] {
+        pool.drop_take_window();
         restart(worker, Side::Take);
         Answer::of(MOVING)
     } else {

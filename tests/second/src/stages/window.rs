@@ -14,8 +14,20 @@ pub(super) fn window(pool: &Pool, worker: &mut Worker, side: Side) -> Answer {
     worker.scan = 0;
     worker.seen = 0;
     worker.sum = 0;
+    if pool.has_sizes() {
+        see_size(pool, worker, side);
+    }
     worker.phase = side.phase(Stage::Read);
     Answer::of(MOVING)
+}
+
+/// K8: the seen window's bottom and width; "a worker whose index lies beyond it
+/// starts at index mod that width".
+fn see_size(pool: &Pool, worker: &mut Worker, side: Side) {
+    let size = pool.window_size(side);
+    worker.seen_bottom = worker.seen_window - size.depth;
+    worker.seen_width = size.width;
+    worker.index %= size.width;
 }
 
 /// P, T or G.

@@ -1,4 +1,5 @@
-//! A pool's needed words in the other edition, ninth word by ninth word (K5, K6).
+//! A pool's needed words in the other one of editions 0 and 1, ninth word by ninth
+//! word (K5, K6).
 
 use super::failed_commits::ninth_words;
 use second::{layout, Edition, Settings};
@@ -6,8 +7,8 @@ use second::{layout, Edition, Settings};
 /// Without the ninth words.
 pub fn back(one: &[u32]) -> Vec<u32> {
     let settings = Settings::of_words(one);
-    let mut words = one[..settings.needed_words()].to_vec();
-    let ninth: Vec<usize> = ninth_words(&settings).collect();
+    let mut words = one[..settings.needed_words_in(Edition::One)].to_vec();
+    let ninth: Vec<usize> = ninth_words(Edition::One, &settings).collect();
     for at in ninth.into_iter().rev() {
         words.remove(at);
     }
@@ -19,7 +20,7 @@ pub fn back(one: &[u32]) -> Vec<u32> {
 pub fn on(zero: &[u32]) -> Vec<u32> {
     let settings = Settings::of_words(zero);
     let mut words = zero[..settings.needed_words_in(Edition::Zero)].to_vec();
-    for at in ninth_words(&settings) {
+    for at in ninth_words(Edition::One, &settings) {
         words.insert(at, 0);
     }
     words[layout::EDITION] = 1;

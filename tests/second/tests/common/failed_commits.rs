@@ -1,23 +1,25 @@
 //! The ninth words (K5), and whether a commit fails, by the words before it.
 
-use second::{layout, Settings, QUEUE};
+use super::{edition_of, worker_at};
+use second::{layout, Edition, Settings, QUEUE};
 
 /// The places of the ninth words, by worker.
-pub fn ninth_words(settings: &Settings) -> impl Iterator<Item = usize> {
-    let workers = settings.workers_at()..settings.cells_at();
+pub fn ninth_words(edition: Edition, settings: &Settings) -> impl Iterator<Item = usize> {
+    let workers = settings.workers_at()..settings.cells_at_in(edition);
     workers
         .skip(layout::FAILED_COMMITS)
-        .step_by(layout::WORKER_WORDS)
+        .step_by(edition.worker_words())
 }
 
 pub fn failed_commits(words: &[u32]) -> Vec<u32> {
     let settings = Settings::of_words(words);
-    ninth_words(&settings).map(|at| words[at]).collect()
+    let ninth = ninth_words(edition_of(words), &settings);
+    ninth.map(|at| words[at]).collect()
 }
 
 pub fn set_failed_commits(words: &mut [u32], all: impl IntoIterator<Item = u32>) {
     let settings = Settings::of_words(words);
-    for (at, failed) in ninth_words(&settings).zip(all) {
+    for (at, failed) in ninth_words(edition_of(words), &settings).zip(all) {
         words[at] = failed;
     }
 }
@@ -42,6 +44,5 @@ pub fn commit_fails(words: &[u32], worker: u32) -> bool {
 }
 
 fn worker_words(words: &[u32], worker: u32) -> &[u32] {
-    let workers_at = Settings::of_words(words).workers_at();
-    &words[workers_at + layout::WORKER_WORDS * worker as usize..][..layout::WORKER_WORDS]
+    &words[worker_at(words, worker)..][..edition_of(words).worker_words()]
 }

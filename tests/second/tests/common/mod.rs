@@ -11,7 +11,8 @@ pub mod solo;
 pub mod states;
 pub mod stretch;
 
-use second::{begin_put, begin_take, make, step, Answer, Settings, MOVING, QUEUE, STACK};
+use second::{begin_put, begin_take, in_edition, layout, phase, step};
+use second::{Answer, Edition, Settings, MOVING, QUEUE, STACK};
 
 pub fn queue(width: u32, depth: u32, rows: u32, workers: u32) -> Settings {
     Settings {
@@ -41,10 +42,39 @@ pub fn strided(stride: u32, settings: Settings) -> Settings {
     Settings { stride, ..settings }
 }
 
+/// In the current edition.
 pub fn made(settings: Settings) -> Vec<u32> {
-    let mut words = vec![0; settings.needed_words()];
-    assert_eq!(make(&mut words, settings), Answer::of(MOVING));
+    made_in(Edition::CURRENT, settings)
+}
+
+pub fn made_in(edition: Edition, settings: Settings) -> Vec<u32> {
+    let mut words = vec![0; settings.needed_words_in(edition)];
+    let answer = in_edition::make(edition, &mut words, settings);
+    assert_eq!(answer, Answer::of(MOVING));
     words
+}
+
+/// By word 11 of a pool.
+pub fn edition_of(words: &[u32]) -> Edition {
+    let all = [Edition::Zero, Edition::One, Edition::Two];
+    all[words[layout::EDITION] as usize]
+}
+
+/// Where a worker's words begin.
+pub fn worker_at(words: &[u32], worker: u32) -> usize {
+    let size = edition_of(words).worker_words();
+    Settings::of_words(words).workers_at() + size * worker as usize
+}
+
+/// Puts a worker into a phase; past its window phase it has seen the pool's width,
+/// where that is a word, and a bottom of 0.
+pub fn set_phase(words: &mut [u32], worker: u32, phase: u32) {
+    let at = worker_at(words, worker);
+    words[at + layout::PHASE] = phase;
+    let sees = words[layout::KIND] == QUEUE && edition_of(words).has_sizes();
+    if sees && phase::is_past_window(phase) {
+        words[at + layout::SEEN_WIDTH] = words[layout::WIDTH];
+    }
 }
 
 /// Steps `worker` to its final answer; the answer and how many steps it took.

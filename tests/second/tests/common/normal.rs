@@ -5,8 +5,11 @@
 //! What no later step goes by is zero. A queue's counts and windows and a stack's
 //! versions only grow, and a step only compares them or adds up a pass of
 //! them; so they come down again, with all that the workers have seen of them.
+//! Where windows have sizes this is of pools in which none was set: no sub is then
+//! left behind.
 
-use second::phase::{decode, Side, Stage};
+use super::edition_of;
+use second::phase::{decode, is_past_window, Side, Stage};
 use second::{layout, Settings, QUEUE};
 
 pub fn normal(words: &[u32]) -> Vec<u32> {
@@ -14,7 +17,8 @@ pub fn normal(words: &[u32]) -> Vec<u32> {
     let mut normal = words.to_vec();
     normal[layout::STEPS_COUNTED] = 0;
     normal[layout::PUTS_MADE] = 0;
-    normal[settings.cells_at()..].fill(0);
+    let edition = edition_of(words);
+    normal[settings.cells_in(edition)].fill(0);
     let subs = settings.subs_at()..settings.workers_at();
     if settings.kind == QUEUE {
         let floor = queue_floor(words);
@@ -27,8 +31,9 @@ pub fn normal(words: &[u32]) -> Vec<u32> {
             normal[at] = down(words[at], words[at]);
         }
     }
-    for at in (settings.workers_at()..settings.cells_at()).step_by(layout::WORKER_WORDS) {
-        for which in layout::VALUE..layout::WORKER_WORDS {
+    let workers = settings.workers_at()..settings.cells_at_in(edition);
+    for at in workers.step_by(edition.worker_words()) {
+        for which in layout::VALUE..edition.worker_words() {
             normal[at + which] = worker_word(words, &normal, at, which);
         }
     }
@@ -54,8 +59,12 @@ fn worker_word(words: &[u32], normal: &[u32], at: usize, which: usize) -> u32 {
     let index = words[at + layout::INDEX];
     match which {
         layout::INDEX => word,
+        // Fit asks for it; a stack has 0.
+        layout::SEEN_WIDTH if is_past_window(words[at + layout::PHASE]) => word,
         _ if !read_later(queue, words[at + layout::PHASE], which) => 0,
-        layout::SEEN_WINDOW | layout::SEEN if queue => down(word, queue_floor(words)),
+        layout::SEEN_WINDOW | layout::SEEN | layout::SEEN_BOTTOM if queue => {
+            down(word, queue_floor(words))
+        }
         layout::SEEN => down(word, words[sub_word(words, index, layout::VERSION)]),
         layout::EXTRA if !queue => down(word, words[layout::WINDOW_VERSION]),
         layout::SUM => {
@@ -70,15 +79,16 @@ fn worker_word(words: &[u32], normal: &[u32], at: usize, which: usize) -> u32 {
 
 /// Whether the phase or one that follows reads the word, before it is written.
 fn read_later(queue: bool, phase: u32, which: usize) -> bool {
-    use layout::{EXTRA, SCAN, SEEN, SEEN_WINDOW, SUM};
+    use layout::{EXTRA, SCAN, SEEN, SEEN_BOTTOM, SEEN_WINDOW, SUM};
     let read: &[usize] = match decode(phase) {
         None | Some((_, Stage::Window)) => &[],
-        Some((Side::Put, Stage::Read)) if queue => &[SEEN_WINDOW, SCAN],
-        Some((_, Stage::Read)) => &[SEEN_WINDOW, EXTRA, SCAN, SUM],
+        Some((Side::Put, Stage::Read)) if queue => &[SEEN_WINDOW, SEEN_BOTTOM, SCAN],
+        Some((_, Stage::Read)) => &[SEEN_WINDOW, SEEN_BOTTOM, EXTRA, SCAN, SUM],
         Some((_, Stage::Check)) => &[EXTRA, SEEN],
-        Some((_, Stage::Commit)) => &[SEEN],
+        Some((_, Stage::Commit)) => &[SEEN, SEEN_BOTTOM],
         Some((_, Stage::Shift)) if queue => &[SEEN_WINDOW],
         Some((_, Stage::Shift)) => &[EXTRA, SUM],
+        Some((_, Stage::Confirm)) if queue => &[SEEN_WINDOW, SEEN_BOTTOM, SCAN, SUM],
         Some((_, Stage::Confirm)) => &[SCAN, SUM],
     };
     read.contains(&which)

@@ -1,8 +1,8 @@
 //! Every state that a small pool can come to from make, in runs of any length.
 
 use super::normal::normal;
-use super::{made, queue, stack};
-use second::{begin_put, begin_take, step, Answer, Settings, BUSY, IDLE};
+use super::{edition_of, made_in, queue, stack};
+use second::{in_edition, Answer, Edition, Settings, BUSY, IDLE};
 use std::collections::HashSet;
 
 /// Of both kinds, with two workers, and with one sub and with two.
@@ -15,11 +15,11 @@ pub fn small_pools() -> [Settings; 4] {
     ]
 }
 
-/// A worker's calls; a put's value bears on no state.
+/// A worker's calls, of the words' edition; a put's value bears on no state.
 pub const CALLS: [fn(&mut [u32], u32) -> Answer; 3] = [
-    |words, worker| begin_put(words, worker, 0),
-    begin_take,
-    step,
+    |words, worker| in_edition::begin_put(edition_of(words), words, worker, 0),
+    |words, worker| in_edition::begin_take(edition_of(words), words, worker),
+    |words, worker| in_edition::step(edition_of(words), words, worker),
 ];
 
 /// The place of `step` in CALLS; the others are begins.
@@ -47,8 +47,12 @@ pub fn moves(words: &[u32]) -> Vec<Move> {
 }
 
 /// Looks at each state once, in its normal words; how many there are.
-pub fn every_state(settings: Settings, mut look: impl FnMut(&[u32])) -> usize {
-    let first = normal(&made(settings));
+pub fn every_state(settings: Settings, look: impl FnMut(&[u32])) -> usize {
+    every_state_in(Edition::CURRENT, settings, look)
+}
+
+pub fn every_state_in(edition: Edition, settings: Settings, mut look: impl FnMut(&[u32])) -> usize {
+    let first = normal(&made_in(edition, settings));
     let mut known = HashSet::from([first.clone()]);
     let mut ahead = vec![first];
     while let Some(words) = ahead.pop() {

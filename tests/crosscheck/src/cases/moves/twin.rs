@@ -197,7 +197,7 @@ impl Twin {
         let mut common = words[..workers_at].to_vec();
         common.remove(layout::EDITION);
         common.extend(workers.flat_map(|worker| &worker[..layout::FAILED_COMMITS]));
-        common.extend(&words[cells_at..settings.needed_words_in(edition)]);
+        common.extend(&words[settings.cells_in(edition)]);
         common
     }
 
