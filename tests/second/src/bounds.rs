@@ -69,20 +69,25 @@ pub fn full_bound(settings: &Settings) -> u32 {
     settings.width * per_sub
 }
 
-/// The window that a worker of a queue has seen, past its window phase, where windows
-/// have sizes of their own (K8).
-pub(crate) fn seen_size(pool: &Pool, worker: u32) -> Option<Size> {
+/// The size of the window that a worker of a queue has seen, past its window phase.
+pub(crate) fn seen_size(pool: &Pool, worker: u32) -> Size {
+    if !pool.has_sizes() {
+        return Size::of_pool(&pool.settings);
+    }
     let worker = pool.worker(worker);
-    pool.has_sizes().then(|| Size {
+    Size {
         width: worker.seen_width,
         depth: worker.seen_window.wrapping_sub(worker.seen_bottom),
-    })
+    }
 }
 
-/// How many places there are in the windows after the take window, where windows have
-/// sizes of their own.
-pub(crate) fn places_after_take_window(pool: &Pool) -> Option<u32> {
+/// K8: "every place in the windows after the take window": how many these are, just
+/// before a queue is found full. Where each window has the pool's size that is the
+/// figure above.
+pub(crate) fn places_after_take_window(pool: &Pool) -> u32 {
+    if !pool.has_sizes() {
+        return full_bound(&pool.settings);
+    }
     let places = |size: Size| size.width * size.depth;
-    let after = || (1..pool.live()).map(|k| places(pool.live_size(k))).sum();
-    pool.has_sizes().then(after)
+    (1..pool.live()).map(|k| places(pool.live_size(k))).sum()
 }

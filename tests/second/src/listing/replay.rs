@@ -9,7 +9,7 @@ use crate::answer::{Answer, MOVING, OFF_LIMITS};
 use crate::bounds::{distance_bound, seen_size};
 use crate::calls::{begin_put, begin_take, make, set_size, step};
 use crate::pool::edition::Edition;
-use crate::pool::settings::Settings;
+use crate::pool::settings::{Settings, QUEUE};
 use crate::pool::size::Size;
 use crate::pool::Pool;
 use std::io::Read;
@@ -59,11 +59,11 @@ impl<R: Read> Replay<R> {
         let position = self.words.position;
         let edition = self.edition;
         let mut size = None;
-        let mut bound = distance_bound(&self.settings);
         let call = self.words.next(|word| decode::call(edition, word))?;
-        if let Call::Step { worker } = call {
-            bound = self.bound_of(worker).unwrap_or(bound);
-        }
+        let bound = match call {
+            Call::Step { worker } => self.bound_of(worker),
+            _ => distance_bound(&self.settings),
+        };
         let lent = &mut self.lent;
         let (worker, answer) = match call {
             Call::BeginPut { worker, value } => (worker, begin_put(edition, lent, worker, value)),
@@ -88,12 +88,16 @@ impl<R: Read> Replay<R> {
         }))
     }
 
-    /// K8: a take's, by its own window's sizes; none of a worker that sees no sizes.
-    fn bound_of(&mut self, worker: u32) -> Option<u32> {
-        let sees = worker < self.settings.workers;
-        let size = sees.then(|| seen_size(&self.pool(), worker)).flatten()?;
-        size.within_limits(&self.settings)
-            .then(|| size.distance_bound())
+    /// K8: a queue's take's, by its own window's sizes.
+    fn bound_of(&mut self, worker: u32) -> u32 {
+        let settings = self.settings;
+        let takes = settings.kind == QUEUE && worker < settings.workers;
+        let seen = takes.then(|| seen_size(&self.pool(), worker));
+        // No other worker's step is a take.
+        match seen.filter(|size| size.within_limits(&settings)) {
+            Some(size) => size.distance_bound(),
+            None => distance_bound(&settings),
+        }
     }
 
     /// How many words were read.

@@ -12,7 +12,7 @@ use crate::pool::Pool;
 /// What is fed with an answer.
 #[derive(Clone, Copy, Debug, Default, PartialEq, Eq)]
 pub enum Fed {
-    /// Of a stack, and before edition 2: demand 3's numbers are those of the settings.
+    /// Of a stack: demand 3's numbers are those of the settings.
     #[default]
     Nothing,
     /// With a 2.
@@ -32,10 +32,10 @@ impl Fed {
             settings: Settings::of_words(before),
             edition,
         };
-        let fed = match answer.number {
-            TAKEN => seen_size(&pool, worker).map(Fed::Window),
-            _ => places_after_take_window(&pool).map(Fed::Places),
-        };
-        fed.unwrap_or_default()
+        match answer.number {
+            _ if !pool.is_queue() => Fed::Nothing,
+            TAKEN => Fed::Window(seen_size(&pool, worker)),
+            _ => Fed::Places(places_after_take_window(&pool)),
+        }
     }
 }

@@ -7,6 +7,8 @@ pub mod failed_commits;
 pub mod normal;
 pub mod passed;
 pub mod run_file;
+pub mod sized_run;
+pub mod sizes;
 pub mod solo;
 pub mod states;
 pub mod stretch;

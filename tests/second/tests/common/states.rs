@@ -66,3 +66,21 @@ pub fn every_state_in(edition: Edition, settings: Settings, mut look: impl FnMut
     }
     known.len()
 }
+
+/// The same in words that a run from make has come to, and not in normal ones.
+pub fn every_state_as_it_is(edition: Edition, settings: Settings, mut look: impl FnMut(&[u32])) {
+    let first = made_in(edition, settings);
+    let mut known = HashSet::from([normal(&first)]);
+    let mut ahead = vec![first];
+    while let Some(words) = ahead.pop() {
+        look(&words);
+        for worker in 0..settings.workers {
+            for call in CALLS {
+                let mut after = words.clone();
+                if !call(&mut after, worker).is_refusal() && known.insert(normal(&after)) {
+                    ahead.push(after);
+                }
+            }
+        }
+    }
+}
