@@ -1,72 +1,132 @@
 //! The check of a fit pool, and its words in parts.
 
-use crate::{Header, Worker};
-use second::layout::{self, HEADER_WORDS, WORKER_WORDS};
-use second::{Settings, CURRENT_EDITION, QUEUE, TOO_SHORT, UNFIT};
+use crate::edition::{has_sizes, of_worker_words};
+use crate::sizes::{self, Sizes};
+use crate::Header;
+use second::layout::{self, HEADER_WORDS};
+use second::{Settings, QUEUE, TOO_SHORT, UNFIT};
 
 /// Bits of the phases of each kind: 0 to 6 and 9 to 14; queues have no 3, 6
 /// or 11.
 const STACK_PHASES: u32 = 0x7e7f;
 const QUEUE_PHASES: u32 = STACK_PHASES & !(1 << 3 | 1 << 6 | 1 << 11);
+/// Those past the window phase: neither 0, 1 nor 9.
+const PAST_WINDOW: u32 = STACK_PHASES & !(1 | 1 << 1 | 1 << 9);
 
-pub struct Parts<'a> {
+/// With N words for each worker.
+pub struct Parts<'a, const N: usize> {
     pub header: &'a mut Header,
     pub subs: &'a mut [[u32; 2]],
-    pub workers: &'a mut [Worker],
+    pub workers: &'a mut [[u32; N]],
     pub cells: &'a mut [[u32; 2]],
+    /// The words after the cells, where there are any.
+    pub sizes: &'a mut [u32],
 }
 
-pub fn admit(words: &mut [u32]) -> Result<Parts<'_>, u32> {
+impl<const N: usize> Parts<'_, N> {
+    /// The words after the cells, where there are any.
+    pub fn sizes(&mut self) -> &mut Sizes {
+        sizes::of(self.sizes)
+    }
+
+    /// The take window's bottom; 0 where a queue's words are counts.
+    pub fn take_bottom(&self) -> u32 {
+        if has_sizes(N) {
+            self.header[layout::TAKE_WINDOW] - self.sizes[layout::SIZES + layout::SIZE_DEPTH]
+        } else {
+            0
+        }
+    }
+}
+
+pub fn admit<const N: usize>(words: &mut [u32]) -> Result<Parts<'_, N>, u32> {
+    let edition = of_worker_words(N);
     let len = words.len();
     let Some((header, rest)) = words.split_first_chunk_mut::<HEADER_WORDS>() else {
         return Err(TOO_SHORT);
     };
     let settings = Settings::of_words(header);
-    if !settings.within_limits() || header[layout::EDITION] != CURRENT_EDITION {
+    if !settings.within_limits_in(edition) || header[layout::EDITION] != edition.word() {
         return Err(UNFIT);
     }
-    let needed = settings.needed_words();
-    if len < needed {
+    let cells = 2 * settings.width as usize * settings.rows as usize;
+    let workers = N * settings.workers as usize;
+    let needed = HEADER_WORDS + 2 * settings.width as usize + workers + cells;
+    if len < needed + edition.size_words() {
         return Err(TOO_SHORT);
     }
     let (subs, rest) = rest.split_at_mut(2 * settings.width as usize);
-    let (workers, rest) = rest.split_at_mut(WORKER_WORDS * settings.workers as usize);
-    let cells = &mut rest[..needed - settings.cells_at()];
+    let (workers, rest) = rest.split_at_mut(workers);
+    let (cells, rest) = rest.split_at_mut(cells);
     let parts = Parts {
         header,
         subs: subs.as_chunks_mut().0,
         workers: workers.as_chunks_mut().0,
         cells: cells.as_chunks_mut().0,
+        sizes: &mut rest[..edition.size_words()],
     };
-    if subs_fit(&settings, parts.subs) & workers_fit(&settings, parts.workers) {
+    if fits(&settings, &parts) {
         Ok(parts)
     } else {
         Err(UNFIT)
     }
 }
 
-fn subs_fit(settings: &Settings, subs: &[[u32; 2]]) -> bool {
-    let rows = settings.rows;
+fn fits<const N: usize>(settings: &Settings, parts: &Parts<N>) -> bool {
+    let Settings { width, rows, .. } = *settings;
     if settings.kind == QUEUE {
-        subs.iter().fold(true, |fit, [put, taken]| {
-            fit & (taken <= put) & (put.wrapping_sub(*taken) <= rows)
-        })
+        if has_sizes(N) && !sizes::fit(settings, parts.header, parts.sizes) {
+            return false;
+        }
+        queue_subs_fit(rows, parts.take_bottom(), parts.subs)
+            & queue_workers_fit(width, parts.workers)
     } else {
-        subs.iter()
-            .fold(true, |fit, [held, _]| fit & (*held <= rows))
+        let zeros = sizes::are_zero(parts.sizes);
+        zeros & stack_subs_fit(rows, parts.subs) & stack_workers_fit(width, parts.workers)
     }
 }
 
-fn workers_fit(settings: &Settings, workers: &[Worker]) -> bool {
-    let phases = if settings.kind == QUEUE {
-        QUEUE_PHASES
-    } else {
-        STACK_PHASES
-    };
-    let width = settings.width;
+/// With a bottom of 0 what is asked of counts.
+fn queue_subs_fit(rows: u32, take_bottom: u32, subs: &[[u32; 2]]) -> bool {
+    subs.iter().fold(true, |fit, [put, taken]| {
+        let higher = (*taken).max(take_bottom);
+        let above = (*put > higher) & (put.wrapping_sub(higher) <= rows);
+        fit & (above | (put == taken))
+    })
+}
+
+fn stack_subs_fit(rows: u32, subs: &[[u32; 2]]) -> bool {
+    subs.iter()
+        .fold(true, |fit, [held, _]| fit & (*held <= rows))
+}
+
+/// The bit of a phase in such bits.
+fn bit(phases: u32, phase: u32) -> bool {
+    (phases >> (phase & 31)) & u32::from(phase < 32) & 1 == 1
+}
+
+/// Past its window phase index and scan are below the seen width, and that is 1 to w.
+fn queue_workers_fit<const N: usize>(width: u32, workers: &[[u32; N]]) -> bool {
     workers.iter().fold(true, |fit, worker| {
         let phase = worker[layout::PHASE];
-        let known = (phases >> (phase & 31)) & u32::from(phase < 32);
-        fit & (known & 1 == 1) & (worker[layout::INDEX] < width) & (worker[layout::SCAN] < width)
+        let mut visited = width;
+        if has_sizes(N) && bit(PAST_WINDOW, phase) {
+            visited = worker[layout::SEEN_WIDTH];
+        }
+        fit & bit(QUEUE_PHASES, phase)
+            & (visited.wrapping_sub(1) < width)
+            & (worker[layout::INDEX] < visited)
+            & (worker[layout::SCAN] < visited)
+    })
+}
+
+fn stack_workers_fit<const N: usize>(width: u32, workers: &[[u32; N]]) -> bool {
+    workers.iter().fold(true, |fit, worker| {
+        let seen = &worker[layout::SEEN_BOTTOM..];
+        let zeros = seen.iter().fold(0, |all, word| all | word) == 0;
+        fit & bit(STACK_PHASES, worker[layout::PHASE])
+            & (worker[layout::INDEX] < width)
+            & (worker[layout::SCAN] < width)
+            & zeros
     })
 }

@@ -1,16 +1,17 @@
 //! The dispatcher: who is busy is read once, since no step but the last changes
 //! it.
 
-use crate::admit::admit;
-use crate::step;
+use crate::admit::{admit, Parts};
+use crate::calls::step;
 use second::layout::PHASE;
 use second::{Dispatched, NO_WORKER};
 
-pub fn dispatch(words: &mut [u32], named: u32, count: u32) -> Dispatched {
-    let workers = match admit(words) {
-        Ok(parts) => parts.workers,
+pub fn dispatch<const N: usize>(words: &mut [u32], named: u32, count: u32) -> Dispatched {
+    let parts: Parts<N> = match admit(words) {
+        Ok(parts) => parts,
         Err(refusal) => return Dispatched::Refused(refusal),
     };
+    let workers = parts.workers;
     let number = workers.len() as u32;
     if named >= number {
         return Dispatched::Refused(NO_WORKER);
@@ -28,7 +29,7 @@ pub fn dispatch(words: &mut [u32], named: u32, count: u32) -> Dispatched {
         let from_turn = busy >> turn << turn;
         let round = if from_turn == 0 { busy } else { from_turn };
         let worker = round.trailing_zeros();
-        let answer = step(words, worker);
+        let answer = step::<N>(words, worker);
         if answer.is_final() {
             return Dispatched::Finished { worker, answer };
         }

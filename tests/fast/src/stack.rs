@@ -1,13 +1,14 @@
 //! A step of a stack.
 
+use crate::admit::Parts;
+use crate::calls::{PUT_WINDOW_PHASE, TAKE_WINDOW_PHASE};
 use crate::distance::newer;
-use crate::{confirm, landed, lost, next_index, scanned_all, taken, Parts};
-use crate::{PUT_WINDOW_PHASE, TAKE_WINDOW_PHASE};
+use crate::worker::{idle, landed, lost, next_index, scanned_all, taken};
 use second::layout::{DEPTH, EXTRA, INDEX, PHASE, ROWS, SCAN, SEEN, SEEN_WINDOW, SHIFT, SUM};
 use second::layout::{WINDOW, WINDOW_VERSION};
 use second::{Answer, EMPTY, FULL, MOVING, UNFIT};
 
-pub fn step(parts: &mut Parts, number: usize) -> Answer {
+pub fn step<const N: usize>(parts: &mut Parts<N>, number: usize) -> Answer {
     match parts.workers[number][PHASE] {
         1 | 9 => window(parts, number),
         2 => read(parts, number, true),
@@ -17,12 +18,12 @@ pub fn step(parts: &mut Parts, number: usize) -> Answer {
         12 => commit_take(parts, number),
         5 => shift(parts, number, true),
         13 => shift(parts, number, false),
-        6 => confirm(parts, number, 1, PUT_WINDOW_PHASE, FULL),
-        _ => confirm(parts, number, 1, TAKE_WINDOW_PHASE, EMPTY),
+        6 => confirm(parts, number, PUT_WINDOW_PHASE, FULL),
+        _ => confirm(parts, number, TAKE_WINDOW_PHASE, EMPTY),
     }
 }
 
-fn window(parts: &mut Parts, number: usize) -> Answer {
+fn window<const N: usize>(parts: &mut Parts<N>, number: usize) -> Answer {
     let worker = &mut parts.workers[number];
     worker[PHASE] += 1;
     worker[SEEN_WINDOW] = parts.header[WINDOW];
@@ -33,7 +34,7 @@ fn window(parts: &mut Parts, number: usize) -> Answer {
     Answer::of(MOVING)
 }
 
-fn read(parts: &mut Parts, number: usize, put: bool) -> Answer {
+fn read<const N: usize>(parts: &mut Parts<N>, number: usize, put: bool) -> Answer {
     let worker = &mut parts.workers[number];
     let [held, version] = parts.subs[worker[INDEX] as usize];
     worker[SUM] = worker[SUM].wrapping_add(version);
@@ -48,7 +49,7 @@ fn read(parts: &mut Parts, number: usize, put: bool) -> Answer {
         worker[PHASE] += 1;
         return Answer::of(MOVING);
     }
-    let width = parts.subs.len();
+    let width = parts.subs.len() as u32;
     next_index(worker, width);
     if scanned_all(worker, width) {
         worker[PHASE] += 3;
@@ -56,7 +57,7 @@ fn read(parts: &mut Parts, number: usize, put: bool) -> Answer {
     Answer::of(MOVING)
 }
 
-fn check(parts: &mut Parts, number: usize) -> Answer {
+fn check<const N: usize>(parts: &mut Parts<N>, number: usize) -> Answer {
     let worker = &mut parts.workers[number];
     if parts.header[WINDOW_VERSION] == worker[EXTRA] {
         worker[PHASE] += 1;
@@ -66,7 +67,7 @@ fn check(parts: &mut Parts, number: usize) -> Answer {
     Answer::of(MOVING)
 }
 
-fn commit_put(parts: &mut Parts, number: usize) -> Answer {
+fn commit_put<const N: usize>(parts: &mut Parts<N>, number: usize) -> Answer {
     let worker = &mut parts.workers[number];
     let sub = worker[INDEX];
     let [held, version] = parts.subs[sub as usize];
@@ -81,7 +82,7 @@ fn commit_put(parts: &mut Parts, number: usize) -> Answer {
     landed(parts, number, row, cell, [row, version.wrapping_add(1)])
 }
 
-fn commit_take(parts: &mut Parts, number: usize) -> Answer {
+fn commit_take<const N: usize>(parts: &mut Parts<N>, number: usize) -> Answer {
     let worker = &mut parts.workers[number];
     let sub = worker[INDEX];
     let [row, version] = parts.subs[sub as usize];
@@ -96,7 +97,7 @@ fn commit_take(parts: &mut Parts, number: usize) -> Answer {
     taken(parts, number, row, cell, after, newer)
 }
 
-fn shift(parts: &mut Parts, number: usize, put: bool) -> Answer {
+fn shift<const N: usize>(parts: &mut Parts<N>, number: usize, put: bool) -> Answer {
     let worker = &mut parts.workers[number];
     let header = &mut parts.header;
     let (window, version) = (header[WINDOW], header[WINDOW_VERSION]);
@@ -116,5 +117,21 @@ fn shift(parts: &mut Parts, number: usize, put: bool) -> Answer {
         header[WINDOW_VERSION] = version.wrapping_add(1);
     }
     worker[PHASE] -= 4;
+    Answer::of(MOVING)
+}
+
+/// Takes a sub's version off the sum; the last sub decides.
+fn confirm<const N: usize>(parts: &mut Parts<N>, number: usize, restart: u32, none: u32) -> Answer {
+    let worker = &mut parts.workers[number];
+    let [_, version] = parts.subs[worker[INDEX] as usize];
+    worker[SUM] = worker[SUM].wrapping_sub(version);
+    let width = parts.subs.len() as u32;
+    next_index(worker, width);
+    if scanned_all(worker, width) {
+        if worker[SUM] == 0 {
+            return idle(worker, Answer::of(none));
+        }
+        worker[PHASE] = restart;
+    }
     Answer::of(MOVING)
 }
