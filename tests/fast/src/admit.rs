@@ -10,8 +10,19 @@ use second::{Settings, QUEUE, TOO_SHORT, UNFIT};
 /// or 11.
 const STACK_PHASES: u32 = 0x7e7f;
 const QUEUE_PHASES: u32 = STACK_PHASES & !(1 << 3 | 1 << 6 | 1 << 11);
-/// Those past the window phase: neither 0, 1 nor 9.
-const PAST_WINDOW: u32 = STACK_PHASES & !(1 | 1 << 1 | 1 << 9);
+
+/// Two bits for each phase of a queue, 0 to 15: it is one, and it is past the window phase.
+const QUEUE_CODES: u32 = {
+    let mut codes = 0;
+    let mut phase = 0;
+    while phase < 16 {
+        let known = QUEUE_PHASES >> phase & 1;
+        let past = known & (phase != 0 && phase != 1 && phase != 9) as u32;
+        codes |= (known | past << 1) << (2 * phase);
+        phase += 1;
+    }
+    codes
+};
 
 /// With N words for each worker.
 pub struct Parts<'a, const N: usize> {
@@ -31,14 +42,20 @@ impl<const N: usize> Parts<'_, N> {
 
     /// The take window's bottom; 0 where a queue's words are counts.
     pub fn take_bottom(&self) -> u32 {
-        if has_sizes(N) {
-            self.header[layout::TAKE_WINDOW] - self.sizes[layout::SIZES + layout::SIZE_DEPTH]
-        } else {
-            0
-        }
+        take_bottom::<N>(self.header, self.sizes)
     }
 }
 
+fn take_bottom<const N: usize>(header: &Header, sizes: &[u32]) -> u32 {
+    if has_sizes(N) {
+        header[layout::TAKE_WINDOW] - sizes[layout::SIZES + layout::SIZE_DEPTH]
+    } else {
+        0
+    }
+}
+
+/// The parts are put together last: until then they stay in registers.
+#[inline(always)]
 pub fn admit<const N: usize>(words: &mut [u32]) -> Result<Parts<'_, N>, u32> {
     let edition = of_worker_words(N);
     let len = words.len();
@@ -49,46 +66,45 @@ pub fn admit<const N: usize>(words: &mut [u32]) -> Result<Parts<'_, N>, u32> {
     if !settings.within_limits_in(edition) || header[layout::EDITION] != edition.word() {
         return Err(UNFIT);
     }
-    let cells = 2 * settings.width as usize * settings.rows as usize;
+    let Settings { width, rows, .. } = settings;
+    let cells = 2 * width as usize * rows as usize;
     let workers = N * settings.workers as usize;
-    let needed = HEADER_WORDS + 2 * settings.width as usize + workers + cells;
+    let needed = HEADER_WORDS + 2 * width as usize + workers + cells;
     if len < needed + edition.size_words() {
         return Err(TOO_SHORT);
     }
-    let (subs, rest) = rest.split_at_mut(2 * settings.width as usize);
+    let (subs, rest) = rest.split_at_mut(2 * width as usize);
     let (workers, rest) = rest.split_at_mut(workers);
     let (cells, rest) = rest.split_at_mut(cells);
-    let parts = Parts {
-        header,
-        subs: subs.as_chunks_mut().0,
-        workers: workers.as_chunks_mut().0,
-        cells: cells.as_chunks_mut().0,
-        sizes: &mut rest[..edition.size_words()],
+    let subs = subs.as_chunks_mut().0;
+    let workers = workers.as_chunks_mut().0;
+    let sizes = &mut rest[..edition.size_words()];
+    let fits = if settings.kind == QUEUE {
+        (!has_sizes(N) || sizes::fit(&settings, header, sizes))
+            && queue_subs_fit::<N>(rows, take_bottom::<N>(header, sizes), subs)
+                & queue_workers_fit(width, workers)
+    } else {
+        let zeros = sizes::are_zero(sizes);
+        zeros & stack_subs_fit(rows, subs) & stack_workers_fit(width, workers)
     };
-    if fits(&settings, &parts) {
-        Ok(parts)
-    } else {
-        Err(UNFIT)
+    if !fits {
+        return Err(UNFIT);
     }
-}
-
-fn fits<const N: usize>(settings: &Settings, parts: &Parts<N>) -> bool {
-    let Settings { width, rows, .. } = *settings;
-    if settings.kind == QUEUE {
-        if has_sizes(N) && !sizes::fit(settings, parts.header, parts.sizes) {
-            return false;
-        }
-        queue_subs_fit(rows, parts.take_bottom(), parts.subs)
-            & queue_workers_fit(width, parts.workers)
-    } else {
-        let zeros = sizes::are_zero(parts.sizes);
-        zeros & stack_subs_fit(rows, parts.subs) & stack_workers_fit(width, parts.workers)
-    }
+    Ok(Parts {
+        header,
+        subs,
+        workers,
+        cells: cells.as_chunks_mut().0,
+        sizes,
+    })
 }
 
 /// With a bottom of 0 what is asked of counts.
-fn queue_subs_fit(rows: u32, take_bottom: u32, subs: &[[u32; 2]]) -> bool {
+fn queue_subs_fit<const N: usize>(rows: u32, take_bottom: u32, subs: &[[u32; 2]]) -> bool {
     subs.iter().fold(true, |fit, [put, taken]| {
+        if !has_sizes(N) {
+            return fit & (taken <= put) & (put.wrapping_sub(*taken) <= rows);
+        }
         let higher = (*taken).max(take_bottom);
         let above = (*put > higher) & (put.wrapping_sub(higher) <= rows);
         fit & (above | (put == taken))
@@ -109,14 +125,15 @@ fn bit(phases: u32, phase: u32) -> bool {
 fn queue_workers_fit<const N: usize>(width: u32, workers: &[[u32; N]]) -> bool {
     workers.iter().fold(true, |fit, worker| {
         let phase = worker[layout::PHASE];
+        let (index, scan) = (worker[layout::INDEX], worker[layout::SCAN]);
+        let code = QUEUE_CODES >> (2 * (phase & 15));
+        let known = (phase < 16) & (code & 1 == 1);
         let mut visited = width;
-        if has_sizes(N) && bit(PAST_WINDOW, phase) {
-            visited = worker[layout::SEEN_WIDTH];
+        if has_sizes(N) {
+            let past = 0_u32.wrapping_sub(code >> 1 & 1);
+            visited = (width & !past) | (worker[layout::SEEN_WIDTH] & past);
         }
-        fit & bit(QUEUE_PHASES, phase)
-            & (visited.wrapping_sub(1) < width)
-            & (worker[layout::INDEX] < visited)
-            & (worker[layout::SCAN] < visited)
+        fit & known & (visited <= width) & (index < visited) & (scan < visited)
     })
 }
 

@@ -48,14 +48,17 @@ pub fn make<const N: usize>(words: &mut [u32], settings: Settings) -> Answer {
     Answer::of(MOVING)
 }
 
+#[inline(always)]
 pub fn begin_put<const N: usize>(words: &mut [u32], number: u32, value: u32) -> Answer {
     begin::<N>(words, number, PUT_WINDOW_PHASE, value)
 }
 
+#[inline(always)]
 pub fn begin_take<const N: usize>(words: &mut [u32], number: u32) -> Answer {
     begin::<N>(words, number, TAKE_WINDOW_PHASE, 0)
 }
 
+#[inline(always)]
 fn begin<const N: usize>(words: &mut [u32], number: u32, phase: u32, value: u32) -> Answer {
     let parts: Parts<N> = match admit(words) {
         Ok(parts) => parts,
@@ -74,6 +77,7 @@ fn begin<const N: usize>(words: &mut [u32], number: u32, phase: u32, value: u32)
     Answer::of(MOVING)
 }
 
+#[inline(always)]
 pub fn step<const N: usize>(words: &mut [u32], number: u32) -> Answer {
     let mut parts: Parts<N> = match admit(words) {
         Ok(parts) => parts,

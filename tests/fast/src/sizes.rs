@@ -27,27 +27,38 @@ pub fn is_within(settings: &Settings, width: u32, depth: u32) -> bool {
     within(width, depth, settings.width, most_depth(settings))
 }
 
-/// All sixteen pairs are looked at, without a branch for each.
+/// The live pairs, which are few as a rule, one by one; those beyond all at once.
+#[inline]
 pub fn fit(settings: &Settings, header: &Header, words: &[u32]) -> bool {
     let Ok(words) = <&Sizes>::try_from(words) else {
         return false;
     };
     let live = words[LIVE];
+    if live.wrapping_sub(1) >= MOST_LIVE {
+        return false;
+    }
     let most = most_depth(settings);
     let (pairs, _) = words[SIZES..].as_chunks::<SIZE_WORDS>();
-    let mut fit = (words[SIZE_SET] <= 1) & (live.wrapping_sub(1) < MOST_LIVE);
+    let mut fit = words[SIZE_SET] <= 1;
     fit &= within(words[NEXT_WIDTH], words[NEXT_DEPTH], settings.width, most);
     let mut deep = 0_u32;
-    for (k, [width, depth]) in (0..).zip(pairs) {
-        // Below the live ones within limits, and zero beyond.
-        let lives = within(*width, *depth, settings.width, most) & (k < live);
-        fit &= lives | ((width | depth == 0) & (k >= live));
+    for [width, depth] in &pairs[..live as usize] {
+        fit &= within(*width, *depth, settings.width, most);
         deep = deep.wrapping_add(*depth);
     }
+    fit &= beyond(words, live) == 0;
     let [put, take] = [header[PUT_WINDOW], header[TAKE_WINDOW]];
     let first = pairs[0][SIZE_DEPTH];
     // They are at most 64 each, or it is not fit anyway.
     fit & (first <= take) & (take <= put) & (put.wrapping_sub(take) == deep.wrapping_sub(first))
+}
+
+/// Any bit of the pairs beyond the live ones. All pairs are looked at, the live ones for
+/// nothing, so that the loop has no end to find.
+fn beyond(words: &Sizes, live: u32) -> u32 {
+    let first = SIZE_WORDS as u32 * live;
+    let pairs = (0..).zip(&words[SIZES..]);
+    pairs.fold(0, |all, (k, word)| all | if k >= first { *word } else { 0 })
 }
 
 pub fn are_zero(words: &[u32]) -> bool {

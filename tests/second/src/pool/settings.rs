@@ -23,6 +23,7 @@ pub struct Settings {
 
 impl Settings {
     /// What stands in the first words, within limits or not.
+    #[inline]
     pub fn of_words(words: &[u32]) -> Settings {
         Settings {
             kind: words[layout::KIND],
@@ -40,6 +41,7 @@ impl Settings {
         self.within_limits_in(Edition::CURRENT)
     }
 
+    #[inline]
     pub fn within_limits_in(&self, edition: Edition) -> bool {
         let known = self.kind == QUEUE || self.kind == STACK;
         known
@@ -55,11 +57,13 @@ impl Settings {
 
     /// A queue has shift = depth, and its rows are a multiple of the depth. K8: "R
     /// need no longer be a multiple of d".
+    #[inline]
     fn suits_a_queue(&self, edition: Edition) -> bool {
         self.shift == self.depth && (edition.has_sizes() || self.rows_are_whole_windows())
     }
 
     /// Of the pool's depth.
+    #[inline]
     pub fn rows_are_whole_windows(&self) -> bool {
         self.rows.is_multiple_of(self.depth)
     }
