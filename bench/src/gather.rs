@@ -38,7 +38,7 @@ pub fn table() {
     println!("{TEXT}");
     let settings = largest(QUEUE, 4);
     let words = spread(&settings, CELLS, SHARE);
-    let rounds = rounds(&words[settings.cells_at()..]);
+    let rounds = rounds(&words[settings.cells()]);
     for (row, name) in ["sum", "count, queue", "count, stack"].iter().enumerate() {
         let [both, stamps, few, values, gather, all] = medians(&rounds, |times| {
             let [both, stamps, few, all] = from_fn(|at| times[4 * row + at]);

@@ -4,7 +4,8 @@
 use crate::spacers::value;
 use crate::tables::settings;
 use second::layout::{CELL_STAMP, CELL_VALUE, CELL_WORDS, PUTS_MADE, PUT_WINDOW, SUB_WORDS};
-use second::{Settings, QUEUE};
+use second::layout::{LIVE, SIZES, SIZE_WORDS, TAKE_WINDOW};
+use second::{Edition, Settings, QUEUE};
 use sides::{Call, SECOND};
 
 /// The most cells of a pool, and the most rows of a sub.
@@ -36,8 +37,11 @@ pub fn spread(settings: &Settings, items: u32, share: u32) -> Vec<u32> {
         ([held.max(settings.depth), 0], [held, 1], u32::MAX)
     };
     words[PUT_WINDOW..][..2].copy_from_slice(&windows);
+    if settings.kind == QUEUE && Edition::CURRENT.has_sizes() {
+        cover(settings, &mut words, sub);
+    }
     let (subs_at, cells_at) = (settings.subs_at(), settings.cells_at());
-    for cell in words[cells_at..].chunks_exact_mut(CELL_WORDS) {
+    for cell in words[settings.cells()].chunks_exact_mut(CELL_WORDS) {
         write(cell, u32::MAX, junk);
     }
     for j in 0..settings.width {
@@ -51,6 +55,23 @@ pub fn spread(settings: &Settings, items: u32, share: u32) -> Vec<u32> {
         }
     }
     words
+}
+
+/// Where windows have sizes, as few as can be over just these rows of all subs: only what
+/// lies in a window is held.
+fn cover(settings: &Settings, words: &mut [u32], [put, taken]: [u32; SUB_WORDS]) {
+    let deepest = (settings.rows / 2).min(64);
+    let sizes = &mut words[settings.cells().end..];
+    let mut bottom = taken;
+    let mut live = 0;
+    while bottom < put {
+        let depth = deepest.min(put - bottom);
+        sizes[SIZES + SIZE_WORDS * live..][..SIZE_WORDS].copy_from_slice(&[settings.width, depth]);
+        bottom += depth;
+        live += 1;
+    }
+    sizes[LIVE] = live as u32;
+    words[TAKE_WINDOW] = taken + deepest.min(put - taken);
 }
 
 fn write(cell: &mut [u32], value: u32, stamp: u32) {

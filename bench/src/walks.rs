@@ -55,7 +55,7 @@ impl<'a> Held<'a> {
             subs: words[settings.subs_at()..settings.workers_at()]
                 .as_chunks()
                 .0,
-            cells: &words[settings.cells_at()..settings.needed_words()],
+            cells: &words[settings.cells()],
         }
     }
 
