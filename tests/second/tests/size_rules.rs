@@ -132,6 +132,30 @@ fn a_take_reads_last_rows_and_sums_the_higher() {
     }
 }
 
+/// Also where a seen bottom is not below the seen window, as no run from make has it.
+#[test]
+fn a_read_does_not_go_by_the_seen_bottom() {
+    for bottom in [10, 20, TOP] {
+        for (side, rows) in [
+            (Side::Put, [9, 9]),
+            (Side::Take, [9, 8]),
+            (Side::Take, [12, 9]),
+        ] {
+            let mut words = three_windows();
+            set_sub(&mut words, 0, rows);
+            let set = [(layout::SEEN_WINDOW, 10), (layout::SEEN_BOTTOM, bottom)];
+            at(&mut words, side, Stage::Read, &set);
+            moves(&mut words, 0, 1);
+            assert_eq!(phase(&words), side.phase(Stage::Commit));
+            let sum = match side {
+                Side::Put => 0,
+                Side::Take => rows[0].max(bottom),
+            };
+            assert_eq!(worker_word(&words, 0, layout::SUM), sum);
+        }
+    }
+}
+
 /// With a seen width of 2 in a pool of 3: from index 1 the next is 0, and two misses are
 /// all.
 #[test]

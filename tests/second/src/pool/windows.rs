@@ -115,9 +115,8 @@ impl Pool<'_> {
         self.words[layout::TAKE_WINDOW] = top;
         if self.has_sizes() {
             let live = self.live();
-            self.words[self.settings.sizes_at_in(self.edition)..][layout::SIZES..]
-                [..layout::SIZE_WORDS * live as usize]
-                .rotate_left(layout::SIZE_WORDS);
+            let pairs = self.pair(0)..self.pair(live);
+            self.words[pairs].rotate_left(layout::SIZE_WORDS);
             let none = Size { width: 0, depth: 0 };
             self.set_live_size(live - 1, none);
             self.set_live(live - 1);
