@@ -23,6 +23,14 @@ fn any_queue(numbers: &mut Numbers) -> Settings {
     strided(stride, queue(width, depth, rows, workers))
 }
 
+/// Any width and depth that there is, and rows for several windows of them.
+fn large_queue(numbers: &mut Numbers) -> Settings {
+    let mut between = |low: u32, high: u32| low + numbers.below((high - low + 1) as usize) as u32;
+    let (width, depth, workers) = (between(5, 16), between(1, 64), between(6, 32));
+    let rows = between(2 * depth, 256);
+    queue(width, depth, rows, workers)
+}
+
 /// One that comes to 16 live windows within a few hundred calls.
 fn many_windows(numbers: &mut Numbers) -> Settings {
     queue(1 + numbers.below(2) as u32, 1, 40, 3)
@@ -30,7 +38,7 @@ fn many_windows(numbers: &mut Numbers) -> Settings {
 
 fn any_size(numbers: &mut Numbers, settings: &Settings) -> Pair {
     let width = 1 + numbers.below(settings.width as usize) as u32;
-    let most = (settings.rows / 2).min(4);
+    let most = (settings.rows / 2).min([4, 64][numbers.below(2)]);
     (width, 1 + numbers.below(most as usize) as u32)
 }
 
@@ -126,8 +134,12 @@ fn runs_at_random_stand_one_at_a_time() {
             again: [0, 50, 90][numbers.below(3)],
         };
         let mut settings = any_queue(&mut numbers);
+        let mut calls = 250;
         if style.puts > 90 {
             settings = many_windows(&mut numbers);
+        } else if turn % 30 == 1 {
+            settings = large_queue(&mut numbers);
+            calls = 2_000;
         }
         let mut edition = TWO;
         if style.moves > 0 {
@@ -135,7 +147,7 @@ fn runs_at_random_stand_one_at_a_time() {
             edition = [Edition::Zero, Edition::One, TWO][numbers.below(3)];
         }
         let mut run = Run::new(edition, settings);
-        play(&mut numbers, &mut run, &style, 250);
+        play(&mut numbers, &mut run, &style, calls);
         if let Err(why) = run.stands_one_at_a_time() {
             panic!("{why}: {settings:?}, {:?}", run.events);
         }
