@@ -33,7 +33,7 @@ pub use listing::{ABOVE_BOUND, CUT, OUT_OF_PLACE};
 pub use moves::{move_0_to_1, move_1_to_0, move_1_to_2, move_2_to_1};
 pub use one_at_a_time::{one_at_a_time, AtLast, Event, Fed, Placed, Unchanging};
 pub use pool::edition::{Edition, CURRENT_EDITION};
-pub use pool::segments::{segments, segments_of_sub};
+pub use pool::segments::{segments, segments_of_subs};
 pub use pool::settings::{Settings, QUEUE, STACK};
 pub use pool::size::Size;
 pub use pool::{layout, phase};

@@ -7,7 +7,7 @@ use common::sizes::Pair;
 use common::sizes::{is_fit, live, made_2, set_live, set_sub, set_worker, step, sub, TWO};
 use common::{put_answer, queue, set_phase, taken_answer, Numbers};
 use second::phase::{Side, Stage};
-use second::{layout, segments_of_sub, Settings, TAKEN};
+use second::{layout, segments_of_subs, Settings, TAKEN};
 use std::collections::BTreeSet;
 
 const TOP: u32 = u32::MAX;
@@ -71,8 +71,8 @@ fn by_hand() {
     // Of sub 1 two windows have runs: rows 9 and 10 are cells 8 and 0, row 15 cell 5.
     let mut words = three_windows();
     set_sub(&mut words, 1, [16, 3]);
-    let runs = segments_of_sub(TWO, &words, 1);
-    assert_eq!(runs, [[8..9, 0..1], [5..6, 0..0]]);
+    let runs = segments_of_subs(TWO, &words);
+    assert_eq!(runs[1], [[8..9, 0..1], [5..6, 0..0]]);
 }
 
 /// A fit pool of several windows, anywhere up to 2^32, with a take about to be made.
@@ -134,12 +134,13 @@ fn runs_are_the_held_cells_once_each_and_give_the_distance() {
         let before = words.clone();
         let answer = step(&mut words, 0);
         assert_eq!(answer.number, TAKEN, "{before:?}");
+        let all_runs = segments_of_subs(TWO, &before);
         let mut ahead = 0;
         let mut held_at_all = false;
         for j in 0..settings.width {
             let held = held_rows(&before, j);
             let in_cells = held.iter().map(|row| (row - 1) % settings.rows);
-            let runs = segments_of_sub(TWO, &before, j);
+            let runs = all_runs[j as usize].clone();
             assert!(runs.len() <= live(&before).len());
             several += u32::from(runs.iter().filter(|run| !run[0].is_empty()).count() > 1);
             let by_runs: Vec<u32> = runs.into_iter().flatten().flatten().collect();

@@ -8,7 +8,7 @@ mod common;
 use common::sizes::{is_busy, live, made_2, set_size, sub, Pair, TWO};
 use common::{queue, strided, worker_at};
 use second::phase::Side;
-use second::{in_edition, layout, segments_of_sub, Settings, EMPTY, FULL, MOVING, PUT, TAKEN};
+use second::{in_edition, layout, segments_of_subs, Settings, EMPTY, FULL, MOVING, PUT, TAKEN};
 use std::collections::hash_map::DefaultHasher;
 use std::collections::{BTreeMap, HashSet};
 use std::hash::{Hash, Hasher};
@@ -38,11 +38,8 @@ fn held(words: &[u32]) -> Vec<[u32; 2]> {
     let (cells, _) = words[settings.cells_in(TWO)].as_chunks::<{ layout::CELL_WORDS }>();
     let rings = cells.chunks(settings.rows as usize);
     let mut all = Vec::new();
-    for (j, ring) in (0..).zip(rings) {
-        let cells = segments_of_sub(TWO, words, j)
-            .into_iter()
-            .flatten()
-            .flatten();
+    for (runs, ring) in segments_of_subs(TWO, words).into_iter().zip(rings) {
+        let cells = runs.into_iter().flatten().flatten();
         all.extend(cells.map(|cell| ring[cell as usize]));
     }
     all

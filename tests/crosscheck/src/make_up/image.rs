@@ -3,6 +3,7 @@
 //! every outcome.
 
 use super::junk;
+use super::live_windows;
 use super::settings::{within, Size};
 use super::values::Values;
 use crate::rng::Rng;
@@ -40,14 +41,19 @@ pub fn of_edition(rng: &mut Rng, settings: &Settings, edition: Edition) -> Vec<u
     let mut words = junk::words(rng, needed + beyond);
     header(rng, settings, &mut words);
     words[layout::EDITION] = edition.word();
+    if edition.has_sizes() {
+        live_windows::set(rng, settings, edition, &mut words);
+    }
+    let bottom = live_windows::take_bottom(settings, edition, &words);
     for j in 0..settings.width as usize {
         let at = settings.subs_at() + layout::SUB_WORDS * j;
         sub(rng, settings, &mut words, at);
+        above_bottom(settings, &mut words[at..], bottom);
     }
     for i in 0..settings.workers as usize {
         let at = settings.workers_at() + edition.worker_words() * i;
-        worker(rng, settings, &mut words, at);
-        if edition == Edition::One && rng.chance(40) {
+        worker(rng, settings, edition, &mut words, at);
+        if edition != Edition::Zero && rng.chance(40) {
             words[at + layout::FAILED_COMMITS] = junk::near_the_top(rng);
         }
     }
@@ -164,6 +170,19 @@ fn sub(rng: &mut Rng, settings: &Settings, words: &mut [u32], at: usize) {
     }
 }
 
+/// A queue's sub whose last put row is not above the take window's bottom is fit without
+/// items alone, and one whose rows were counted from below it has up to R above it.
+fn above_bottom(settings: &Settings, sub: &mut [u32], bottom: u32) {
+    let [put, taken] = [sub[layout::ITEMS_PUT], sub[layout::ITEMS_TAKEN]];
+    if settings.kind != QUEUE || put == taken || taken >= bottom {
+        return;
+    }
+    sub[layout::ITEMS_PUT] = match bottom.checked_add(put - taken) {
+        Some(above) => above,
+        None => taken,
+    };
+}
+
 /// A count below, at or above the take window, or junk.
 fn near_windows(rng: &mut Rng, settings: &Settings, words: &[u32]) -> u32 {
     if rng.chance(30) {
@@ -176,19 +195,20 @@ fn near_windows(rng: &mut Rng, settings: &Settings, words: &[u32]) -> u32 {
         .wrapping_sub(off)
 }
 
-fn worker(rng: &mut Rng, settings: &Settings, words: &mut [u32], at: usize) {
+fn worker(rng: &mut Rng, settings: &Settings, edition: Edition, words: &mut [u32], at: usize) {
     let phases: Vec<u32> = (0..15)
         .filter(|phase| phase::is_of_kind(settings.kind, *phase))
         .collect();
-    let index = rng.below(settings.width);
     words[at + layout::PHASE] = rng.pick(&phases);
-    words[at + layout::INDEX] = index;
+    words[at + layout::INDEX] = rng.below(settings.width);
     words[at + layout::SCAN] = if rng.chance(50) {
         settings.width - 1
     } else {
         rng.below(settings.width)
     };
-    let sub_at = settings.subs_at() + layout::SUB_WORDS * index as usize;
+    live_windows::set_seen(rng, settings, edition, words, at);
+    let index = words[at + layout::INDEX] as usize;
+    let sub_at = settings.subs_at() + layout::SUB_WORDS * index;
     if rng.chance(60) {
         let count = rng.pick(&[layout::ITEMS_PUT, layout::ITEMS_TAKEN]);
         words[at + layout::SEEN] = words[sub_at + count];
@@ -205,20 +225,29 @@ fn worker(rng: &mut Rng, settings: &Settings, words: &mut [u32], at: usize) {
         };
     }
     if rng.chance(40) {
-        words[at + layout::SUM] = sum_to_come(settings, words, at);
+        words[at + layout::SUM] = sum_to_come(settings, edition, words, at);
     }
 }
 
 /// The sum that confirm brings to 0, if no sub changes meanwhile.
-fn sum_to_come(settings: &Settings, words: &[u32], at: usize) -> u32 {
+fn sum_to_come(settings: &Settings, edition: Edition, words: &[u32], at: usize) -> u32 {
     let which = if settings.kind == QUEUE {
         layout::ITEMS_PUT
     } else {
         layout::VERSION
     };
-    let left = settings.width - words[at + layout::SCAN];
+    let sees = settings.kind == QUEUE && edition.has_sizes();
+    let (width, bottom) = match phase::is_past_window(words[at + layout::PHASE]) && sees {
+        true => (
+            words[at + layout::SEEN_WIDTH],
+            words[at + layout::SEEN_BOTTOM],
+        ),
+        false => (settings.width, 0),
+    };
+    let left = width - words[at + layout::SCAN];
     (0..left)
-        .map(|k| (words[at + layout::INDEX] + k) % settings.width)
+        .map(|k| (words[at + layout::INDEX] + k) % width)
         .map(|j| words[settings.subs_at() + layout::SUB_WORDS * j as usize + which])
+        .map(|row| row.max(bottom))
         .fold(0, u32::wrapping_add)
 }

@@ -7,6 +7,7 @@ pub mod editions;
 pub mod held_cells;
 pub mod image;
 pub mod junk;
+mod live_windows;
 pub mod longest_stretch;
 pub mod lost_commit;
 pub mod most_steps;

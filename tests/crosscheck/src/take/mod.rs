@@ -4,7 +4,8 @@
 
 mod sub;
 
-use second::{worst_distance, Answer, Settings, QUEUE, SPACER, TAKEN};
+use second::{segments_of_subs, worst_distance};
+use second::{Answer, Edition, Settings, QUEUE, SPACER, TAKEN};
 pub use sub::Sub;
 
 pub struct Take<'a> {
@@ -22,8 +23,11 @@ impl<'a> Take<'a> {
     /// does not pass over the item that it takes.
     pub fn of(words: &'a [u32], answer: &Answer) -> Take<'a> {
         let settings = Settings::of_words(words);
-        let subs = (0..settings.width).map(|j| Sub::of(words, j, answer.stamp));
-        let subs: Vec<Sub> = subs.collect();
+        let runs = segments_of_subs(Edition::CURRENT, words).into_iter();
+        let subs = (0..).zip(runs);
+        let subs: Vec<Sub> = subs
+            .map(|(j, runs)| Sub::of(words, j, runs, answer.stamp))
+            .collect();
         let mut take = Take {
             settings,
             value: answer.value,

@@ -1,15 +1,18 @@
 //! A sub just before a take: its segments, and which items about them count in
 //! the distance.
 
-use second::{layout, segments, Settings, QUEUE, SPACER};
+use second::{layout, Settings, QUEUE, SPACER};
 use std::ops::Range;
 
 pub struct Sub<'a> {
     pub rows: u32,
     /// Rows below the held ones: items taken of a queue, none of a stack.
     pub below: u32,
+    /// Of the first window in which it holds any, where windows have sizes of their own.
     pub held: u32,
     pub segments: [Range<u32>; 2],
+    /// Those of the windows after that one.
+    further: Vec<[Range<u32>; 2]>,
     /// The words of its cells, and of those of the subs after it.
     cells: &'a [u32],
     is_queue: bool,
@@ -17,33 +20,42 @@ pub struct Sub<'a> {
 }
 
 impl<'a> Sub<'a> {
-    /// Sub j of a fit pool, for a take of this stamp.
-    pub fn of(words: &'a [u32], j: u32, taken_stamp: u32) -> Sub<'a> {
+    /// Sub j of a fit pool, which has these segments, for a take of this stamp.
+    pub fn of(
+        words: &'a [u32],
+        j: u32,
+        mut runs: Vec<[Range<u32>; 2]>,
+        taken_stamp: u32,
+    ) -> Sub<'a> {
         let settings = Settings::of_words(words);
         let rows = settings.rows;
+        let holds = |run: &[Range<u32>; 2]| !run[0].is_empty();
+        let first = runs.iter().position(holds).unwrap_or(0);
+        let further = runs.split_off(runs.len().min(first + 1));
+        let segments = runs.pop().unwrap_or([0..0, 0..0]);
         let is_queue = settings.kind == QUEUE;
         let sub = &words[settings.subs_at() + layout::SUB_WORDS * j as usize..];
-        let (below, held) = if is_queue {
-            let taken = sub[layout::ITEMS_TAKEN];
-            (taken, sub[layout::ITEMS_PUT] - taken)
+        let below = if is_queue {
+            sub[layout::ITEMS_TAKEN]
         } else {
-            (0, sub[layout::ITEMS_HELD])
+            0
         };
         let at = settings.cells_at() + layout::CELL_WORDS * (j * rows) as usize;
         Sub {
             rows,
             below,
-            held,
-            segments: segments(rows, below, held),
+            held: segments.iter().map(|run| run.len() as u32).sum(),
+            segments,
+            further,
             cells: &words[at..settings.cells().end],
             is_queue,
             taken_stamp,
         }
     }
 
-    pub fn held_cells(&self) -> impl Iterator<Item = u32> {
-        let [first, second] = self.segments.clone();
-        first.chain(second)
+    pub fn held_cells(&self) -> impl Iterator<Item = u32> + '_ {
+        let all = [&self.segments].into_iter().chain(&self.further);
+        all.flatten().cloned().flatten()
     }
 
     pub fn is_full(&self) -> bool {
@@ -110,7 +122,7 @@ impl<'a> Sub<'a> {
 
     /// The cells right before and after the held ones, unless they are held too.
     pub fn beside_held(&self) -> impl Iterator<Item = u32> {
-        let (start, is_full) = (self.below % self.rows, self.is_full());
+        let (start, is_full) = (self.segments[0].start, self.is_full());
         let cells = [start + self.rows - 1, start + self.held].map(|cell| cell % self.rows);
         cells.into_iter().filter(move |_| !is_full)
     }

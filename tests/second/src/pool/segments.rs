@@ -17,16 +17,19 @@ pub fn segments(rows: u32, below: u32, held: u32) -> [Range<u32>; 2] {
     [start..start + up_to_last, 0..held - up_to_last]
 }
 
-/// Those of sub j of a fit pool, a pair for each straight row of rows that it holds.
+/// Those of each sub of a fit pool, a pair for each straight row of rows that it holds.
 /// K8: "K2's runs are then for each live window", of those within whose width it lies.
-pub fn segments_of_sub(edition: Edition, words: &[u32], j: u32) -> Vec<[Range<u32>; 2]> {
+pub fn segments_of_subs(edition: Edition, words: &[u32]) -> Vec<Vec<[Range<u32>; 2]>> {
     let settings = Settings::of_words(words);
     let pool = Pool {
         words: &mut words.to_vec(),
         settings,
         edition,
     };
-    let held = pool.held_rows(j).into_iter();
-    held.map(|held| segments(settings.rows, held.below, held.rows))
-        .collect()
+    let of_sub = |j| {
+        let held = pool.held_rows(j).into_iter();
+        held.map(|held| segments(settings.rows, held.below, held.rows))
+            .collect()
+    };
+    (0..settings.width).map(of_sub).collect()
 }

@@ -5,7 +5,7 @@ use super::sizes::{set_size, Pair, TWO};
 use super::{edition_of, made_in};
 use second::phase::Side;
 use second::{in_edition, layout, move_0_to_1, move_1_to_0, move_1_to_2, move_2_to_1};
-use second::{one_at_a_time, segments_of_sub, stretch_bound};
+use second::{one_at_a_time, segments_of_subs, stretch_bound};
 use second::{Answer, Edition, Event, Fed, Settings};
 use second::{EMPTY, FULL, MAY_NOT_MOVE, MOVING, PUT, QUEUE, TAKEN};
 
@@ -171,13 +171,10 @@ impl Run {
 fn passed_over(words: &[u32], stamp: u32) -> u32 {
     let (edition, settings) = (edition_of(words), Settings::of_words(words));
     let (cells, _) = words[settings.cells_in(edition)].as_chunks::<{ layout::CELL_WORDS }>();
+    let rings = cells.chunks(settings.rows as usize);
     let mut passed = 0;
-    for (j, ring) in (0..).zip(cells.chunks(settings.rows as usize)) {
-        for cell in segments_of_sub(edition, words, j)
-            .into_iter()
-            .flatten()
-            .flatten()
-        {
+    for (runs, ring) in segments_of_subs(edition, words).into_iter().zip(rings) {
+        for cell in runs.into_iter().flatten().flatten() {
             passed += u32::from(ring[cell as usize][layout::CELL_STAMP] < stamp);
         }
     }
