@@ -14,7 +14,7 @@ for side in before after; do
     mkdir "$side"
     (cd "$side" && ar x "${!side}")
     renamed=()
-    for name in make begin_put begin_take step dispatch; do renamed+=(--redefine-sym "pool_$name=${side}_$name"); done
+    for name in $(nm --defined-only --format=just-symbols "$side/pool.o" | sed -n 's/^pool_//p'); do renamed+=(--redefine-sym "pool_$name=${side}_$name"); done
     objcopy "${renamed[@]}" --set-section-alignment '.text.*=64' "$side/pool.o" "$side.o"
 done
 link() {
