@@ -17,56 +17,37 @@ mod worker;
 
 pub use calls::set_size;
 use second::layout::{HEADER_WORDS, WORKER_WORDS};
-use second::{Answer, Dispatched, Settings};
 
 type Header = [u32; HEADER_WORDS];
 
-// In the current edition.
+/// The calls of an edition, by how many words a worker has in it.
+macro_rules! calls_with {
+    ($worker_words:expr) => {
+        pub fn make(words: &mut [u32], settings: second::Settings) -> second::Answer {
+            crate::calls::make::<{ $worker_words }>(words, settings)
+        }
 
-pub fn make(words: &mut [u32], settings: Settings) -> Answer {
-    calls::make::<WORKER_WORDS>(words, settings)
+        pub fn begin_put(words: &mut [u32], number: u32, value: u32) -> second::Answer {
+            crate::calls::begin_put::<{ $worker_words }>(words, number, value)
+        }
+
+        pub fn begin_take(words: &mut [u32], number: u32) -> second::Answer {
+            crate::calls::begin_take::<{ $worker_words }>(words, number)
+        }
+
+        pub fn step(words: &mut [u32], number: u32) -> second::Answer {
+            crate::calls::step::<{ $worker_words }>(words, number)
+        }
+
+        pub fn dispatch(words: &mut [u32], named: u32, count: u32) -> second::Dispatched {
+            crate::dispatch::dispatch::<{ $worker_words }>(words, named, count)
+        }
+    };
 }
 
-pub fn begin_put(words: &mut [u32], number: u32, value: u32) -> Answer {
-    calls::begin_put::<WORKER_WORDS>(words, number, value)
-}
-
-pub fn begin_take(words: &mut [u32], number: u32) -> Answer {
-    calls::begin_take::<WORKER_WORDS>(words, number)
-}
-
-pub fn step(words: &mut [u32], number: u32) -> Answer {
-    calls::step::<WORKER_WORDS>(words, number)
-}
-
-pub fn dispatch(words: &mut [u32], named: u32, count: u32) -> Dispatched {
-    dispatch::dispatch::<WORKER_WORDS>(words, named, count)
-}
+calls_with!(WORKER_WORDS);
 
 /// In edition 2, whichever is current.
 pub mod edition_2 {
-    use crate::{calls, dispatch as dispatcher};
-    use second::{Answer, Dispatched, Edition, Settings};
-
-    const WORKER_WORDS: usize = Edition::Two.worker_words();
-
-    pub fn make(words: &mut [u32], settings: Settings) -> Answer {
-        calls::make::<WORKER_WORDS>(words, settings)
-    }
-
-    pub fn begin_put(words: &mut [u32], number: u32, value: u32) -> Answer {
-        calls::begin_put::<WORKER_WORDS>(words, number, value)
-    }
-
-    pub fn begin_take(words: &mut [u32], number: u32) -> Answer {
-        calls::begin_take::<WORKER_WORDS>(words, number)
-    }
-
-    pub fn step(words: &mut [u32], number: u32) -> Answer {
-        calls::step::<WORKER_WORDS>(words, number)
-    }
-
-    pub fn dispatch(words: &mut [u32], named: u32, count: u32) -> Dispatched {
-        dispatcher::dispatch::<WORKER_WORDS>(words, named, count)
-    }
+    calls_with!(second::Edition::Two.worker_words());
 }

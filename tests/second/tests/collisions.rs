@@ -5,10 +5,12 @@ mod common;
 
 use common::failed_commits::{commit_fails, failed_commits, phase, set_failed_commits};
 use common::states::{every_state, small_pools, CALLS, STEP};
-use common::{finish, made, put_answer, queue, set_phase, stack, strided, taken_answer, Numbers};
+use common::{
+    finish, fitness_in, made, put_answer, queue, set_phase, stack, strided, taken_answer, Numbers,
+};
 use second::phase::{decode, Side, Stage};
-use second::{begin_put, begin_take, dispatch, in_edition, layout, step};
-use second::{Answer, Dispatched, Edition, Settings, CURRENT_EDITION, STACK, STEP_LIMIT};
+use second::{begin_put, begin_take, in_edition, layout, step};
+use second::{Answer, Edition, Settings, CURRENT_EDITION, STACK, STEP_LIMIT};
 use second::{EMPTY, FULL, MOVING, NO_WORKER, PUT, SPENT, TAKEN, TOO_SHORT, UNFIT};
 use std::collections::BTreeSet;
 
@@ -189,27 +191,8 @@ fn a_commit_with_no_step_left_counts_none() {
     }
 }
 
-/// The number by which each call refuses these words; 24 for a fit pool, since none
-/// has a worker of this number.
 fn fitness(words: &[u32]) -> u32 {
-    const NONE: u32 = TOP;
-    let calls: [fn(&mut [u32]) -> u32; 4] = [
-        |words| begin_put(words, NONE, 7).number,
-        |words| begin_take(words, NONE).number,
-        |words| step(words, NONE).number,
-        |words| match dispatch(words, NONE, 1) {
-            Dispatched::Refused(number) => number,
-            other => panic!("{other:?}"),
-        },
-    ];
-    let numbers = calls.map(|call| {
-        let mut after = words.to_vec();
-        let number = call(&mut after);
-        assert_eq!(after, words);
-        number
-    });
-    assert_eq!(numbers, [numbers[0]; 4]);
-    numbers[0]
+    fitness_in(Edition::CURRENT, words)
 }
 
 #[test]

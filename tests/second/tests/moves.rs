@@ -3,10 +3,10 @@
 
 mod common;
 
-use common::editions::{back, on};
+use common::editions::{back, on, Source};
 use common::failed_commits::{failed_commits, set_failed_commits};
 use common::states::{every_state_in, small_pools};
-use common::{made_in, queue, stack, strided, Numbers};
+use common::{made_in, queue, stack, strided, worker_at, Numbers};
 use second::phase::is_of_kind;
 use second::{in_edition, layout, move_0_to_1, move_1_to_0};
 use second::{Answer, Edition, Settings, QUEUE, STEP_LIMIT};
@@ -195,27 +195,21 @@ fn refusal(
     faults: &[&str],
     edition: u32,
 ) -> u32 {
-    let mut from = made_in(old, settings);
+    let mut from = Source::whole(made_in(old, settings));
     let mut to = vec![JUNK; settings.needed_words_in(new)];
-    let last = settings.workers_at() + old.worker_words() * (settings.workers as usize - 1);
-    let mut len = from.len();
+    let last = worker_at(&from.words, settings.workers - 1);
     for fault in faults {
+        if from.spoil(fault, &settings, last, edition) {
+            continue;
+        }
         match *fault {
-            "11 words" => len = 11,
-            "settings" => from[layout::SHIFT] = settings.depth + 1,
-            "stride" => from[layout::STRIDE] = settings.width,
-            "edition" => from[layout::EDITION] = edition,
-            "needed words" => len = len.min(from.len() - 1),
-            "sub" => from[settings.workers_at() - layout::SUB_WORDS] = settings.rows + 1,
-            "phase" => from[last + layout::PHASE] = 7,
-            "index" => from[last + layout::INDEX] = settings.width,
-            "scan" => from[last + layout::SCAN] = settings.width,
+            "scan" => from.words[last + layout::SCAN] = settings.width,
             "target" => to.truncate(to.len() - 1),
             other => panic!("{other}"),
         }
     }
     let old_words = to.clone();
-    let number = mover(&from[..len], &mut to);
+    let number = mover(from.lent(), &mut to);
     assert_eq!(to == old_words, number != MOVING);
     number
 }

@@ -3,6 +3,7 @@
 
 mod common;
 
+use common::editions::Source;
 use common::sizes::{is_fit, live, made_2, set_live, set_sub, set_worker, size_word, TWO};
 use common::states::{every_state_as_it_is, small_pools, CALLS};
 use common::{edition_of, made_in, queue, stack, strided, Numbers};
@@ -326,30 +327,24 @@ fn refusal(
     faults: &[&str],
     edition: u32,
 ) -> u32 {
-    let mut from = made_in(old, settings);
+    let mut from = Source::whole(made_in(old, settings));
     let mut target = settings.needed_words_in(new);
-    let last = common::worker_at(&from, settings.workers - 1);
-    let mut len = from.len();
+    let last = common::worker_at(&from.words, settings.workers - 1);
     for fault in faults {
+        if from.spoil(fault, &settings, last, edition) {
+            continue;
+        }
         match *fault {
-            "11 words" => len = 11,
-            "settings" => from[layout::SHIFT] = settings.depth + 1,
-            "stride" => from[layout::STRIDE] = settings.width,
-            "edition" => from[layout::EDITION] = edition,
-            "needed words" => len = len.min(from.len() - 1),
-            "sub" => from[settings.workers_at() - layout::SUB_WORDS] = settings.rows + 1,
-            "phase" => from[last + layout::PHASE] = 7,
-            "index" => from[last + layout::INDEX] = settings.width,
-            "excepted" if old == ONE => from[layout::PUT_WINDOW] += 1,
+            "excepted" if old == ONE => from.words[layout::PUT_WINDOW] += 1,
             "excepted" => {
                 let at = settings.sizes_at_in(TWO) + layout::SIZE_SET;
-                from[at] = 1;
+                from.words[at] = 1;
             }
             "target" => target -= 1,
             other => panic!("{other}"),
         }
     }
-    number(mover, &from[..len], target)
+    number(mover, from.lent(), target)
 }
 
 /// Each alone, and each two at once.

@@ -1,5 +1,5 @@
 //! A pool's needed words in the other one of editions 0 and 1, ninth word by ninth
-//! word (K5, K6).
+//! word (K5, K6); and what may be wrong with a move's source.
 
 use super::failed_commits::ninth_words;
 use second::{layout, Edition, Settings};
@@ -25,4 +25,40 @@ pub fn on(zero: &[u32]) -> Vec<u32> {
     }
     words[layout::EDITION] = 1;
     words
+}
+
+/// A move's source from make, and how many of its words are lent.
+pub struct Source {
+    pub words: Vec<u32>,
+    pub len: usize,
+}
+
+impl Source {
+    /// All of them.
+    pub fn whole(words: Vec<u32>) -> Self {
+        let len = words.len();
+        Source { words, len }
+    }
+
+    pub fn lent(&self) -> &[u32] {
+        &self.words[..self.len]
+    }
+
+    /// Makes one thing wrong, with `edition` for another edition; what only some moves
+    /// refuse is left to the caller, with false.
+    pub fn spoil(&mut self, fault: &str, settings: &Settings, last: usize, edition: u32) -> bool {
+        let words = &mut self.words;
+        match fault {
+            "11 words" => self.len = 11,
+            "settings" => words[layout::SHIFT] = settings.depth + 1,
+            "stride" => words[layout::STRIDE] = settings.width,
+            "edition" => words[layout::EDITION] = edition,
+            "needed words" => self.len = self.len.min(words.len() - 1),
+            "sub" => words[settings.workers_at() - layout::SUB_WORDS] = settings.rows + 1,
+            "phase" => words[last + layout::PHASE] = 7,
+            "index" => words[last + layout::INDEX] = settings.width,
+            _ => return false,
+        }
+        true
+    }
 }

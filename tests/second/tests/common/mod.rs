@@ -62,6 +62,26 @@ pub fn edition_of(words: &[u32]) -> Edition {
     all[words[layout::EDITION] as usize]
 }
 
+/// The number by which these words are refused; 24 for a fit pool, since none has a
+/// worker of this number. The calls agree, and change nothing.
+pub fn fitness_in(edition: Edition, words: &[u32]) -> u32 {
+    const NONE: u32 = u32::MAX;
+    let calls: [fn(Edition, &mut [u32]) -> u32; 4] = [
+        |edition, words| in_edition::begin_put(edition, words, NONE, 7).number,
+        |edition, words| in_edition::begin_take(edition, words, NONE).number,
+        |edition, words| in_edition::step(edition, words, NONE).number,
+        |edition, words| in_edition::dispatch(edition, words, NONE, 1).returned().0,
+    ];
+    let numbers = calls.map(|call| {
+        let mut after = words.to_vec();
+        let number = call(edition, &mut after);
+        assert_eq!(after, words);
+        number
+    });
+    assert_eq!(numbers, [numbers[0]; 4]);
+    numbers[0]
+}
+
 /// Where a worker's words begin.
 pub fn worker_at(words: &[u32], worker: u32) -> usize {
     let size = edition_of(words).worker_words();

@@ -1,6 +1,6 @@
 //! Edition 2's calls, and its words by name (K8).
 
-use super::{made_in, worker_at};
+use super::{fitness_in, made_in, worker_at};
 use second::phase::Side;
 use second::{in_edition, layout, Answer, Dispatched, Edition, Settings, Size};
 use second::{IDLE, MOVING, NO_WORKER};
@@ -134,24 +134,8 @@ pub fn set_worker(words: &mut [u32], worker: u32, set: &[(usize, u32)]) {
     }
 }
 
-/// The number by which these words are refused; 24 for a fit pool, since none has a
-/// worker of this number. The calls agree, and change nothing.
 pub fn fitness(words: &[u32]) -> u32 {
-    const NONE: u32 = u32::MAX;
-    let calls: [fn(&mut [u32]) -> u32; 4] = [
-        |words| begin_put(words, NONE, 7).number,
-        |words| begin_take(words, NONE).number,
-        |words| step(words, NONE).number,
-        |words| dispatch(words, NONE, 1).returned().0,
-    ];
-    let numbers = calls.map(|call| {
-        let mut after = words.to_vec();
-        let number = call(&mut after);
-        assert_eq!(after, words);
-        number
-    });
-    assert_eq!(numbers, [numbers[0]; 4]);
-    numbers[0]
+    fitness_in(TWO, words)
 }
 
 pub fn is_fit(words: &[u32]) -> bool {
