@@ -1,5 +1,7 @@
 // Turns for the workers: steps of the busy ones, round and round by number, up to the first final answer.
 use fitness::refusal;
+use image::MARK;
+use image::TOP;
 use image::idle_at;
 use image::shipped_settings;
 use image::worker_at;
@@ -11,15 +13,20 @@ use rules::numbers::SHIPPED;
 use step::answers::final_answer;
 use step::fit_answer;
 ghost use mathlib.Core.Path.{_≡_};
-ghost use Prim.Native.Nat.{_<_};
-ghost use Rattle.rules.specs.Fit.{Fit, FitPool, checkedOf};
+ghost use Prim.Native.Nat.{_<_, _≤_};
+ghost use lib.ListN.{length};
+ghost use Rattle.dispatcher.specs.Moved.{windowMoved};
+ghost use Rattle.laws.specs.Choice.{cond};
+ghost use Rattle.rules.specs.Fit.{Unfit, Fit, checkedOf, refusalOf};
+ghost use Rattle.rules.specs.Layout.{headWords, needed};
+ghost use Rattle.rules.specs.Limits.{Bounds};
 ghost use Rattle.rules.specs.Dispatch.{dispatched, turnFrom, endedOf, turnsOf, fitDispatch, dispatchOf};
 ghost use Rattle.rules.specs.Make.{shipped};
 
-// The first busy worker from `from` on.
+// The first busy worker from `from` on. The words need not be a fit pool.
 fn turn_from(words: &[u32], g: Settings, from: u32) -> Turn
-    requires { ⌜ FitPool g (now words) ⌝ }
-    requires { ⌜ from < g .workers ⌝ }
+    requires { ⌜ Bounds g ⌝ }
+    requires { ⌜ (needed g ≤ length (now words)) × (from < g .workers) ⌝ }
     ensures { λ r. ⌜ r ≡ turnFrom (now (words .entry)) g from ⌝ }
 {
     let mut i = from;
@@ -49,7 +56,42 @@ fn ended(j: u32, n: u32, five: [u32; 5]) -> Dispatched
     }
 }
 
-// Turns from worker `first` of a fit pool on, up to a count of steps. A step that answers 0 leaves the pool fit, so it is checked once.
+// The number of the refusal where one of a queue's windows has moved on from these tops and the pool is no longer fit, else 0. In edition 2 a window that moves
+// on can leave a damaged pool unfit: its subs are then held to another bottom, and a top can wrap.
+fn refusal_after(words: &[u32], g: Settings, top: u32, mark: u32) -> u32
+    requires { ⌜ headWords ≤ length (now words) ⌝ }
+    ensures { λ r. ⌜ r ≡ cond (windowMoved (now (words .entry)) g top mark) (refusalOf (checkedOf shipped (now (words .entry)))) 0 ⌝ }
+{
+    if g.kind == 0 {
+        if (words[TOP] != top) | (words[MARK] != mark) {
+            return refusal(words, SHIPPED);
+        }
+    }
+    0
+}
+
+// What is left of the turns, from worker `i` on, of words that are no fit pool: the next step is refused, if there is one.
+fn stopped(words: &[u32], g: Settings, i: u32, left: u32, n: u32) -> Dispatched
+    requires { ⌜ Bounds g ⌝ }
+    requires { ⌜ (needed g ≤ length (now words)) × (i < g .workers) ⌝ }
+    requires { ⌜ checkedOf (g .edition) (now words) ≡ Unfit n ⌝ }
+    ensures { λ r. ⌜ dispatched r (now (words .entry)) ≡ turnsOf (now (words .entry)) g i left ⌝ }
+{
+    let t = turn_from(words, g, i);
+    match t {
+        Turn::NoneBusy => Dispatched::NoneBusy,
+        Turn::Worker(_) => {
+            if left == 0 {
+                Dispatched::RanOut { next: i }
+            } else {
+                Dispatched::Refused(n)
+            }
+        }
+    }
+}
+
+// Turns from worker `first` of a fit pool on, up to a count of steps. A step that answers 0 and moves no window on leaves the pool fit, so it is checked
+// again only where one was.
 fn turns(words: &mut [u32], g: Settings, first: u32, steps: u32) -> Dispatched
     requires { ⌜ checkedOf (g .edition) (now words) ≡ Fit g ⌝ }
     requires { ⌜ g .edition ≡ shipped ⌝ }
@@ -64,12 +106,18 @@ fn turns(words: &mut [u32], g: Settings, first: u32, steps: u32) -> Dispatched
         let Turn::Worker(j) = t else {
             return Dispatched::NoneBusy;
         };
+        let top = words[TOP];
+        let mark = words[MARK];
         let n = fit_answer(words, j, &mut five);
         if n != 0 {
             return ended(j, n, five);
         }
         i = (j + 1) % g.workers;
         left = left - 1;
+        let m = refusal_after(words, g, top, mark);
+        if m != 0 {
+            return stopped(words, g, i, left, m);
+        }
     }
     let t = turn_from(words, g, i);
     match t {

@@ -7,16 +7,20 @@ use rules::Row;
 use rules::Settings;
 use rules::Side;
 use rules::Slot;
+use rules::Span;
 use rules::Stamp;
 use rules::View;
 use rules::Worker;
 use worker::fresh_slot;
+use worker::seen_slot;
 use worker::slot_of;
 ghost use mathlib.Core.Path.{_≡_};
 ghost use Prim.Native.Nat.{_<_};
 ghost use Rattle.rules.specs.Commit.{lostOf, landedOf, removedOf};
 ghost use Rattle.rules.specs.Shift.{shiftedOf};
 ghost use Rattle.rules.specs.Limits.{Bounds};
+ghost use Rattle.rules.specs.Window.{readFrom};
+ghost use Rattle.rules.specs.Worker.{zeroSlot};
 ghost use Rattle.rules.specs.Effects.{nextOf, hopOf, keepOf, refusedOf, movedOf, restartOf, finishedOf, nothingFor, withPass};
 
 // The index after `x`, of so many.
@@ -61,11 +65,19 @@ pub fn refused(v: View, n: u32) -> Effect
     keep(v, Outcome::Refused(n), slot)
 }
 
+// The worker goes on with these words.
+fn going(v: View, slot: Slot) -> Effect
+    ensures { λ r. ⌜ r ≡ keepOf v Outcome.Moving slot ⌝ }
+{
+    keep(v, Outcome::Moving, slot)
+}
+
 // The worker at an index in a phase, with its other words as in `kept`.
-pub fn moved(v: View, index: u32, phase: Phase, kept: Slot) -> Effect
-    ensures { λ r. ⌜ r ≡ movedOf v index phase kept ⌝ }
+pub fn moved(g: Settings, v: View, index: u32, phase: Phase, kept: Slot) -> Effect
+    ensures { λ r. ⌜ r ≡ movedOf g v index phase kept ⌝ }
 {
     let slot = slot_of(
+        g,
         Worker {
             value: v.worker.value,
             index,
@@ -73,14 +85,22 @@ pub fn moved(v: View, index: u32, phase: Phase, kept: Slot) -> Effect
         },
         kept,
     );
-    keep(v, Outcome::Moving, slot)
+    going(v, slot)
 }
 
-pub fn restart(v: View, index: u32, side: Side) -> Effect
-    ensures { λ r. ⌜ r ≡ restartOf v index side ⌝ }
+// The worker at an index, about to read: it has just seen a queue's window, and its other words are zero.
+pub fn looked(g: Settings, v: View, index: u32, side: Side, window: Span) -> Effect
+    ensures { λ r. ⌜ r ≡ movedOf g v index (readFrom window side) zeroSlot ⌝ }
+{
+    let seen = seen_slot(g, v.worker.value, index, side, window);
+    going(v, seen)
+}
+
+pub fn restart(g: Settings, v: View, index: u32, side: Side) -> Effect
+    ensures { λ r. ⌜ r ≡ restartOf g v index side ⌝ }
 {
     let kept = v.kept;
-    moved(v, index, Phase::Window(side), kept)
+    moved(g, v, index, Phase::Window(side), kept)
 }
 
 // A commit that failed: on by the stride, and counted.
@@ -89,22 +109,22 @@ pub fn lost(g: Settings, v: View, side: Side) -> Effect
     requires { ⌜ v .worker .index < g .width ⌝ }
     ensures { λ r. ⌜ r ≡ lostOf g v side ⌝ }
 {
-    let restarted = restart(v, hop(g, v.worker.index), side);
+    let restarted = restart(g, v, hop(g, v.worker.index), side);
     let slot = restarted.slot;
     keep(v, Outcome::Lost, slot)
 }
 
-pub fn finished(v: View, outcome: Outcome, index: u32) -> Effect
-    ensures { λ r. ⌜ r ≡ finishedOf v outcome index ⌝ }
+pub fn finished(g: Settings, v: View, outcome: Outcome, index: u32) -> Effect
+    ensures { λ r. ⌜ r ≡ finishedOf g v outcome index ⌝ }
 {
-    keep(v, outcome, fresh_slot(0, index, Phase::Idle))
+    keep(v, outcome, fresh_slot(g, 0, index, Phase::Idle))
 }
 
 // A restart with the window words moved.
-pub fn shifted(v: View, outcome: Outcome, side: Side, top: u32, mark: u32) -> Effect
-    ensures { λ r. ⌜ r ≡ shiftedOf v outcome side top mark ⌝ }
+pub fn shifted(g: Settings, v: View, outcome: Outcome, side: Side, top: u32, mark: u32) -> Effect
+    ensures { λ r. ⌜ r ≡ shiftedOf g v outcome side top mark ⌝ }
 {
-    let restarted = restart(v, v.worker.index, side);
+    let restarted = restart(g, v, v.worker.index, side);
     let slot = restarted.slot;
     Effect {
         outcome,
@@ -118,8 +138,8 @@ pub fn shifted(v: View, outcome: Outcome, side: Side, top: u32, mark: u32) -> Ef
 }
 
 // An item lands in a row; the sub's words are then `first` and `second`.
-pub fn landed(v: View, first: u32, second: u32, row: Row) -> Effect
-    ensures { λ r. ⌜ r ≡ landedOf v first second row ⌝ }
+pub fn landed(g: Settings, v: View, first: u32, second: u32, row: Row) -> Effect
+    ensures { λ r. ⌜ r ≡ landedOf g v first second row ⌝ }
 {
     let puts = plus(v.puts, 1);
     let outcome = Outcome::Landed {
@@ -129,7 +149,7 @@ pub fn landed(v: View, first: u32, second: u32, row: Row) -> Effect
     };
     Effect {
         outcome,
-        slot: fresh_slot(0, v.worker.index, Phase::Idle),
+        slot: fresh_slot(g, 0, v.worker.index, Phase::Idle),
         top: v.top,
         mark: v.mark,
         puts,
@@ -139,12 +159,12 @@ pub fn landed(v: View, first: u32, second: u32, row: Row) -> Effect
 }
 
 // The item of a row is taken.
-pub fn removed(v: View, first: u32, second: u32, row: Row) -> Effect
-    ensures { λ r. ⌜ r ≡ removedOf v first second row ⌝ }
+pub fn removed(g: Settings, v: View, first: u32, second: u32, row: Row) -> Effect
+    ensures { λ r. ⌜ r ≡ removedOf g v first second row ⌝ }
 {
     Effect {
         outcome: Outcome::Removed { row },
-        slot: fresh_slot(0, v.worker.index, Phase::Idle),
+        slot: fresh_slot(g, 0, v.worker.index, Phase::Idle),
         top: v.top,
         mark: v.mark,
         puts: v.puts,
@@ -163,13 +183,21 @@ pub fn nothing_for(side: Side) -> Outcome
     }
 }
 
-// The worker's words with another extra, scan and sum.
+// The worker's words with another extra, scan and sum. Each is named: of a copy with three words changed, the compiler carries those on either side in
+// one register, and takes them apart again.
 pub fn with_pass(old: Slot, extra: u32, scan: u32, sum: u32) -> Slot
     ensures { λ r. ⌜ r ≡ withPass old extra scan sum ⌝ }
 {
-    let mut s = old;
-    s.extra = extra;
-    s.scan = scan;
-    s.sum = sum;
-    s
+    Slot {
+        number: old.number,
+        value: old.value,
+        index: old.index,
+        window: old.window,
+        extra,
+        scan,
+        seen: old.seen,
+        sum,
+        bottom: old.bottom,
+        width: old.width,
+    }
 }

@@ -2,8 +2,10 @@
 mod limits;
 mod refusals;
 mod subs;
+mod windows;
 mod workers;
 
 pub use limits::settings_fit;
+pub use limits::size_fit;
 pub use refusals::refusal;
 pub use refusals::source_refusal;

@@ -1,12 +1,16 @@
 // The order of the refusals before a call, and of a move's source.
 use crate::limits::settings_fit;
 use crate::subs::subs_fit;
+use crate::windows::windows_fit;
 use crate::workers::workers_fit;
 use image::HEAD_WORDS;
+use image::as_shipped;
+use image::in_edition;
 use image::settings;
 use image::words_needed;
 use rules::Settings;
 use rules::numbers::NOT_FIT;
+use rules::numbers::SHIPPED;
 use rules::numbers::TOO_FEW_WORDS;
 use rules::numbers::WRONG_EDITION;
 ghost use mathlib.Core.Path.{_≡_};
@@ -14,7 +18,7 @@ ghost use Rattle.rules.specs.Fit.{bodyChecked, headChecked, checkedBy, checkedO
 ghost use Rattle.rules.specs.Limits.{Bounds};
 ghost use Rattle.rules.specs.Move.{sourceChecked};
 
-// The words needed, then the subs and the workers.
+// The words needed, then the windows, the subs and the workers.
 fn body_refusal(words: &[u32], g: Settings) -> u32
     requires { ⌜ Bounds g ⌝ }
     ensures { λ r. ⌜ r ≡ refusalOf (bodyChecked (now (words .entry)) g) ⌝ }
@@ -22,21 +26,34 @@ fn body_refusal(words: &[u32], g: Settings) -> u32
     if words.len() < words_needed(g) {
         return TOO_FEW_WORDS;
     }
-    if subs_fit(words, g) {
-        if workers_fit(words, g) {
-            return 0;
+    if windows_fit(words, g) {
+        if subs_fit(words, g) {
+            if workers_fit(words, g) {
+                return 0;
+            }
         }
     }
     NOT_FIT
 }
 
-// The settings, then the edition, which has a number of its own to refuse another, then the above.
+// The same, with the shipped edition told to the compiler.
+fn told_refusal(words: &[u32], g: Settings) -> u32
+    requires { ⌜ Bounds g ⌝ }
+    ensures { λ r. ⌜ r ≡ refusalOf (bodyChecked (now (words .entry)) g) ⌝ }
+{
+    if g.edition == SHIPPED {
+        return body_refusal(words, as_shipped(g));
+    }
+    body_refusal(words, g)
+}
+
+// The settings by the edition asked for, then the edition, which has a number of its own to refuse another, then the above.
 fn head_refusal(words: &[u32], g: Settings, edition: u32, other: u32) -> u32
     ensures { λ r. ⌜ r ≡ refusalOf (headChecked other edition (now (words .entry)) g) ⌝ }
 {
-    if settings_fit(g) {
+    if settings_fit(in_edition(g, edition)) {
         if g.edition == edition {
-            return body_refusal(words, g);
+            return told_refusal(words, g);
         }
         return other;
     }

@@ -1,9 +1,10 @@
 // The workers: worker by worker, their words.
+use image::BOTTOM;
 use image::INDEX;
-use image::PHASE;
 use image::SCAN;
-use image::SLOT_WORDS;
-use image::as_shipped;
+use image::SEEN_WIDTH;
+use image::has_windows;
+use image::is_windowed;
 use image::worker_at;
 use rules::Settings;
 use rules::numbers::COMMIT;
@@ -11,7 +12,6 @@ use rules::numbers::CONFIRM;
 use rules::numbers::IDLE;
 use rules::numbers::READ;
 use rules::numbers::SHIFT;
-use rules::numbers::SHIPPED;
 use rules::numbers::TAKE_COMMIT;
 use rules::numbers::TAKE_CONFIRM;
 use rules::numbers::TAKE_READ;
@@ -19,12 +19,17 @@ use rules::numbers::TAKE_SHIFT;
 use rules::numbers::TAKE_WINDOW;
 use rules::numbers::TAKING;
 use rules::numbers::WINDOW;
+ghost use mathlib.Core.Bool.{true};
 ghost use mathlib.Core.Path.{_≡_};
-ghost use Prim.Native.Nat.{_≤_};
+ghost use Prim.Native.Nat.{_+_, _≤_};
+ghost use lib.Dec.{eqb};
 ghost use lib.ListN.{length};
-ghost use Rattle.rules.specs.Fit.{phaseFit, wordFit, workersFit};
-ghost use Rattle.rules.specs.Layout.{needed};
-ghost use Rattle.rules.specs.Limits.{Bounds};
+ghost use Rattle.laws.specs.Choice.{cond, both};
+ghost use Rattle.rules.specs.Fit.{phaseFit, pastWindow, workerFit, workersFit};
+ghost use Rattle.rules.specs.Layout.{needed, workerWords};
+ghost use Rattle.rules.specs.Limits.{Bounds, windowed};
+ghost use Rattle.rules.specs.Windows.{hasWindows};
+ghost use Rattle.rules.specs.Worker.{slotAt};
 
 // Whether `x` is a phase of a queue: a match, which the compiler turns into one look at a word of bits.
 fn queue_phase_fit(x: u32) -> bool
@@ -63,55 +68,71 @@ fn phase_fit(kind: u32, x: u32) -> bool
     true
 }
 
-// Whether word `k` of a worker is fit.
-fn word_fit(g: Settings, k: usize, x: u32) -> bool
-    ensures { λ r. ⌜ r ≡ wordFit g k x ⌝ }
+// Whether a worker in phase `x` is past its window phase, and so has seen a window.
+fn past_window(x: u32) -> bool
+    ensures { λ r. ⌜ r ≡ pastWindow x ⌝ }
 {
-    if k == PHASE {
-        return phase_fit(g.kind, x);
+    match x {
+        IDLE => false,
+        WINDOW => false,
+        TAKE_WINDOW => false,
+        _ => true,
     }
-    if k == INDEX {
-        return x < g.width;
+}
+
+// The width that index and scan of the worker at `at`, in phase `x`, lie below: that of the window that it has seen, or the pool's. The word is
+// read before the phase is asked for, so that no branch is on a worker's phase.
+fn width_of(words: &[u32], g: Settings, at: usize, x: u32) -> u32
+    requires { ⌜ at + workerWords (g .edition) ≤ length (now words) ⌝ }
+    ensures { λ r. ⌜ r ≡ cond (both (hasWindows g) (pastWindow x)) (slotAt g (now (words .entry)) at .width) (g .width) ⌝ }
+{
+    if has_windows(g) {
+        let seen = words[at + SEEN_WIDTH];
+        if past_window(x) {
+            return seen;
+        }
     }
-    if k == SCAN {
-        return x < g.width;
+    g.width
+}
+
+// Whether a stack's worker has seen no window, where the edition has words for one.
+fn stack_unseen(words: &[u32], g: Settings, at: usize) -> bool
+    requires { ⌜ at + workerWords (g .edition) ≤ length (now words) ⌝ }
+    ensures { λ r. ⌜ r ≡ cond (windowed g) (cond (eqb (g .kind) 0) true (both (eqb (slotAt g (now (words .entry)) at .bottom) 0) (eqb (slotAt g (now (words .entry)) at .width) 0))) true ⌝ }
+{
+    if is_windowed(g) {
+        if g.kind != 0 {
+            return (words[at + BOTTOM] == 0) & (words[at + SEEN_WIDTH] == 0);
+        }
     }
     true
 }
 
-// Whether every word of every worker is fit. Those behind the ones that rules read are free in every edition.
-fn every_fit(words: &[u32], g: Settings) -> bool
-    requires { ⌜ Bounds g ⌝ }
-    requires { ⌜ needed g ≤ length (now words) ⌝ }
-    ensures { λ r. ⌜ r ≡ workersFit (now (words .entry)) g ⌝ }
+// Whether the worker at `at` is fit.
+fn worker_fit(words: &[u32], g: Settings, at: usize) -> bool
+    requires { ⌜ at + workerWords (g .edition) ≤ length (now words) ⌝ }
+    ensures { λ r. ⌜ r ≡ workerFit g (slotAt g (now (words .entry)) at) ⌝ }
 {
-    let n = g.workers;
-    let mut fit = true;
-    let mut i: u32 = 0;
-    'workers: while i < n {
-        let at = worker_at(g, i);
-        let mut k: usize = 0;
-        while k < SLOT_WORDS {
-            let x = words[at + k];
-            if !word_fit(g, k, x) {
-                fit = false;
-                break 'workers;
-            }
-            k += 1;
-        }
-        i += 1;
-    }
-    fit
+    let x = words[at];
+    let width = width_of(words, g, at, x);
+    let inside = (words[at + INDEX] < width) & (words[at + SCAN] < width);
+    phase_fit(g.kind, x) & ((width <= g.width) & (inside & stack_unseen(words, g, at)))
 }
 
-// The same, with the shipped edition told to the compiler.
+// Whether every worker is fit.
 pub fn workers_fit(words: &[u32], g: Settings) -> bool
     requires { ⌜ Bounds g ⌝ }
     requires { ⌜ needed g ≤ length (now words) ⌝ }
     ensures { λ r. ⌜ r ≡ workersFit (now (words .entry)) g ⌝ }
 {
-    if g.edition == SHIPPED {
-        return every_fit(words, as_shipped(g));
+    let n = g.workers;
+    let mut i: u32 = 0;
+    while i < n {
+        if worker_fit(words, g, worker_at(g, i)) {
+            i += 1;
+        } else {
+            return false;
+        }
     }
-    every_fit(words, g)
+    true
 }

@@ -1,2 +1,6 @@
 -- What the proofs of the functions cite.
-pub mod HeldRows
+pub mod Rows
+pub mod Bottoms
+pub mod Walks
+pub mod Whole
+pub mod Counts

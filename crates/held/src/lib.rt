@@ -1,6 +1,6 @@
 // What a pool holds: how many items, in which cells, and how many of them a take's distance counts.
+mod bands;
 mod reported;
-mod rows;
 mod segments;
 mod total;
 

@@ -1,23 +1,34 @@
-// The distance of a take: the held items of all subs that it passes over, spacers not counted, each sub's in at most two straight
+// The distance of a take: the held items of all subs that it passes over, spacers not counted, each band of a sub in at most two straight
 // runs of cells.
-use crate::segments::held_segments;
+use crate::bands::Band;
+use crate::bands::Reach;
+use crate::bands::reach_of;
+use crate::bands::whole_band;
+use crate::bands::window_band;
+use crate::segments::band_segments;
 use image::CELL_WORDS;
 use image::Item;
 use image::cell_item;
+use image::live_of;
+use image::nth_size;
 use image::sub_cells_at;
 use image::sub_of;
+use image::take_bottom;
 use rules::Segment;
 use rules::Segments;
 use rules::Settings;
 use rules::Stamp;
+ghost use mathlib.Core.Bool.{true};
 ghost use mathlib.Core.Path.{_≡_};
 ghost use Prim.Native.Nat.{_+_, _*_, _≤_, _<_};
 ghost use lib.ListN.{length};
-ghost use Rattle.rules.specs.Fit.{SubFits, FitPool};
+ghost use Rattle.held.specs.Together.{Together};
+ghost use Rattle.rules.specs.Fit.{FitPool};
 ghost use Rattle.rules.specs.Held.{reported, countItems};
-ghost use Rattle.rules.specs.Layout.{cellWords, subCellsAt, needed, firstOf, secondOf};
-ghost use Rattle.rules.specs.Limits.{Bounds, mostRows};
-ghost use Rattle.rules.specs.Segments.{Within, upFrom, segmentCells, cellsOf, cellItems, walkedSub, walkedDistance};
+ghost use Rattle.rules.specs.Layout.{cellWords, subCellsAt, needed};
+ghost use Rattle.rules.specs.Limits.{Bounds, mostRows, mostLive};
+ghost use Rattle.rules.specs.Segments.{Within, upFrom, segmentCells, segmentsAbove, cellsOf, cellItems, walkedSub, walkedDistance};
+ghost use Rattle.rules.specs.Windows.{hasWindows};
 
 // Whether the distance of a take of stamp `s` counts an item: no spacer, and older in a queue, newer in a stack.
 fn is_reported(kind: u32, s: Stamp, it: Item) -> bool
@@ -77,20 +88,48 @@ fn segments_reported(words: &[u32], g: Settings, j: u32, x: Segments, kind: u32,
         + segment_reported(words, g, j, x.second, kind, s)
 }
 
-// How many held items of sub `j` the distance counts. Each call has its kind as a number, so that the compiler makes the loop of
-// each kind, and no cell asks for it.
-fn sub_reported(words: &[u32], g: Settings, j: u32, s: Stamp) -> u32
+// The same of a band of sub `j`. Each call has its kind as a number, so that the compiler makes the loop of each kind, and no cell asks for it.
+fn band_reported(words: &[u32], g: Settings, j: u32, band: Band, s: Stamp) -> u32
     requires { ⌜ Bounds g ⌝ }
     requires { ⌜ (needed g ≤ length (now words)) × (j < g .width) ⌝ }
-    requires { ⌜ SubFits g (firstOf (now words) j) (secondOf (now words) j) ⌝ }
-    ensures { λ r. ⌜ (r ≡ countItems (reported (g .kind) (s .0)) (walkedSub (now (words .entry)) g j)) × (r ≤ mostRows) ⌝ }
+    requires { ⌜ (band .rows ≤ g .rows) × (1 ≤ g .kind → band .below ≡ 0) ⌝ }
+    ensures { λ r. ⌜ (r ≡ countItems (reported (g .kind) (s .0)) (cellItems (now (words .entry)) (subCellsAt g j) (cellsOf (segmentsAbove (g .rows) (band .below) (band .rows))))) × (r ≤ mostRows) ⌝ }
 {
-    let sub = sub_of(words, j);
-    let held = held_segments(g, sub);
+    let held = band_segments(g, band);
     if g.kind == 0 {
         return segments_reported(words, g, j, held, 0, s);
     }
     segments_reported(words, g, j, held, 1, s)
+}
+
+// How many held items of sub `j` the distance counts, where it lies within all windows: they are of one band.
+fn whole_reported(words: &[u32], g: Settings, r: Reach, j: u32, s: Stamp) -> u32
+    requires { ⌜ FitPool g (now words) ⌝ }
+    requires { ⌜ Together (now words) g (r .bottom) (r .top) (r .width) ⌝ }
+    requires { ⌜ j < r .width ⌝ }
+    ensures { λ n. ⌜ (n ≡ countItems (reported (g .kind) (s .0)) (walkedSub (now (words .entry)) g j)) × (n ≤ mostRows) ⌝ }
+{
+    band_reported(words, g, j, whole_band(g, r, sub_of(words, j)), s)
+}
+
+// The same of a sub that does not: window by window, from the lowest on.
+fn windows_reported(words: &[u32], g: Settings, j: u32, s: Stamp) -> u32
+    requires { ⌜ FitPool g (now words) ⌝ }
+    requires { ⌜ (hasWindows g ≡ true) × (j < g .width) ⌝ }
+    ensures { λ n. ⌜ (n ≡ countItems (reported (g .kind) (s .0)) (walkedSub (now (words .entry)) g j)) × (n ≤ mostLive * mostRows) ⌝ }
+{
+    let sub = sub_of(words, j);
+    let live = live_of(words, g);
+    let mut bottom = take_bottom(words, g);
+    let mut n: u32 = 0;
+    let mut k: u32 = 0;
+    while k < live {
+        let size = nth_size(words, g, k);
+        n += band_reported(words, g, j, window_band(sub, j, bottom, size), s);
+        bottom += size.depth;
+        k += 1;
+    }
+    n
 }
 
 // The distance of a take of stamp `s`.
@@ -98,11 +137,17 @@ pub fn distance(words: &[u32], g: Settings, s: Stamp) -> u32
     requires { ⌜ FitPool g (now words) ⌝ }
     ensures { λ r. ⌜ r ≡ walkedDistance (now (words .entry)) g s ⌝ }
 {
+    let r = reach_of(words, g);
+    let together = r.width;
     let width = g.width;
     let mut n: u32 = 0;
     let mut j: u32 = 0;
+    while j < together {
+        n += whole_reported(words, g, r, j, s);
+        j += 1;
+    }
     while j < width {
-        n += sub_reported(words, g, j, s);
+        n += windows_reported(words, g, j, s);
         j += 1;
     }
     n

@@ -1,14 +1,12 @@
 // The straight runs of cells that hold a sub's rows: whatever goes through held cells goes through these.
-use crate::rows::rows_held;
-use image::Sub;
+use crate::bands::Band;
 use rules::Segment;
 use rules::Segments;
 use rules::Settings;
 ghost use mathlib.Core.Path.{_≡_};
 ghost use Prim.Native.Nat.{_≤_};
-ghost use Rattle.rules.specs.Fit.{SubFits};
 ghost use Rattle.rules.specs.Limits.{Bounds};
-ghost use Rattle.rules.specs.Segments.{segment, only, segmentsAbove, subSegments};
+ghost use Rattle.rules.specs.Segments.{segment, only, segmentsAbove};
 
 // One segment alone.
 fn only(start: u32, count: u32) -> Segments
@@ -43,15 +41,14 @@ fn segments_above(rows: u32, below: u32, held: u32) -> Segments
     }
 }
 
-// Those of the held rows of a sub. A stack's lie in its first cells.
-pub fn held_segments(g: Settings, sub: Sub) -> Segments
+// Those of a band. A stack's lies in its first cells.
+pub fn band_segments(g: Settings, band: Band) -> Segments
     requires { ⌜ Bounds g ⌝ }
-    requires { ⌜ SubFits g (sub .first) (sub .second) ⌝ }
-    ensures { λ r. ⌜ r ≡ subSegments g (sub .first) (sub .second) ⌝ }
+    requires { ⌜ (band .rows ≤ g .rows) × (1 ≤ g .kind → band .below ≡ 0) ⌝ }
+    ensures { λ r. ⌜ r ≡ segmentsAbove (g .rows) (band .below) (band .rows) ⌝ }
 {
-    let held = rows_held(g, sub);
     if g.kind == 0 {
-        return segments_above(g.rows, sub.second, held);
+        return segments_above(g.rows, band.below, band.rows);
     }
-    only(0, held)
+    only(0, band.rows)
 }

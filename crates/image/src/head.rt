@@ -21,7 +21,7 @@ ghost use Prim.Native.Nat.{_<_, _≤_};
 ghost use lib.ListN.{length, getD, set};
 ghost use lib.Seq.{sets};
 ghost use Rattle.laws.specs.Wrap.{add32};
-ghost use Rattle.rules.specs.Apply.{putShifted, putRaised, putDropped};
+ghost use Rattle.rules.specs.Apply.{putShifted};
 ghost use Rattle.rules.specs.Begin.{outOfSteps};
 ghost use Rattle.rules.specs.Layout.{headWords, settingsOf, stepsAt};
 ghost use Rattle.rules.specs.Make.{shipped, inEdition, newMark, newHead};
@@ -102,29 +102,13 @@ pub fn count_step(words: &mut [u32])
     words[STEPS] = steps;
 }
 
-// Writes a queue's put window.
-pub fn put_raised(words: &mut [u32], e: Effect)
-    requires { ⌜ headWords ≤ length (now words) ⌝ }
-    ensures { λ r. ⌜ now (words .exit) ≡ putRaised (now (words .entry)) e ⌝ }
-{
-    words[TOP] = e.top;
-}
-
-// Writes a queue's take window.
-pub fn put_dropped(words: &mut [u32], e: Effect)
-    requires { ⌜ headWords ≤ length (now words) ⌝ }
-    ensures { λ r. ⌜ now (words .exit) ≡ putDropped (now (words .entry)) e ⌝ }
-{
-    words[MARK] = e.mark;
-}
-
 // Writes the two words of a stack's window.
 pub fn put_shifted(words: &mut [u32], e: Effect)
     requires { ⌜ headWords ≤ length (now words) ⌝ }
     ensures { λ r. ⌜ now (words .exit) ≡ putShifted (now (words .entry)) e ⌝ }
 {
-    put_raised(words, e);
-    put_dropped(words, e);
+    words[TOP] = e.top;
+    words[MARK] = e.mark;
 }
 
 // T of a new pool, or the version of G.

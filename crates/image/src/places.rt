@@ -1,13 +1,15 @@
-// "The pool's words": where each lies. The head, the subs, the workers, the cells.
+// "The pool's words": where each lies. The head, the subs, the workers, the cells; the windows behind them are in `windows`.
+use crate::windows::WINDOWS_WORDS;
 use laws::num::minus;
 use rules::Row;
 use rules::Settings;
 use rules::numbers::MOST_CELLS;
 use rules::numbers::MOST_WORKERS;
 use rules::numbers::WIDEST;
+use rules::numbers::WINDOWED;
 ghost use mathlib.Core.Path.{_≡_};
 ghost use Prim.Native.Nat.{_+_, _<_, _≤_};
-ghost use Rattle.rules.specs.Layout.{cellWords, subAt, workerWords, workerAt, subCellsAt, cellAt, needed};
+ghost use Rattle.rules.specs.Layout.{cellWords, subAt, workerWords, workerAt, subCellsAt, cellAt, windowsWords, needed};
 ghost use Rattle.rules.specs.Limits.{Bounds};
 
 // The head: the settings but two.
@@ -60,22 +62,27 @@ pub const SEEN: usize = 6;
 
 pub const SUM: usize = 7;
 
-// So many are read by the rules of a step.
+// So many are read by the rules of a step in every edition.
 pub const SLOT_WORDS: usize = SUM + 1;
 
 // Its failed commits, from edition 1 on.
 pub const LOST: usize = SLOT_WORDS;
 
-// How many words a worker has in the edition of the shipped calls.
-pub const WORKER_WORDS: usize = 9;
+// The rest of the window seen, from edition 2 on.
+pub const BOTTOM: usize = LOST + 1;
+
+pub const SEEN_WIDTH: usize = BOTTOM + 1;
+
+// So many has a worker at the most.
+pub const WORKER_WORDS: usize = SEEN_WIDTH + 1;
 
 // A cell: value, stamp.
 pub const CELL_WORDS: usize = 2;
 
-// Enough for every pool of that edition.
+// Enough for every pool of the edition of the shipped calls, whose workers have no words behind their failed commits and whose windows have none.
 pub const MOST_WORDS: usize = HEAD_WORDS
     + SUB_WORDS * (WIDEST as usize)
-    + WORKER_WORDS * (MOST_WORKERS as usize)
+    + BOTTOM * (MOST_WORKERS as usize)
     + CELL_WORDS * (MOST_CELLS as usize);
 
 // Where sub `j` lies.
@@ -89,7 +96,13 @@ pub fn sub_at(j: u32) -> usize
 pub fn worker_words(edition: u32) -> usize
     ensures { λ r. ⌜ r ≡ workerWords edition ⌝ }
 {
-    if edition == 0 { LOST } else { WORKER_WORDS }
+    if edition == 0 {
+        return LOST;
+    }
+    if edition < WINDOWED {
+        return BOTTOM;
+    }
+    WORKER_WORDS
 }
 
 // Where worker `i` lies: behind the subs.
@@ -118,10 +131,17 @@ pub fn cell_at(g: Settings, j: u32, row: Row) -> usize
     sub_cells_at(g, j) + CELL_WORDS * (below as usize)
 }
 
-// How many words a pool needs.
+// How many words the windows have in an edition.
+pub fn windows_words(edition: u32) -> usize
+    ensures { λ r. ⌜ r ≡ windowsWords edition ⌝ }
+{
+    if edition < WINDOWED { 0 } else { WINDOWS_WORDS }
+}
+
+// How many words a pool needs: up to the end of the cells, and those of the windows.
 pub fn words_needed(g: Settings) -> usize
     requires { ⌜ Bounds g ⌝ }
     ensures { λ r. ⌜ r ≡ needed g ⌝ }
 {
-    sub_cells_at(g, g.width)
+    sub_cells_at(g, g.width) + windows_words(g.edition)
 }

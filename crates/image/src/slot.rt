@@ -1,15 +1,19 @@
 // A worker's words as they lie, from `at` on: those that a step's rules read, and its failed commits.
 use crate::head::count_step;
+use crate::pair::put_pair;
+use crate::places::BOTTOM;
 use crate::places::EXTRA;
 use crate::places::INDEX;
 use crate::places::LOST;
 use crate::places::PHASE;
 use crate::places::SCAN;
 use crate::places::SEEN;
+use crate::places::SEEN_WIDTH;
 use crate::places::SEEN_WINDOW;
 use crate::places::SUM;
 use crate::places::VALUE;
 use crate::places::worker_words;
+use crate::windows::is_windowed;
 use laws::num::plus;
 use rules::Effect;
 use rules::Settings;
@@ -18,10 +22,13 @@ use rules::numbers::IDLE;
 ghost use mathlib.Core.Path.{_≡_};
 ghost use Prim.Native.Nat.{_+_, _<_, _≤_};
 ghost use lib.ListN.{length, getD, set};
+ghost use lib.Seq.{sets};
+ghost use Rattle.laws.specs.Choice.{cond};
 ghost use Rattle.rules.specs.Apply.{countLost, putWorker};
 ghost use Rattle.rules.specs.Begin.{idleAt};
-ghost use Rattle.rules.specs.Layout.{workerWords, slotWords, indexAt, lostAt};
-ghost use Rattle.rules.specs.Worker.{slotAt, putSlot};
+ghost use Rattle.rules.specs.Layout.{workerWords, slotWords, widthWord, stepsAt, indexAt, lostAt};
+ghost use Rattle.rules.specs.Limits.{windowed};
+ghost use Rattle.rules.specs.Worker.{slotAt, wordsOf, putSlot};
 
 // Word `k` of the worker.
 fn word(words: &[u32], at: usize, k: usize) -> u32
@@ -63,10 +70,22 @@ pub fn put_index(words: &mut [u32], at: usize, x: u32)
     put_word(words, at, INDEX, x);
 }
 
+// Word `k` of the worker behind its failed commits; 0 in an edition that does not have it.
+fn seen_word(words: &[u32], g: Settings, at: usize, k: usize) -> u32
+    requires { ⌜ at + workerWords (g .edition) ≤ length (now words) ⌝ }
+    requires { ⌜ k ≤ widthWord ⌝ }
+    ensures { λ r. ⌜ r ≡ cond (windowed g) (getD (now (words .entry)) (at + k) 0) 0 ⌝ }
+{
+    if is_windowed(g) {
+        return words[at + k];
+    }
+    0
+}
+
 // All of them but its failed commits.
-pub fn load(words: &[u32], at: usize) -> Slot
-    requires { ⌜ at + slotWords ≤ length (now words) ⌝ }
-    ensures { λ r. ⌜ r ≡ slotAt (now (words .entry)) at ⌝ }
+pub fn load(words: &[u32], g: Settings, at: usize) -> Slot
+    requires { ⌜ at + workerWords (g .edition) ≤ length (now words) ⌝ }
+    ensures { λ r. ⌜ r ≡ slotAt g (now (words .entry)) at ⌝ }
 {
     Slot {
         number: word(words, at, PHASE),
@@ -77,13 +96,15 @@ pub fn load(words: &[u32], at: usize) -> Slot
         scan: word(words, at, SCAN),
         seen: word(words, at, SEEN),
         sum: word(words, at, SUM),
+        bottom: seen_word(words, g, at, BOTTOM),
+        width: seen_word(words, g, at, SEEN_WIDTH),
     }
 }
 
-// Writes all of them but its failed commits.
-pub fn store(words: &mut [u32], at: usize, s: Slot)
+// Writes those before its failed commits.
+fn store_first(words: &mut [u32], at: usize, s: Slot)
     requires { ⌜ at + slotWords ≤ length (now words) ⌝ }
-    ensures { λ r. ⌜ now (words .exit) ≡ putSlot (now (words .entry)) at s ⌝ }
+    ensures { λ r. ⌜ now (words .exit) ≡ sets (now (words .entry)) at (wordsOf s) ⌝ }
 {
     put_word(words, at, PHASE, s.number);
     put_word(words, at, VALUE, s.value);
@@ -93,6 +114,17 @@ pub fn store(words: &mut [u32], at: usize, s: Slot)
     put_word(words, at, SCAN, s.scan);
     put_word(words, at, SEEN, s.seen);
     put_word(words, at, SUM, s.sum);
+}
+
+// Writes all of them but its failed commits.
+pub fn store(words: &mut [u32], g: Settings, at: usize, s: Slot)
+    requires { ⌜ at + workerWords (g .edition) ≤ length (now words) ⌝ }
+    ensures { λ r. ⌜ now (words .exit) ≡ putSlot g (now (words .entry)) at s ⌝ }
+{
+    store_first(words, at, s);
+    if is_windowed(g) {
+        put_pair(words, at + BOTTOM, s.bottom, s.width);
+    }
 }
 
 // The failed commits of the worker, in an edition that counts them.
@@ -115,11 +147,11 @@ pub fn count_lost(words: &mut [u32], g: Settings, at: usize)
 }
 
 // Counts the step, and writes the worker's words.
-pub fn put_worker(words: &mut [u32], at: usize, e: Effect)
-    requires { ⌜ at + slotWords ≤ length (now words) ⌝ }
-    ensures { λ r. ⌜ now (words .exit) ≡ putWorker (now (words .entry)) at e ⌝ }
+pub fn put_worker(words: &mut [u32], g: Settings, at: usize, e: Effect)
+    requires { ⌜ (stepsAt < length (now words)) × (at + workerWords (g .edition) ≤ length (now words)) ⌝ }
+    ensures { λ r. ⌜ now (words .exit) ≡ putWorker (now (words .entry)) g at e ⌝ }
 {
     count_step(words);
     let slot = e.slot;
-    store(words, at, slot);
+    store(words, g, at, slot);
 }

@@ -12,6 +12,8 @@ use image::worker_words;
 use rules::Answer;
 use rules::Settings;
 use rules::numbers::TOO_FEW_WORDS;
+use rules::numbers::WINDOWED;
+use rules::numbers::WRONG_EDITION;
 ghost use mathlib.Core.Path.{_≡_};
 ghost use Prim.Native.Nat.{_+_, _<_, _≤_};
 ghost use lib.ListN.{length, drop};
@@ -20,7 +22,7 @@ ghost use Rattle.rules.specs.Answers.{out};
 ghost use Rattle.rules.specs.Fit.{FitPool};
 ghost use Rattle.rules.specs.Layout.{workerWords, needed};
 ghost use Rattle.rules.specs.Make.{inEdition};
-ghost use Rattle.rules.specs.Move.{wordIn, workerMoved, workersMoved, headMoved, cellsMoved, movedWords, fitMove, moveOf, Areas};
+ghost use Rattle.rules.specs.Move.{wordIn, workerMoved, workersMoved, headMoved, cellsMoved, movedWords, sourceChecked, fitMove, checkedMove, moveOf, Areas};
 
 // Copies `n` words, from the place `at` of the source to the place `start` of the target.
 fn copy(from: &[u32], at: usize, to: &mut [u32], start: usize, n: usize)
@@ -110,9 +112,9 @@ fn fit_move(from: &[u32], g: Settings, to: &mut [u32], edition: u32) -> Answer
     Answer::Moving
 }
 
-// Moves a pool of one edition to another.
-pub fn move_pool(from: &[u32], old: u32, to: &mut [u32], new: u32) -> Answer
-    ensures { λ r. ⌜ out r (now (to .exit)) ≡ moveOf old new (now (from .entry)) (now (to .entry)) ⌝ }
+// Moves a pool that is fit in one edition to another.
+fn checked_move(from: &[u32], old: u32, to: &mut [u32], new: u32) -> Answer
+    ensures { λ r. ⌜ out r (now (to .exit)) ≡ checkedMove new (now (from .entry)) (sourceChecked old (now (from .entry))) (now (to .entry)) ⌝ }
 {
     let n = source_refusal(from, old);
     if n != 0 {
@@ -120,4 +122,17 @@ pub fn move_pool(from: &[u32], old: u32, to: &mut [u32], new: u32) -> Answer
     }
     let g = settings(from);
     fit_move(from, g, to, new)
+}
+
+// Moves a pool of one edition to another. No move leads to an edition whose windows have sizes of their own, or back, yet.
+pub fn move_pool(from: &[u32], old: u32, to: &mut [u32], new: u32) -> Answer
+    ensures { λ r. ⌜ out r (now (to .exit)) ≡ moveOf old new (now (from .entry)) (now (to .entry)) ⌝ }
+{
+    if old >= WINDOWED {
+        return Answer::Refused(WRONG_EDITION);
+    }
+    if new >= WINDOWED {
+        return Answer::Refused(WRONG_EDITION);
+    }
+    checked_move(from, old, to, new)
 }

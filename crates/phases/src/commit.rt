@@ -11,12 +11,14 @@ use rules::Effect;
 use rules::Row;
 use rules::Settings;
 use rules::Side;
+use rules::Span;
 use rules::Version;
 use rules::View;
 use rules::numbers::NOT_FIT;
+use worker::level_of;
 ghost use mathlib.Core.Path.{_≡_};
 ghost use Prim.Native.Nat.{_<_};
-ghost use Rattle.rules.specs.Commit.{commitBy, queueCommit, stackCommit};
+ghost use Rattle.rules.specs.Commit.{commitBy, queuePutCommit, queueTakeCommit, queueCommit, stackCommit};
 ghost use Rattle.rules.specs.Limits.{Bounds};
 
 // What a commit does that matches, if it is able to, and one that does not.
@@ -34,37 +36,48 @@ fn commit_by(g: Settings, v: View, side: Side, matches: bool, able: bool, done: 
     lost(g, v, side)
 }
 
-pub fn queue_commit(g: Settings, v: View, side: Side, seen: u32) -> Effect
+// A put into the row above a level. A free cell is asked for in whole numbers, which do not wrap.
+fn queue_put_commit(g: Settings, v: View, seen: u32, level: u32) -> Effect
     requires { ⌜ Bounds g ⌝ }
     requires { ⌜ v .worker .index < g .width ⌝ }
-    ensures { λ r. ⌜ r ≡ queueCommit g v side seen ⌝ }
+    ensures { λ r. ⌜ r ≡ queuePutCommit g v seen level ⌝ }
+{
+    let q = queue_view(v);
+    let taken = q.last_taken;
+    let bottom = level_of(g, taken, q.take.bottom);
+    let able = (level as u64) < (bottom as u64) + (g.rows as u64);
+    let above = plus(level, 1);
+    let done = landed(g, v, above, taken, Row(above));
+    commit_by(g, v, Side::Putting, q.last_put == seen, able, done)
+}
+
+// A take from the row above a level.
+fn queue_take_commit(g: Settings, v: View, seen: u32, level: u32) -> Effect
+    requires { ⌜ Bounds g ⌝ }
+    requires { ⌜ v .worker .index < g .width ⌝ }
+    ensures { λ r. ⌜ r ≡ queueTakeCommit g v seen level ⌝ }
 {
     let q = queue_view(v);
     let put = q.last_put;
-    let taken = q.last_taken;
+    let above = plus(level, 1);
+    let done = removed(g, v, put, above, Row(above));
+    commit_by(g, v, Side::Taking, q.last_taken == seen, level < put, done)
+}
+
+pub fn queue_commit(g: Settings, v: View, side: Side, window: Span, seen: u32) -> Effect
+    requires { ⌜ Bounds g ⌝ }
+    requires { ⌜ v .worker .index < g .width ⌝ }
+    ensures { λ r. ⌜ r ≡ queueCommit g v side window seen ⌝ }
+{
+    let q = queue_view(v);
     match side {
         Side::Putting => {
-            let able = minus(put, taken) < g.rows;
-            let above = plus(put, 1);
-            commit_by(
-                g,
-                v,
-                side,
-                put == seen,
-                able,
-                landed(v, above, taken, Row(above)),
-            )
+            let level = level_of(g, q.last_put, window.bottom);
+            queue_put_commit(g, v, seen, level)
         }
         Side::Taking => {
-            let above = plus(taken, 1);
-            commit_by(
-                g,
-                v,
-                side,
-                taken == seen,
-                taken < put,
-                removed(v, put, above, Row(above)),
-            )
+            let level = level_of(g, q.last_taken, window.bottom);
+            queue_take_commit(g, v, seen, level)
         }
     }
 }
@@ -87,11 +100,11 @@ pub fn stack_commit(g: Settings, v: View, side: Side, seen: Version) -> Effect
                 side,
                 matches,
                 held < g.rows,
-                landed(v, above, version, Row(above)),
+                landed(g, v, above, version, Row(above)),
             )
         }
         Side::Taking => {
-            let done = removed(v, minus(held, 1), version, Row(held));
+            let done = removed(g, v, minus(held, 1), version, Row(held));
             commit_by(g, v, side, matches, 0 < held, done)
         }
     }

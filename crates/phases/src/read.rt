@@ -14,6 +14,7 @@ use rules::Slot;
 use rules::Span;
 use rules::Version;
 use rules::View;
+use worker::level_of;
 ghost use mathlib.Core.Path.{_≡_};
 ghost use Prim.Native.Nat.{_<_};
 ghost use lib.Dec.{ltb};
@@ -33,17 +34,25 @@ fn missed(width: u32, scan: u32, again: Phase, after: Phase) -> Phase
 
 // To the next sub. The phase is picked first, so that the worker is written in one place: written in two, this function is
 // too long to be inlined, and steps are slower.
-fn miss(width: u32, v: View, scan: u32, again: Phase, after: Phase, kept: Slot) -> Effect
+fn miss(
+    g: Settings,
+    width: u32,
+    v: View,
+    scan: u32,
+    again: Phase,
+    after: Phase,
+    kept: Slot,
+) -> Effect
     requires { ⌜ v .worker .index < width ⌝ }
-    ensures { λ r. ⌜ r ≡ missOf width v scan again after kept ⌝ }
+    ensures { λ r. ⌜ r ≡ missOf g width v scan again after kept ⌝ }
 {
     let index = next(width, v.worker.index);
-    moved(v, index, missed(width, scan, again, after), kept)
+    moved(g, v, index, missed(width, scan, again, after), kept)
 }
 
-pub fn queue_put_read(v: View, window: Span, scan: u32) -> Effect
+pub fn queue_put_read(g: Settings, v: View, window: Span, scan: u32) -> Effect
     requires { ⌜ v .worker .index < window .width ⌝ }
-    ensures { λ r. ⌜ r ≡ queuePutRead v window scan ⌝ }
+    ensures { λ r. ⌜ r ≡ queuePutRead g v window scan ⌝ }
 {
     let q = queue_view(v);
     let side = Side::Putting;
@@ -51,7 +60,7 @@ pub fn queue_put_read(v: View, window: Span, scan: u32) -> Effect
     let kept = v.kept;
     if seen < window.top {
         let commit = Phase::QueueCommit { side, window, seen };
-        return moved(v, v.worker.index, commit, kept);
+        return moved(g, v, v.worker.index, commit, kept);
     }
     let again = Phase::QueuePutRead {
         window,
@@ -59,7 +68,7 @@ pub fn queue_put_read(v: View, window: Span, scan: u32) -> Effect
     };
     let after = Phase::QueueShift { side, window };
     let pass = with_pass(kept, kept.extra, 0, kept.sum);
-    miss(window.width, v, scan, again, after, pass)
+    miss(g, window.width, v, scan, again, after, pass)
 }
 
 // All subs missed by a take.
@@ -79,9 +88,9 @@ fn after_takes(window: Span, bare: u32, sum: u32) -> Phase
     }
 }
 
-fn queue_take_miss(v: View, window: Span, bare: u32, scan: u32, sum: u32) -> Effect
+fn queue_take_miss(g: Settings, v: View, window: Span, bare: u32, scan: u32, sum: u32) -> Effect
     requires { ⌜ v .worker .index < window .width ⌝ }
-    ensures { λ r. ⌜ r ≡ queueTakeMiss v window bare scan sum ⌝ }
+    ensures { λ r. ⌜ r ≡ queueTakeMiss g v window bare scan sum ⌝ }
 {
     let again = Phase::QueueTakeRead {
         window,
@@ -92,27 +101,27 @@ fn queue_take_miss(v: View, window: Span, bare: u32, scan: u32, sum: u32) -> Eff
     let after = after_takes(window, bare, sum);
     let kept = v.kept;
     let pass = with_pass(kept, bare, 0, sum);
-    miss(window.width, v, scan, again, after, pass)
+    miss(g, window.width, v, scan, again, after, pass)
 }
 
-pub fn queue_take_read(v: View, window: Span, bare: u32, scan: u32, sum: u32) -> Effect
+pub fn queue_take_read(g: Settings, v: View, window: Span, bare: u32, scan: u32, sum: u32) -> Effect
     requires { ⌜ v .worker .index < window .width ⌝ }
-    ensures { λ r. ⌜ r ≡ queueTakeRead v window bare scan sum ⌝ }
+    ensures { λ r. ⌜ r ≡ queueTakeRead g v window bare scan sum ⌝ }
 {
     let q = queue_view(v);
     let side = Side::Taking;
     let seen = q.last_taken;
-    let total = plus(sum, q.last_put);
+    let total = plus(sum, level_of(g, q.last_put, window.bottom));
     if window.top <= seen {
-        return queue_take_miss(v, window, bare, scan, total);
+        return queue_take_miss(g, v, window, bare, scan, total);
     }
     if q.last_put == seen {
-        return queue_take_miss(v, window, plus(bare, 1), scan, total);
+        return queue_take_miss(g, v, window, plus(bare, 1), scan, total);
     }
     let kept = v.kept;
     let pass = with_pass(kept, bare, scan, total);
     let commit = Phase::QueueCommit { side, window, seen };
-    moved(v, v.worker.index, commit, pass)
+    moved(g, v, v.worker.index, commit, pass)
 }
 
 fn stack_hit(g: Settings, v: View, side: Side, window: u32) -> bool
@@ -148,7 +157,7 @@ pub fn stack_read(
             seen,
         };
         let pass = with_pass(kept, version.0, scan, total);
-        return moved(v, v.worker.index, check, pass);
+        return moved(g, v, v.worker.index, check, pass);
     }
     let again = Phase::StackRead {
         side,
@@ -163,5 +172,5 @@ pub fn stack_read(
         scan: 0,
         sum: total,
     };
-    miss(g.width, v, scan, again, after, kept)
+    miss(g, g.width, v, scan, again, after, kept)
 }

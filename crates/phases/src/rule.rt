@@ -33,13 +33,13 @@ pub fn rule(g: Settings, v: View) -> Effect
     match phase {
         Phase::Idle => refused(v, WORKER_IDLE),
         Phase::Window(side) => window(g, v, side),
-        Phase::QueuePutRead { window, scan } => queue_put_read(v, window, scan),
+        Phase::QueuePutRead { window, scan } => queue_put_read(g, v, window, scan),
         Phase::QueueTakeRead {
             window,
             bare,
             scan,
             sum,
-        } => queue_take_read(v, window, bare, scan, sum),
+        } => queue_take_read(g, v, window, bare, scan, sum),
         Phase::StackRead {
             side,
             window,
@@ -51,12 +51,8 @@ pub fn rule(g: Settings, v: View) -> Effect
             side,
             version,
             seen,
-        } => check(v, side, version, seen),
-        Phase::QueueCommit {
-            side,
-            window: _,
-            seen,
-        } => queue_commit(g, v, side, seen),
+        } => check(g, v, side, version, seen),
+        Phase::QueueCommit { side, window, seen } => queue_commit(g, v, side, window, seen),
         Phase::StackCommit { side, seen } => stack_commit(g, v, side, seen),
         Phase::QueueShift { side, window } => queue_shift(g, v, side, window),
         Phase::StackShift {
@@ -65,7 +61,7 @@ pub fn rule(g: Settings, v: View) -> Effect
             scan,
             sum,
         } => stack_shift(g, v, side, version, scan, sum),
-        Phase::QueueConfirm { window, scan, sum } => queue_confirm(v, window, scan, sum),
+        Phase::QueueConfirm { window, scan, sum } => queue_confirm(g, v, window, scan, sum),
         Phase::StackConfirm { side, scan, sum } => stack_confirm(g, v, side, scan, sum),
     }
 }

@@ -16,6 +16,7 @@ pub fn queue_view(v: View) -> QueueView
         take: span_of(v.mark, sizes.take),
         next: sizes.next.depth,
         after: sizes.after.depth,
+        live: sizes.live,
         last_put: v.first,
         last_taken: v.second,
     }

@@ -1,6 +1,7 @@
 // The window phase.
 use crate::views::queue_view;
 use crate::views::stack_view;
+use effects::looked;
 use effects::moved;
 use rules::Effect;
 use rules::Phase;
@@ -12,30 +13,23 @@ use rules::View;
 use worker::zero_slot;
 ghost use mathlib.Core.Path.{_≡_};
 ghost use Prim.Native.Nat.{_%_, _≤_};
-ghost use Rattle.rules.specs.Window.{windowFor, readFrom, queueSeen, stackSeen, windowRule};
-ghost use Rattle.phases.specs.Inside.{Inside};
+ghost use Rattle.rules.specs.Effects.{queueView};
+ghost use Rattle.rules.specs.Window.{windowFor, queueSeen, stackSeen, windowRule};
 
-// The put window or the take window.
+// The put window or the take window, number by number: of two windows that it may copy the compiler keeps both in memory.
 fn window_for(q: QueueView, side: Side) -> Span
     ensures { λ r. ⌜ r ≡ windowFor q side ⌝ }
 {
     match side {
-        Side::Putting => q.put,
-        Side::Taking => q.take,
-    }
-}
-
-// The read phase of a worker that has just seen a window.
-fn read_from(window: Span, side: Side) -> Phase
-    ensures { λ r. ⌜ r ≡ readFrom window side ⌝ }
-{
-    match side {
-        Side::Putting => Phase::QueuePutRead { window, scan: 0 },
-        Side::Taking => Phase::QueueTakeRead {
-            window,
-            bare: 0,
-            scan: 0,
-            sum: 0,
+        Side::Putting => Span {
+            top: q.put.top,
+            bottom: q.put.bottom,
+            width: q.put.width,
+        },
+        Side::Taking => Span {
+            top: q.take.top,
+            bottom: q.take.bottom,
+            width: q.take.width,
         },
     }
 }
@@ -48,16 +42,16 @@ fn index_in(width: u32, index: u32) -> u32
     if index < width { index } else { index % width }
 }
 
-fn queue_seen(v: View, side: Side, window: Span) -> Effect
+fn queue_seen(g: Settings, v: View, side: Side, window: Span) -> Effect
     requires { ⌜ 1 ≤ window .width ⌝ }
-    ensures { λ r. ⌜ r ≡ queueSeen v side window ⌝ }
+    ensures { λ r. ⌜ r ≡ queueSeen g v side window ⌝ }
 {
     let index = index_in(window.width, v.worker.index);
-    moved(v, index, read_from(window, side), zero_slot())
+    looked(g, v, index, side, window)
 }
 
-fn stack_seen(v: View, side: Side) -> Effect
-    ensures { λ r. ⌜ r ≡ stackSeen v side ⌝ }
+fn stack_seen(g: Settings, v: View, side: Side) -> Effect
+    ensures { λ r. ⌜ r ≡ stackSeen g v side ⌝ }
 {
     let s = stack_view(v);
     let version = s.version;
@@ -68,15 +62,15 @@ fn stack_seen(v: View, side: Side) -> Effect
         scan: 0,
         sum: 0,
     };
-    moved(v, v.worker.index, read, zero_slot())
+    moved(g, v, v.worker.index, read, zero_slot())
 }
 
 pub fn window(g: Settings, v: View, side: Side) -> Effect
-    requires { ⌜ Inside v ⌝ }
+    requires { ⌜ 1 ≤ windowFor (queueView v) side .width ⌝ }
     ensures { λ r. ⌜ r ≡ windowRule g v side ⌝ }
 {
     if g.kind == 0 {
-        return queue_seen(v, side, window_for(queue_view(v), side));
+        return queue_seen(g, v, side, window_for(queue_view(v), side));
     }
-    stack_seen(v, side)
+    stack_seen(g, v, side)
 }

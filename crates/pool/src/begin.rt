@@ -25,15 +25,15 @@ ghost use Rattle.rules.specs.Make.{shipped};
 // Begins the worker whose words start at `at`.
 fn slot_begin(words: &mut [u32], g: Settings, at: usize, side: Side, value: u32) -> Answer
     requires { ⌜ Lent g (now words) at ⌝ }
-    ensures { λ r. ⌜ out r (now (words .exit)) ≡ slotBegin (now (words .entry)) at side value ⌝ }
+    ensures { λ r. ⌜ out r (now (words .exit)) ≡ slotBegin (now (words .entry)) g at side value ⌝ }
 {
     if idle_at(words, at) {
         if out_of_steps(words) {
             return Answer::Refused(STEPS_SPENT);
         }
         let index = index_of(words, at);
-        let slot = fresh_slot(value, index, Phase::Window(side));
-        store(words, at, slot);
+        let slot = fresh_slot(g, value, index, Phase::Window(side));
+        store(words, g, at, slot);
         return Answer::Moving;
     }
     Answer::Refused(WORKER_BUSY)

@@ -1,7 +1,14 @@
 // Make.
 use fitness::settings_fit;
+use image::LIVE;
+use image::NEXT_DEPTH;
+use image::NEXT_WIDTH;
+use image::PAIRS;
+use image::SIZE_SET;
+use image::has_windows;
 use image::put_head;
 use image::put_index;
+use image::windows_at;
 use image::words_needed;
 use image::worker_at;
 use rules::Answer;
@@ -9,13 +16,15 @@ use rules::Settings;
 use rules::numbers::OFF_LIMITS;
 use rules::numbers::SHIPPED;
 use rules::numbers::TOO_FEW_WORDS;
+ghost use mathlib.Core.List.{[], _∷_};
 ghost use mathlib.Core.Path.{_≡_};
-ghost use Prim.Native.Nat.{_≤_};
+ghost use Prim.Native.Nat.{_+_, _≤_};
 ghost use lib.ListN.{length};
+ghost use lib.Seq.{sets};
 ghost use Rattle.rules.specs.Answers.{out};
-ghost use Rattle.rules.specs.Layout.{needed};
+ghost use Rattle.rules.specs.Layout.{windowsAt, needed};
 ghost use Rattle.rules.specs.Limits.{Bounds};
-ghost use Rattle.rules.specs.Make.{settingsFrom, zeroed, indexed, madeWords, makeOf};
+ghost use Rattle.rules.specs.Make.{settingsFrom, zeroed, newWindows, indexed, madeWords, makeOf};
 
 // Makes the first `n` words zero.
 fn zero(words: &mut [u32], n: usize)
@@ -26,6 +35,30 @@ fn zero(words: &mut [u32], n: usize)
     while i < n {
         words[i] = 0;
         i += 1;
+    }
+}
+
+// Writes the words of windows from `at` on: one is live, both put window and take window, and has the pool's size, like the next.
+fn put_first_window(words: &mut [u32], g: Settings, at: usize)
+    requires { ⌜ at + 6 ≤ length (now words) ⌝ }
+    ensures { λ r. ⌜ now (words .exit) ≡ sets (now (words .entry)) at (g .width ∷ g .depth ∷ 0 ∷ 1 ∷ g .width ∷ g .depth ∷ []) ⌝ }
+{
+    words[at + NEXT_WIDTH] = g.width;
+    words[at + NEXT_DEPTH] = g.depth;
+    words[at + SIZE_SET] = 0;
+    words[at + LIVE] = 1;
+    words[at + PAIRS] = g.width;
+    words[at + PAIRS + 1] = g.depth;
+}
+
+// A queue has them where windows have sizes of their own.
+fn put_windows(words: &mut [u32], g: Settings)
+    requires { ⌜ Bounds g ⌝ }
+    requires { ⌜ needed g ≤ length (now words) ⌝ }
+    ensures { λ r. ⌜ now (words .exit) ≡ sets (now (words .entry)) (windowsAt g) (newWindows g) ⌝ }
+{
+    if has_windows(g) {
+        put_first_window(words, g, windows_at(g));
     }
 }
 
@@ -49,6 +82,7 @@ fn fill(words: &mut [u32], g: Settings, n: usize)
 {
     zero(words, n);
     put_head(words, g);
+    put_windows(words, g);
     put_indices(words, g);
 }
 

@@ -4,7 +4,7 @@
 use Prim.Native.Nat.{ℕ, _+_, suc, _≤_}
 use mathlib.Core.List.{List, [], _∷_, append-nil}
 use mathlib.Core.Path.{_≡_, refl, sym, subst, _∙_}
-use mathlib.Core.Bool.{Bool, true}
+use mathlib.Core.Bool.{Bool, true, false}
 use mathlib.Core.Logic.{_≢_}
 use mathlib.Core.Option.{Option, none, some}
 use native.Mathlib.Decide.{ℕ-discrete}
@@ -18,10 +18,12 @@ use Rattle.rules.specs.Begin.{slotBegin, fitBegin, checkedBegin, beginOf}
 use Rattle.rules.specs.Consequences.{wordsAfter, itemsIn, hasStamp}
 use Rattle.rules.specs.Fit.{Checked, Unfit, Fit, headChecked, checkedBy, checkedOf}
 use Rattle.rules.specs.Held.{Item, heldItems, heldBy, heldOf, countItems}
-use Rattle.rules.specs.Layout.{workerWords}
-use Rattle.rules.specs.Limits.{settingsFit}
-use Rattle.rules.specs.Run.{Call, beginPut, beginTake, step, callOf, Event, run, at, distanceIn}
+use Rattle.rules.specs.Layout.{workerWords, windowsWords}
+use Rattle.rules.specs.Limits.{windowed, settingsFit}
+use Rattle.rules.specs.Resize.{fitSetSize, checkedSetSize, setSizeOf}
+use Rattle.rules.specs.Run.{Call, beginPut, beginTake, step, setSize, callOf, Event, run, at, distanceIn}
 use Rattle.rules.specs.Sequential.{boundBy, demand3Rows, mostPassed}
+use Rattle.rules.specs.Windows.{hasWindows}
 use Rattle.rules.specs.declared.Settings.{Settings}
 use Rattle.rules.specs.declared.Size.{Size}
 use Rattle.rules.specs.declared.Answer.{Answer}
@@ -116,6 +118,17 @@ begin-no-distance e ws i side value = by (checkedOf e ws)
     by (Unfit n) = refl
     by (Fit g) = cases None _ _ _ (λ _. refl) (λ _. cases None _ _ _ (λ _. cases None _ _ _ (λ _. refl) (λ _. refl)) (λ _. refl))
 
+set-no-distance : (e : ℕ) (ws : List ℕ) (size : Size) → distanceIn (setSizeOf e ws size .answer) ≡ 0
+unfolding setSizeOf checkedSetSize fitSetSize
+set-no-distance e ws size = by (checkedOf e ws)
+  where
+    None : Out → Type 0
+    None o = distanceIn (o .answer) ≡ 0
+
+    by : (c : Checked) → None (checkedSetSize ws c size)
+    by (Unfit n) = refl
+    by (Fit g) = cases None _ _ _ (λ _. cases None _ _ _ (λ _. refl) (λ _. refl)) (λ _. refl)
+
 call-close : (most e : ℕ) (ws : List ℕ) (c : Call) → ((i : ℕ) → c ≡ step i → numberOf (callOf e ws c .answer) ≡ 2 → distanceIn (callOf e ws c .answer) ≤ most)
     → distanceIn (callOf e ws c .answer) ≤ most
 unfolding callOf
@@ -125,6 +138,7 @@ call-close most e ws (step i) h = elim (ℕ-discrete (numberOf (callOf e ws (ste
   | yes two ↦ h i refl two
   | no ne ↦ omega (arith, no-distance (callOf e ws (step i) .answer) ne)
 ]
+call-close most e ws (setSize width depth) h = omega (arith, set-no-distance e ws (record { width = width; depth = depth }))
 
 run-close : (most e : ℕ) (ws : List ℕ) (cs : List Call)
     → ((i f : ℕ) → at (run e ws cs) f .call ≡ step i → numberOf (at (run e ws cs) f .answer) ≡ 2 → distanceIn (at (run e ws cs) f .answer) ≤ most)
@@ -160,7 +174,7 @@ late-within t (x ∷ xs) h c =
 
 -- a file's edition of the settings has their bound
 made-bound : (g : Settings) → settingsFit (shippedFrom g) ≡ true → boundIn g ≡ mostPassed (shippedFrom g)
-unfolding boundIn settingsFit mostPassed cond
+unfolding boundIn cond
 made-bound g e = rw e
 
 -- ---- what is held
@@ -172,15 +186,15 @@ fit-after g cs made =
     let k = kindOf g (a .limits) in
     related-fit g (a .limits) k (related-after g (a .limits) k (made-related g (a .limits) k lent a) cs .related)
 
--- a take's window has the pool's size, so that its distance is within the pool's own bound
-within-most : (g : Settings) (cs : List Call) → numberOf (makeOf lent g .answer) ≡ 0
+-- where windows have no sizes of their own a take's has the pool's, so that its distance is within the pool's own bound
+within-most : (g : Settings) (cs : List Call) → numberOf (makeOf lent g .answer) ≡ 0 → hasWindows g ≡ false
     → (i f : ℕ) → at (run (g .edition) (makeOf lent g .words) cs) f .call ≡ step i
     → numberOf (at (run (g .edition) (makeOf lent g .words) cs) f .answer) ≡ 2
     → distanceIn (at (run (g .edition) (makeOf lent g .words) cs) f .answer) ≤ mostPassed g
 unfolding mostPassed
-within-most g cs made i f e two =
+within-most g cs made own i f e two =
     subst (λ (size : Size). distanceIn (at (run (g .edition) (makeOf lent g .words) cs) f .answer) ≤ boundBy g (demand3Rows g) size)
-    (own-sizes lent g cs made i f e two)
+    (own-sizes lent g cs made i f own e two)
     (within-bound lent g cs made i f e two)
 
 fit-held : (e : ℕ) (ws : List ℕ) (g : Settings) → checkedOf e ws ≡ Fit g → heldOf e ws ≡ length (heldItems ws g)
@@ -189,7 +203,7 @@ fit-held e ws g h = rw h
 
 -- before there is a pool, nothing
 none-held : heldOf shipped lent ≡ 0
-unfolding heldOf heldBy checkedBy headChecked settingsFit workerWords cond
+unfolding heldOf heldBy checkedBy headChecked settingsFit workerWords windowsWords cond
 none-held = refl
 
 -- ---- what is known of a file's events
@@ -244,9 +258,10 @@ module _ (x y : Happened) (xs : List Happened) (opens : Opens x) (makes : Makes 
   whole-quiet = (rw (opens .item) (opens .number), (rw (makes .item) (makes .number), late-quiet xs late))
 
   whole-close : Close (mostPassed g) whole
+  unfolding windowed
   whole-close =
       close-all (mostPassed g) lent whole whole-quiet
-      (rw (runs .answers) (run-close (mostPassed g) (g .edition) (makeOf lent g .words) (callsIn whole) (within-most g (callsIn whole) (runs .made))))
+      (rw (runs .answers) (run-close (mostPassed g) (g .edition) (makeOf lent g .words) (callsIn whole) (within-most g (callsIn whole) (runs .made) refl)))
 
   abbrev opened : Tally
   opened = tallyAfter (tallyAfter noTally (x .event)) (y .event)

@@ -5,6 +5,7 @@ use lib.Dec.{eqb, ltb}
 use Rattle.laws.specs.Choice.{cond}
 use Rattle.rules.specs.Answers.{numberOf}
 use Rattle.rules.specs.Limits.{settingsFit}
+use Rattle.rules.specs.Make.{shippedFrom}
 use Rattle.rules.specs.Run.{distanceIn}
 use Rattle.rules.specs.Sequential.{mostPassed}
 use Rattle.rules.specs.declared.Settings.{Settings}
@@ -21,9 +22,9 @@ noTally = record { puts = 0; takes = 0; empties = 0; fulls = 0; refused = 0; wor
 abbrev pub withBound : Tally → ℕ → Tally
 withBound t bound = record { puts = t .puts; takes = t .takes; empties = t .empties; fulls = t .fulls; refused = t .refused; worst = t .worst; bound = bound }
 
--- demand 3's bound, in a pool of some settings; none is made of settings off limits
+-- demand 3's bound, in a file's pool of some settings, which is of the shipped edition; none is made of settings off limits
 unfoldable pub boundIn : Settings → ℕ
-boundIn g = cond (settingsFit g) (mostPassed g) 0
+boundIn g = cond (settingsFit (shippedFrom g)) (mostPassed (shippedFrom g)) 0
 
 -- from the word that makes the pool on
 abbrev pub boundAfter : ℕ → Item → ℕ

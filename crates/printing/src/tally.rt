@@ -1,8 +1,10 @@
 // What is counted over the events of a file.
 use fitness::settings_fit;
+use image::in_edition;
 use replay::Done;
 use rules::Answer;
 use rules::Settings;
+use rules::numbers::SHIPPED;
 use step::answers::number;
 ghost use mathlib.Core.Path.{_≡_};
 ghost use Prim.Native.Nat.{max};
@@ -50,11 +52,16 @@ fn most_passed(g: Settings) -> u32
     (width - 1) * (2 * depth + 2 * g.shift)
 }
 
-// The bound of a pool that can be made.
+// The bound of a pool that can be made; a file's is of the shipped edition.
 pub fn bound_in(g: Settings) -> u32
     ensures { λ r. ⌜ r ≡ boundIn g ⌝ }
 {
-    if settings_fit(g) { most_passed(g) } else { 0 }
+    let made = in_edition(g, SHIPPED);
+    if settings_fit(made) {
+        most_passed(made)
+    } else {
+        0
+    }
 }
 
 fn distance_in(a: Answer) -> u32

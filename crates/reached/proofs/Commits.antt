@@ -95,7 +95,7 @@ module _ (g : Settings) (limits : settingsFit g ≡ true) (kind : g .kind ≡ 1)
   BroughtOne n s i j c = Brought n s i j j c j
 
   -- ---- one operation: the commit, and the walk to it
-  idle-number : (x : ℕ) → (fresh 0 x Idle .number ≡ 0) × (fresh 0 x Idle .index ≡ x)
+  idle-number : (x : ℕ) → (fresh g 0 x Idle .number ≡ 0) × (fresh g 0 x Idle .index ≡ x)
   unfolding encode encodePhase
   idle-number x = (refl, refl)
 
@@ -106,25 +106,25 @@ module _ (g : Settings) (limits : settingsFit g ≡ true) (kind : g .kind ≡ 1)
     abbrev j : ℕ
     j = subIn s i
 
-    commit : (side : Side) (puts : ℕ) (item : ℕ → ℕ → Item) → Later 1 s (committed s i side puts item)
+    commit : (side : Side) (puts : ℕ) (item : ℕ → ℕ → Item) → Later 1 s (committed g s i side puts item)
         → BroughtOne 1 s i j (countAfter side (s .first j))
     commit side puts item later =
         record {
-          to = committed s i side puts item;
+          to = committed g s i side puts item;
           later = later;
           top = refl;
           mark = refl;
           held = λ m u v. let e : m ≡ j = omega arith in rw e (upd-same (s .first) j (countAfter side (s .first j)));
           held-off = λ m o. upd-other (s .first) j (countAfter side (s .first j)) m (one-of j m o);
           version-off = λ m o. upd-other (s .second) j (suc (s .second j)) m (one-of j m o);
-          off = λ m ne. upd-other (s .slot) i (fresh 0 j Idle) m ne;
-          rests = ap (λ (y : Slot). y .number) (upd-same (s .slot) i (fresh 0 j Idle)) ∙ idle-number j .0;
-          index-is = ap (λ (y : Slot). y .index) (upd-same (s .slot) i (fresh 0 j Idle)) ∙ idle-number j .1;
+          off = λ m ne. upd-other (s .slot) i (fresh g 0 j Idle) m ne;
+          rests = ap (λ (y : Slot). y .number) (upd-same (s .slot) i (fresh g 0 j Idle)) ∙ idle-number j .0;
+          index-is = ap (λ (y : Slot). y .index) (upd-same (s .slot) i (fresh g 0 j Idle)) ∙ idle-number j .1;
         }
 
     -- a put adds the row above, with the next stamp; a take adds none
     later-landed : phaseIn g s i ≡ StackCommit Putting seen
-        → Later 1 s (committed s i Putting (suc (s .puts)) (upd (s .item) j (upd (s .item j) (suc (s .first j)) (record { value = s .slot i .value; stamp = suc (s .puts) }))))
+        → Later 1 s (committed g s i Putting (suc (s .puts)) (upd (s .item) j (upd (s .item j) (suc (s .first j)) (record { value = s .slot i .value; stamp = suc (s .puts) }))))
     later-landed e =
         let it : Item = record { value = s .slot i .value; stamp = suc (s .puts) } in
         let put : Added (s .first) (s .item) j (suc (s .first j)) it _ _ = added (s .first) (s .item) j (suc (s .first j)) it (le-refl _) in
@@ -151,7 +151,7 @@ module _ (g : Settings) (limits : settingsFit g ≡ true) (kind : g .kind ≡ 1)
             rw (e, row, put .it) (le-refl _)
         new m r x y (no ne) put = absurd (omega (arith, put .off m ne))
 
-    later-removed : phaseIn g s i ≡ StackCommit Taking seen → Later 1 s (committed s i Taking (s .puts) (s .item))
+    later-removed : phaseIn g s i ≡ StackCommit Taking seen → Later 1 s (committed g s i Taking (s .puts) (s .item))
     later-removed e =
         let some : 1 ≤ s .first j = take-row (got .live .inv) i seen e live in
         record {

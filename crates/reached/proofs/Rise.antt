@@ -35,7 +35,7 @@ module _ (g : Settings) (limits : settingsFit g ≡ true) (kind : g .kind ≡ 1)
       → phaseIn g s i ≡ StackShift Putting (record { 0 = s .mark }) scan sum → s .top + g .shift ≤ g .rows → Raised s i
   raise s got i l time scan sum e able =
       let k : Worker = worker (s .slot i .value) (subIn s i) (Window Putting) in
-      let x : Slot = encode k (s .slot i) in
+      let x : Slot = encode g k (s .slot i) in
       let up : add32 (s .top) (g .shift) ≡ s .top + g .shift = add32-is (s .top) (g .shift) (omega (arith, settings-bounds g limits .rows1024)) in
       record {
         to = turnedIn s i (add32 (s .top) (g .shift)) (add32 (s .mark) 1) (s .frame) x;
@@ -52,5 +52,5 @@ module _ (g : Settings) (limits : settingsFit g ≡ true) (kind : g .kind ≡ 1)
         second = refl;
         off = λ m n. upd-other (s .slot) i x m n;
         phase = rw (upd-same (s .slot) i x) (stack-phase g kind k tt (s .slot i));
-        index-is = ap (λ (y : Slot). y .index) (upd-same (s .slot) i x) ∙ encode-index k (s .slot i);
+        index-is = ap (λ (y : Slot). y .index) (upd-same (s .slot) i x) ∙ encode-index g k (s .slot i);
       }

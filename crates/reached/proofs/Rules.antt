@@ -68,54 +68,54 @@ module _ (g : Settings) (s : State) (i : ℕ) where
 
   -- ---- a begin
   pub begin-is : (side : Side) → i < g .workers → s .steps < stepLimit → s .slot i .number ≡ 0
-      → nextIn g s (begins i side) ≡ next Moving (begun s i side (valueBegun side))
+      → nextIn g s (begins i side) ≡ next Moving (begun g s i side (valueBegun side))
   unfolding nextIn
   begin-is Putting l time z = able-does (record { worker = l; idle = z; time = time }) (begin-called g s i Putting 1)
   begin-is Taking l time z = able-does (record { worker = l; idle = z; time = time }) (begin-called g s i Taking 0)
 
   -- ---- the rules
   pub window-rule : g .kind ≡ 1 → (side : Side)
-      → ruleBy g (viewIn g s i) (Window side) ≡ movedOf (viewIn g s i) (subIn s i) (StackRead side (s .top) (record { 0 = s .mark }) 0 0) zeroSlot
+      → ruleBy g (viewIn g s i) (Window side) ≡ movedOf g (viewIn g s i) (subIn s i) (StackRead side (s .top) (record { 0 = s .mark }) 0 0) zeroSlot
   unfolding ruleBy windowRule cond
   window-rule kind side = rw kind refl
 
   module _ (side : Side) (window : ℕ) (version : Version) (scan sum : ℕ) where
     pub hit-rule : stackHit g (viewIn g s i) side window ≡ true
         → ruleBy g (viewIn g s i) (StackRead side window version scan sum)
-        ≡ movedOf (viewIn g s i) (subIn s i) (Check side version (record { 0 = s .second (subIn s i) })) (withPass (s .slot i) (version .0) scan (sumAfter s i sum))
+        ≡ movedOf g (viewIn g s i) (subIn s i) (Check side version (record { 0 = s .second (subIn s i) })) (withPass (s .slot i) (version .0) scan (sumAfter s i sum))
     unfolding ruleBy stackRead cond
     hit-rule h = rw h refl
 
     pub miss-rule : stackHit g (viewIn g s i) side window ≡ false → ltb (add32 scan 1) (g .width) ≡ true
         → ruleBy g (viewIn g s i) (StackRead side window version scan sum)
-        ≡ movedOf (viewIn g s i) (nextOf (g .width) (subIn s i)) (StackRead side window version (add32 scan 1) (sumAfter s i sum)) (s .slot i)
+        ≡ movedOf g (viewIn g s i) (nextOf (g .width) (subIn s i)) (StackRead side window version (add32 scan 1) (sumAfter s i sum)) (s .slot i)
     unfolding ruleBy stackRead missOf cond
     miss-rule h more = rw (h, more) refl
 
     pub last-rule : stackHit g (viewIn g s i) side window ≡ false → ltb (add32 scan 1) (g .width) ≡ false
         → ruleBy g (viewIn g s i) (StackRead side window version scan sum)
-        ≡ movedOf (viewIn g s i) (nextOf (g .width) (subIn s i)) (StackShift side version 0 (sumAfter s i sum)) (s .slot i)
+        ≡ movedOf g (viewIn g s i) (nextOf (g .width) (subIn s i)) (StackShift side version 0 (sumAfter s i sum)) (s .slot i)
     unfolding ruleBy stackRead missOf cond
     last-rule h more = rw (h, more) refl
 
   pub check-rule : (side : Side) (version seen : Version) → eqb (s .mark) (version .0) ≡ true
-      → ruleBy g (viewIn g s i) (Check side version seen) ≡ movedOf (viewIn g s i) (subIn s i) (StackCommit side seen) (s .slot i)
+      → ruleBy g (viewIn g s i) (Check side version seen) ≡ movedOf g (viewIn g s i) (subIn s i) (StackCommit side seen) (s .slot i)
   unfolding ruleBy checkRule cond
   check-rule side version seen h = rw h refl
 
   pub shift-rule : (version : Version) (scan sum : ℕ) → eqb (s .mark) (version .0) ≡ true → leb (add32 (s .top) (g .shift)) (g .rows) ≡ true
-      → ruleBy g (viewIn g s i) (StackShift Putting version scan sum) ≡ shiftedOf (viewIn g s i) Shifted Putting (add32 (s .top) (g .shift)) (add32 (s .mark) 1)
+      → ruleBy g (viewIn g s i) (StackShift Putting version scan sum) ≡ shiftedOf g (viewIn g s i) Shifted Putting (add32 (s .top) (g .shift)) (add32 (s .mark) 1)
   unfolding ruleBy stackShift shiftBy cond
   shift-rule version scan sum h able = rw (h, able) refl
 
   pub put-rule : (seen : Version) → eqb (s .second (subIn s i)) (seen .0) ≡ true → ltb (s .first (subIn s i)) (g .rows) ≡ true
       → ruleBy g (viewIn g s i) (StackCommit Putting seen)
-      ≡ landedOf (viewIn g s i) (add32 (s .first (subIn s i)) 1) (add32 (s .second (subIn s i)) 1) (rowAbove (s .first (subIn s i)))
+      ≡ landedOf g (viewIn g s i) (add32 (s .first (subIn s i)) 1) (add32 (s .second (subIn s i)) 1) (rowAbove (s .first (subIn s i)))
   unfolding ruleBy stackCommit commitBy cond
   put-rule seen h room = rw (h, room) refl
 
   pub take-rule : (seen : Version) → eqb (s .second (subIn s i)) (seen .0) ≡ true → ltb 0 (s .first (subIn s i)) ≡ true
       → ruleBy g (viewIn g s i) (StackCommit Taking seen)
-      ≡ removedOf (viewIn g s i) (sub32 (s .first (subIn s i)) 1) (add32 (s .second (subIn s i)) 1) (record { 0 = s .first (subIn s i) })
+      ≡ removedOf g (viewIn g s i) (sub32 (s .first (subIn s i)) 1) (add32 (s .second (subIn s i)) 1) (record { 0 = s .first (subIn s i) })
   unfolding ruleBy stackCommit commitBy cond
   take-rule seen h some = rw (h, some) refl

@@ -125,9 +125,9 @@ module _ (g : Settings) (limits : settingsFit g ≡ true) (kind : g .kind ≡ 1)
 
   -- ---- a call that changes worker i's slot alone, and the steps counted
   in-slot : {n : ℕ} (s : State) (i steps : ℕ) (k : Worker) (kept : Slot) → OfStack (k .phase) → steps ≤ s .steps + n
-      → Reaches (slotIn s i steps (s .top) (s .mark) (s .frame) (encode k kept)) → Walked n s i (k .index) (k .phase)
+      → Reaches (slotIn s i steps (s .top) (s .mark) (s .frame) (encode g k kept)) → Walked n s i (k .index) (k .phase)
   in-slot s i steps k kept of l got =
-      let x : Slot = encode k kept in
+      let x : Slot = encode g k kept in
       record {
         to = slotIn s i steps (s .top) (s .mark) (s .frame) x;
         got = got;
@@ -140,13 +140,13 @@ module _ (g : Settings) (limits : settingsFit g ≡ true) (kind : g .kind ≡ 1)
         item = refl;
         off = λ m n. upd-other (s .slot) i x m n;
         phase = rw (upd-same (s .slot) i x) (stack-phase g kind k of kept);
-        index-is = ap (λ (y : Slot). y .index) (upd-same (s .slot) i x) ∙ encode-index k kept;
+        index-is = ap (λ (y : Slot). y .index) (upd-same (s .slot) i x) ∙ encode-index g k kept;
       }
 
   -- ---- one call
   module _ (s : State) (got : Reaches s) (i : ℕ) (l : i < g .workers) (time : s .steps < stepLimit) where
     moved : (p₀ : Phase) → phaseIn g s i ≡ p₀ → Busy p₀ → (index : ℕ) (p : Phase) (kept : Slot) → OfStack p
-        → ruleBy g (viewIn g s i) p₀ ≡ movedOf (viewIn g s i) index p kept → Walked 1 s i index p
+        → ruleBy g (viewIn g s i) p₀ ≡ movedOf g (viewIn g s i) index p kept → Walked 1 s i index p
     moved p₀ e busy index p kept of rule =
         in-slot s i (suc (s .steps)) (worker (s .slot i .value) index p) kept of (omega arith)
         (got-call g limits kind got (step i) tt _ (step-is g s i l time p₀ e busy ∙ ap (applyIn g s i) rule ∙ apply-moved g s i index p kept))

@@ -13,6 +13,7 @@ use Rattle.rules.specs.Answers.{numberOf}
 use Rattle.rules.specs.Held.{passedOver}
 use Rattle.rules.proofs.counts.Held.{real}
 use Rattle.rules.specs.Limits.{settingsFit, stepLimit}
+use Rattle.rules.specs.Windows.{sizeOf}
 use Rattle.rules.specs.Newer.{exactRows, exactBound}
 use Rattle.rules.specs.Sequential.{passedBy}
 use Rattle.rules.specs.Run.{Call, step, distanceIn}
@@ -69,7 +70,7 @@ module _ (g : Settings) (limits : settingsFit g ≡ true) (kind : g .kind ≡ 1)
     exactly =
         distance-is g kind (got .live .inv .pool) _
         ∙ without-spacers (g .kind) (s .item (subIn s i) (s .first (subIn s i)) .stamp) (got .live .list .items) (got .live .no-spacers .listed)
-        ∙ le-antisymm (take-newer (good g limits) kind (got .live .inv) i lj seen waits refl) at-least
+        ∙ le-antisymm (take-newer (good g limits) kind (got .live .inv) i lj seen waits refl (sizeOf g)) at-least
 
     pub takes : Found g
     takes =

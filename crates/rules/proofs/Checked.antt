@@ -5,23 +5,27 @@ use mathlib.Core.List.{List}
 use Rattle.rules.specs.Answers.{Out, refuse}
 use Rattle.rules.specs.Fit.{Checked, Unfit, checkedOf}
 use Rattle.rules.specs.Begin.{checkedBegin, beginOf}
+use Rattle.rules.specs.Resize.{checkedSetSize, setSizeOf}
 use Rattle.rules.specs.Step.{checkedStep, stepOf}
-use Rattle.rules.specs.Run.{Call, beginPut, beginTake, step, callOf}
+use Rattle.rules.specs.Run.{Call, beginPut, beginTake, step, setSize, callOf}
 use Rattle.rules.proofs.Types.{Putting, Taking}
 
 abbrev pub checkedCall : List ℕ → Checked → Call → Out
 checkedCall ws k (beginPut i v) = checkedBegin ws k i Putting v
 checkedCall ws k (beginTake i) = checkedBegin ws k i Taking 0
 checkedCall ws k (step i) = checkedStep ws k i
+checkedCall ws k (setSize width depth) = checkedSetSize ws k (record { width = width; depth = depth })
 
 pub call-is : (ed : ℕ) (ws : List ℕ) (c : Call) → callOf ed ws c ≡ checkedCall ws (checkedOf ed ws) c
-unfolding callOf beginOf stepOf
+unfolding callOf beginOf stepOf setSizeOf
 call-is ed ws (beginPut i v) = refl
 call-is ed ws (beginTake i) = refl
 call-is ed ws (step i) = refl
+call-is ed ws (setSize width depth) = refl
 
 pub unfit-call : (ws : List ℕ) (n : ℕ) (c : Call) → checkedCall ws (Unfit n) c ≡ refuse n ws
-unfolding checkedBegin checkedStep
+unfolding checkedBegin checkedStep checkedSetSize
 unfit-call ws n (beginPut i v) = refl
 unfit-call ws n (beginTake i) = refl
 unfit-call ws n (step i) = refl
+unfit-call ws n (setSize width depth) = refl

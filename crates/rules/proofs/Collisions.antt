@@ -16,40 +16,43 @@ use borrow.Author.Tests.{lt-ltb, lt-leb, leb-true, leb-false, eq-eqb, ne-eqb}
 use Rattle.laws.specs.Choice.{cond, cond-true, cond-false, cases, both, both-false, both-one, both-true}
 use Rattle.laws.specs.Wrap.{add32}
 use Rattle.rules.specs.Answers.{Out, refuse, noSuchWorker, workerIdle, stepsSpent, numberOf}
-use Rattle.rules.specs.Limits.{settingsFit, stepLimit}
+use Rattle.rules.specs.Limits.{settingsFit, stepLimit, windowed, sizeFit}
+use Rattle.rules.specs.Windows.{hasWindows}
 use Rattle.rules.specs.Layout.{stepsAt, putsAt, topAt, markAt, firstAt, secondAt, workerAt, indexAt, lostAt, cellsAt, cellAt, stampAt, lostWord}
-use Rattle.rules.specs.Fit.{FitPool}
+use Rattle.rules.specs.Fit.{FitPool, Fit, checkedOf}
 use Rattle.rules.specs.Begin.{outOfSteps, idleAt, slotBegin, fitBegin, checkedBegin, beginOf}
+use Rattle.rules.specs.Resize.{fitSetSize, checkedSetSize, setSizeOf}
 use Rattle.rules.specs.Effects.{viewOf}
 use Rattle.rules.specs.Window.{windowRule}
 use Rattle.rules.specs.Read.{missOf, queuePutRead, queueTakeRead, stackRead}
 use Rattle.rules.specs.Check.{checkRule}
-use Rattle.rules.specs.Commit.{commitBy, queueCommit, stackCommit}
+use Rattle.rules.specs.Commit.{commitBy, queuePutCommit, queueTakeCommit, queueCommit, stackCommit}
 use Rattle.rules.specs.Shift.{shiftBy, queueShift, stackShift}
 use Rattle.rules.specs.Confirm.{confirmBy, confirmedOf, queueConfirm, stackConfirm}
 use Rattle.rules.specs.Apply.{countLost, putItem, putSub, putLanded, putShifted, putRaised, putDropped, putWorker, applyBy, applyOf}
 use Rattle.rules.specs.Step.{ruleBy, ruleOf, slotStep, fitStep, checkedStep, stepOf}
 use Rattle.rules.specs.Make.{makeOf}
-use Rattle.rules.specs.Run.{Call, beginPut, beginTake, step, callOf}
+use Rattle.rules.specs.Run.{Call, beginPut, beginTake, step, setSize, callOf}
 use Rattle.rules.specs.Consequences.{wordsAfter}
 use Rattle.rules.specs.Collisions.{finds, findsOther, fails, failedCommits, HasCards, CardsFromOne, cardOf, OneMore, CardsTrue}
-use Rattle.rules.proofs.Types.{Settings, Side, Putting, Taking, Phase, Idle, Window, QueuePutRead, QueueTakeRead, StackRead, Check, QueueCommit, StackCommit, QueueShift, StackShift, QueueConfirm, StackConfirm, View, Effect, Outcome}
+use Rattle.rules.proofs.Types.{Settings, Size, Side, Putting, Taking, Phase, Idle, Window, QueuePutRead, QueueTakeRead, StackRead, Check, QueueCommit, StackCommit, QueueShift, StackShift, QueueConfirm, StackConfirm, View, Effect, Outcome}
 use Rattle.rules.specs.declared.Outcome.the-variants.{Refused, Moving, Lost, Shifted, Raised, Dropped, Landed, Removed, Empty, Full}
-use Rattle.rules.proofs.Workers.{words-lost, worker-within, same-worker, lost-beside}
-use Rattle.rules.proofs.Fitness.{fit-pool}
+use Rattle.rules.proofs.Workers.{words-lost, Read, worker-within, same-worker, lost-apart}
+use Rattle.rules.proofs.Fitness.{settings-bounds, fit-pool}
 use Rattle.rules.proofs.counts.Wraps.{add32-suc}
 use Rattle.rules.proofs.order.Law.{Next}
-use Rattle.rules.proofs.machine.Machine.{State, viewIn, applyIn, applyInBy, stepIn, nextIn}
+use Rattle.rules.proofs.machine.Machine.{State, viewIn, applyIn, applyInBy, stepIn, setSizeIn, nextIn}
 use Rattle.rules.proofs.machine.Calls.{Called, refuses, does, Steps, step-called, begin-called}
-use Rattle.rules.proofs.machine.Turns.{Kind}
-use Rattle.rules.proofs.words.Writes.{slot-off}
+use Rattle.rules.proofs.machine.Turns.{LiveFits, Kind}
+use Rattle.rules.proofs.words.Writes.{slot-off, raised-below, dropped-below, sized-off}
+use Rattle.rules.proofs.words.Fit.{checked-fit}
 use Rattle.rules.proofs.words.Stores.{view-same}
 use Rattle.rules.proofs.Transfer.{Related, related-fit, next-related, made-related}
 use Rattle.rules.proofs.Theorem.{kindOf}
 use Rattle.rules.proofs.words.Made.{accepted, made-card}
 
 pub cards-from-one : CardsFromOne
-cards-from-one g l = omega (arith, words-lost (g .edition) (λ z. omega arith))
+cards-from-one g l = words-lost (g .edition) l
 
 -- ---- which rule counts a failed commit
 abbrev isLost : Outcome → Bool
@@ -75,7 +78,7 @@ commit-lost g v side true false done e = refl
 commit-lost g v side false able done e = refl
 
 rule-lost : (g : Settings) (v : View) (p : Phase) → Lost-if (finds v p) (ruleBy g v p)
-unfolding ruleBy windowRule missOf queuePutRead queueTakeRead stackRead checkRule queueCommit stackCommit shiftBy queueShift stackShift confirmBy confirmedOf queueConfirm stackConfirm
+unfolding ruleBy windowRule missOf queuePutRead queueTakeRead stackRead checkRule queueCommit queuePutCommit queueTakeCommit stackCommit shiftBy queueShift stackShift confirmBy confirmedOf queueConfirm stackConfirm
 rule-lost g v Idle = refl
 rule-lost g v (Window side) = cases (Lost-if false) _ _ _ (λ e. refl) (λ e. refl)
 rule-lost g v (QueuePutRead window scan) = cases (Lost-if false) _ _ _ (λ e. refl) (λ e. cases (Lost-if false) _ _ _ (λ f. refl) (λ f. refl))
@@ -105,25 +108,27 @@ module _ (ws : List ℕ) (g : Settings) (pool : FitPool g ws) (cards : HasCards 
   below : card < cellsAt g
   below = omega (arith, worker-within g i li)
 
+  -- it is no word that a rule reads
+  card-apart : (j k : ℕ) → Read (g .edition) k → card ≢ workerAt g j + k
+  card-apart j k r u = lost-apart g i j k cards r (sym u)
+
   module _ (j : ℕ) (lj : j < g .workers) (sub : ℕ) (ls : sub < g .width) (e : Effect) where
     abbrev at : ℕ
     at = workerAt g j
 
-    off-worker : (vs : List ℕ) → getD (putWorker vs at e) card 0 ≡ getD vs card 0
+    off-worker : (vs : List ℕ) → getD (putWorker vs g at e) card 0 ≡ getD vs card 0
     unfolding putWorker
-    off-worker vs = slot-off _ at (e .slot) card (lost-beside g i j cards) ∙ getD-set-other vs stepsAt card _ 0 (λ u. omega arith)
+    off-worker vs = slot-off g _ at (e .slot) card (card-apart j) ∙ getD-set-other vs stepsAt card _ 0 (λ u. omega arith)
 
     off-shifted : getD (putShifted ws e) card 0 ≡ getD ws card 0
     unfolding putShifted
     off-shifted = let a : card ≢ topAt = λ u. omega arith in let b : card ≢ markAt = λ u. omega arith in simp getD-set-other
 
-    off-raised : getD (putRaised ws e) card 0 ≡ getD ws card 0
-    unfolding putRaised
-    off-raised = getD-set-other ws topAt card _ 0 (λ u. omega arith)
+    off-raised : getD (putRaised ws g e) card 0 ≡ getD ws card 0
+    off-raised = raised-below ws g e card (λ u. omega arith) (omega (arith, below))
 
-    off-dropped : getD (putDropped ws e) card 0 ≡ getD ws card 0
-    unfolding putDropped
-    off-dropped = getD-set-other ws markAt card _ 0 (λ u. omega arith)
+    off-dropped : getD (putDropped ws g e) card 0 ≡ getD ws card 0
+    off-dropped = dropped-below ws g e card (λ u. omega arith) (omega (arith, below))
 
     off-sub : (vs : List ℕ) → getD (putSub vs sub e) card 0 ≡ getD vs card 0
     unfolding putSub
@@ -220,14 +225,25 @@ module _ (ws : List ℕ) (g : Settings) (pool : FitPool g ws) (cards : HasCards 
   begin-card j side value =
       cases (λ (o : Out). Card false (o .words)) (leb (g .workers) j) _ _ (λ a. same)
       (λ a. cases (λ (o : Out). Card false (o .words)) (idleAt ws (workerAt g j)) _ _
-      (λ b. cases (λ (o : Out). Card false (o .words)) (outOfSteps ws) _ _ (λ c. same) (λ c. slot-off ws (workerAt g j) _ card (lost-beside g i j cards) ∙ same))
+      (λ b. cases (λ (o : Out). Card false (o .words)) (outOfSteps ws) _ _ (λ c. same) (λ c. slot-off g ws (workerAt g j) _ card (card-apart j) ∙ same))
       (λ b. same))
 
+  -- a size call stores behind the cells
+  size-card : (size : Size) → Card false (fitSetSize ws g size .words)
+  unfolding fitSetSize
+  size-card size =
+      cases Of (windowed g) _ _ (λ a. cases Of (both (eqb (g .kind) 0) (sizeFit g size)) _ _
+      (λ b. sized-off ws g size card (λ u. omega (arith, below)) (λ u. omega (arith, below)) (λ u. omega (arith, below)) ∙ same) (λ b. same)) (λ a. same)
+    where
+      Of : Out → Type 0
+      Of o = Card false (o .words)
+
 pub one-more : OneMore
-unfolding callOf beginOf stepOf checkedBegin checkedStep
+unfolding callOf beginOf stepOf setSizeOf checkedBegin checkedStep checkedSetSize
 one-more ws g (beginPut j v) i fit cards li = rw fit (begin-card ws g (fit-pool (g .edition) ws g fit) cards i li j Putting v)
 one-more ws g (beginTake j) i fit cards li = rw fit (begin-card ws g (fit-pool (g .edition) ws g fit) cards i li j Taking 0)
 one-more ws g (step j) i fit cards li = rw fit (step-card ws g (fit-pool (g .edition) ws g fit) cards i li j)
+one-more ws g (setSize width depth) i fit cards li = rw fit (size-card ws g (fit-pool (g .edition) ws g fit) cards i li (record { width = width; depth = depth }))
 
 -- ---- the steps counted, in the machine
 module _ (g : Settings) (s : State) where
@@ -248,11 +264,19 @@ module _ (g : Settings) (s : State) where
   called-keeps (refuses n l unable e) m = rw e (le-refl _)
   called-keeps (does able e) m = rw e m
 
+  size-keeps : (size : Size) → s .steps ≤ setSizeIn g s size .state .steps
+  unfolding setSizeIn
+  size-keeps size = cases Of (windowed g) _ _ (λ a. cases Of (both (eqb (g .kind) 0) (sizeFit g size)) _ _ (λ b. le-refl _) (λ b. le-refl _)) (λ a. le-refl _)
+    where
+      Of : Next State → Type 0
+      Of o = s .steps ≤ o .state .steps
+
   steps-kept : (c : Call) → s .steps ≤ nextIn g s c .state .steps
   unfolding nextIn applyIn
   steps-kept (beginPut i v) = called-keeps (begin-called g s i Putting v) (le-refl _)
   steps-kept (beginTake i) = called-keeps (begin-called g s i Taking 0) (le-refl _)
   steps-kept (step i) = called-keeps (step-called g s i) (kept-by i _ _)
+  steps-kept (setSize width depth) = size-keeps (record { width = width; depth = depth })
 
   lost-counted : (i : ℕ) (e : Effect) (o : Outcome) → isLost o ≡ true → applyInBy g s i e o .state .steps ≡ suc (s .steps)
   unfolding applyInBy
@@ -281,11 +305,18 @@ module _ (g : Settings) (limits : settingsFit g ≡ true) (k : Kind g) (cards : 
   abbrev Rel : List ℕ → State → Type 0
   Rel ws s = Related g limits k ws s
 
+  live : {ws : List ℕ} {s : State} (r : Rel ws s) → hasWindows g ≡ true → LiveFits g s
+  live {ws} {s} r has = k .counts s (r .list) (r .whole .inv) .windows has .fits
+
+  fit : {ws : List ℕ} {s : State} → Rel ws s → checkedOf (g .edition) ws ≡ Fit g
+  fit {ws} {s} r = checked-fit g limits (settings-bounds g limits .kind1) ws s (r .says) (r .whole .common) (live r) (k .counts s (r .list) (r .whole .inv) .sub)
+
   -- a step that fails is counted
   fails-counted : {ws : List ℕ} {s : State} (r : Rel ws s) (c : Call) → fails g ws i c ≡ true → nextIn g s c .state .steps ≡ suc (s .steps)
   unfolding callOf nextIn applyIn ruleOf
   fails-counted r (beginPut j v) h = absurd (false≢true h)
   fails-counted r (beginTake j) h = absurd (false≢true h)
+  fails-counted r (setSize width depth) h = absurd (false≢true h)
   fails-counted {ws} {s} r (step j) h = by (step-called g s j)
     where
       tests : (leb (numberOf (stepOf (g .edition) ws j .answer)) 4 ≡ true) × (findsOther g ws j ≡ true)
@@ -296,7 +327,7 @@ module _ (g : Settings) (limits : settingsFit g ≡ true) (k : Kind g) (cards : 
           let same = ap numberOf (next-related g limits k r (step j) .answer ∙ ap (λ (o : Next State). o .answer) e) in
           absurd (omega (arith, same, leb-true (numberOf (stepOf (g .edition) ws j .answer)) 4 (tests .0)))
       by (does able e) =
-          let view = view-same g ws s (r .says) j (able .worker) (r .whole .common .slots j .index) in
+          let view = view-same g ws s (r .says) j (able .worker) (r .whole .common .slots j .index) (live r) in
           let v = viewIn g s j in
           let lost = rule-lost g v (v .worker .phase) ∙ ap (λ (x : View). finds x (x .worker .phase)) (sym view) ∙ tests .1 in
           rw e (lost-counted g s j (ruleBy g v (v .worker .phase)) _ lost)

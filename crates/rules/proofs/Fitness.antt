@@ -2,19 +2,26 @@
 -- pool that is checked fit has each field of `FitPool`. Each test is read off the choice that it stands in.
 use Prim.Native.Nat.{ℕ, _+_, _-_, _%_, _<_, _≤_}
 use mathlib.Core.Path.{_≡_, refl, sym, subst}
+use mathlib.Core.Logic.{_≢_}
 use mathlib.Core.List.{List}
 use mathlib.Core.Bool.{Bool, true, false}
+use native.Mathlib.Decide.{ℕ-discrete}
 use native.Mathlib.Omega.{arith}
 use lib.ListN.{getD, length}
-use lib.Dec.{ltb, leb, eqb, lit<}
-use borrow.Author.Tests.{ltb-true, ltb-false, leb-true, eq-eqb, ne-eqb, eqb-true}
-use Rattle.laws.specs.Choice.{cond, cases, both-true, all, all-holds, allBelow, allBelow-at, allBelow-same, allBelow-free}
+use lib.Dec.{ltb, leb, eqb}
+use borrow.Author.Tests.{ltb-true, ltb-false, lt-ltb, le-ltb, leb-true, eq-eqb, ne-eqb, eqb-true}
+use Rattle.laws.specs.Choice.{cond, cases, both-true, all, all-holds, allBelow, allBelow-at}
 use Rattle.rules.specs.Answers.{tooFewWords, notFit}
-use Rattle.rules.specs.Layout.{headWords, workerWords, slotWords, workerAt, phaseWord, indexWord, scanWord, needed, settingsOf}
-use Rattle.rules.specs.Limits.{limits, queueLimits, settingsFit, Bounds}
-use Rattle.rules.specs.Fit.{Checked, Unfit, Fit, subFit, subsFit, phaseFit, wordFit, workersFit, bodyChecked, headChecked, checkedBy, checkedOf, refusalOf, SubFits, FitPool}
+use Rattle.rules.specs.Layout.{headWords, workerAt, setAt, pairAt, needed, settingsOf}
+use Rattle.rules.specs.Make.{inEdition}
+use Rattle.rules.specs.Limits.{limits, queueLimits, settingsFit, windowed, sizeLimits, sizeFit, mostLive, Bounds}
+use Rattle.rules.specs.Windows.{hasWindows, noSize, liveOf, nthSize, levelOf}
+use Rattle.rules.specs.Worker.{slotAt}
+use Rattle.rules.specs.Fit.{Checked, Unfit, Fit, subFit, subsFit, phaseFit, pastWindow, spanLimits, seenFit, workerLimits, workerFit, workersFit, noSizeFit, pairFit, sizesFit, topsFit, windowsFit, bodyFit, bodyChecked, headChecked, checkedBy, checkedOf, refusalOf, SubFits, SizeFits, SpanFits, WindowsFit, FitPool}
 use Rattle.rules.specs.declared.Settings.{Settings}
-use Rattle.rules.proofs.Workers.{slot-within, word-lt}
+use Rattle.rules.specs.declared.Size.{Size}
+use Rattle.rules.specs.declared.Slot.{Slot}
+use Rattle.rules.proofs.Cells.{level-ge}
 
 -- ---- settings
 pub settings-bounds : (g : Settings) → settingsFit g ≡ true → Bounds g
@@ -37,13 +44,26 @@ settings-bounds g e =
       stride-width = ltb-true _ _ (t .1 .1 .1 .1 .1 .1 .1 .1 .1 .1 .1 .1 .0);
     }
 
--- a queue's shift is its depth, and its rows a multiple of it
-pub queue-limits : (g : Settings) → settingsFit g ≡ true → g .kind ≡ 0 → (g .shift ≡ g .depth) × (g .rows % g .depth ≡ 0)
+-- a queue's shift is its depth, and its rows a multiple of it where windows have no sizes of their own
+pub queue-limits : (g : Settings) → settingsFit g ≡ true → g .kind ≡ 0 → (g .shift ≡ g .depth) × (windowed g ≡ false → g .rows % g .depth ≡ 0)
 unfolding settingsFit cond
 queue-limits g e k =
     let q : all (queueLimits g) ≡ true = rw (eq-eqb (g .kind) 0 k) at (both-true (all (limits g)) _ e .1) in
     let t = all-holds (queueLimits g) q in
-    (eqb-true _ _ (t .0), eqb-true _ _ (t .1 .0))
+    (eqb-true _ _ (t .0), λ old. eqb-true _ _ (rw old at (t .1 .0)))
+
+-- a size within limits
+pub size-fits : (g : Settings) (size : Size) → sizeFit g size ≡ true → SizeFits g size
+unfolding sizeFit
+size-fits g size e =
+    let t = all-holds (sizeLimits g size) e in
+    record {
+      width1 = leb-true _ _ (t .0);
+      width-most = leb-true _ _ (t .1 .0);
+      depth1 = leb-true _ _ (t .1 .1 .0);
+      depth64 = leb-true _ _ (t .1 .1 .1 .0);
+      depth-half = leb-true _ _ (t .1 .1 .1 .1 .0);
+    }
 
 -- ---- a pool
 unfit-fit : (n : ℕ) (g : Settings) → Unfit n ≡ Fit g → ⊥
@@ -63,55 +83,98 @@ passed false n y g e = absurd (unfit-fit n g e)
 fit-settings : (g h : Settings) → Fit g ≡ Fit h → g ≡ h
 fit-settings g h e = cc
 
-pub sub-fits : (g : Settings) (first second : ℕ) → subFit g first second ≡ true → SubFits g first second
+-- a sub: its two last rows are equal, or the one is above the level by 1 to R
+pub sub-fits : (g : Settings) (bottom first second : ℕ) → subFit g bottom first second ≡ true → SubFits g bottom first second
 unfolding subFit cond
-sub-fits g first second e =
-    let queue : g .kind ≡ 0 → (leb second first ≡ true) × (leb (first - second) (g .rows) ≡ true) =
-    λ k. both-true _ _ (rw (eq-eqb (g .kind) 0 k) at e) in
+sub-fits g bottom first second e =
+    let level : ℕ = levelOf g second bottom in
+    let queue : g .kind ≡ 0 → first ≢ second → (ltb level first ≡ true) × (leb (first - level) (g .rows) ≡ true) =
+    λ k n. both-true _ _ (rw (eq-eqb (g .kind) 0 k, ne-eqb first second n) at e) in
     let stack : 1 ≤ g .kind → leb first (g .rows) ≡ true =
     λ k. rw (ne-eqb (g .kind) 0 (λ z. omega arith)) at e in
     record {
-      queue-order = λ k. leb-true _ _ (queue k .0);
-      queue-rows = λ k. let a = leb-true second first (queue k .0) in let b = leb-true (first - second) (g .rows) (queue k .1) in omega arith;
+      queue-order = λ k. elim (ℕ-discrete first second) [ yes y ↦ omega arith | no n ↦ omega (arith, ltb-true level first (queue k n .0), level-ge g second bottom) ];
+      queue-rows = λ k n. let a = ltb-true level first (queue k n .0) in let b = leb-true (first - level) (g .rows) (queue k n .1) in omega arith;
+      queue-level = λ k n. ltb-true _ _ (queue k n .0);
       stack-rows = λ k. leb-true _ _ (stack k);
     }
 
--- a word of a worker of those that are fit
-pub worker-word : (ws : List ℕ) (g : Settings) (i k : ℕ) → i < g .workers → k < workerWords (g .edition) → workersFit ws g ≡ true → wordFit g k (getD ws (workerAt g i + k) 0) ≡ true
-unfolding workersFit
-worker-word ws g i k h l e = allBelow-at (workerWords (g .edition)) _ k l (allBelow-at (g .workers) _ i h e)
+-- a worker
+pub record WorkerFits (g : Settings) (s : Slot) : Type 0 where
+  pub number : phaseFit (g .kind) (s .number) ≡ true
+  pub index : s .index < g .width
+  pub scan : s .scan < g .width
+  pub seen : seenFit g s ≡ true
 
--- of a worker's words the fitness asks for those alone that the rules read
-free-word : (g : Settings) (k x : ℕ) → slotWords ≤ k → wordFit g k x ≡ true
-unfolding wordFit cond
-free-word g k x l = rw (ne-eqb k phaseWord (λ u. omega arith), ne-eqb k indexWord (λ u. omega arith), ne-eqb k scanWord (λ u. omega arith)) refl
+pub worker-fits : (g : Settings) (s : Slot) → workerFit g s ≡ true → WorkerFits g s
+unfolding workerFit
+worker-fits g s e =
+    let t = all-holds (workerLimits g s) e in
+    record { number = t .0; index = ltb-true _ _ (t .1 .0); scan = ltb-true _ _ (t .1 .1 .0); seen = t .1 .1 .1 .0 }
 
-pub slots-fit : (g : Settings) (ws : List ℕ)
-    → workersFit ws g ≡ allBelow (g .workers) (λ i. allBelow slotWords (λ k. wordFit g k (getD ws (workerAt g i + k) 0)))
+-- the window that a queue's worker has seen
+pub span-fits : (g : Settings) (s : Slot) → hasWindows g ≡ true → pastWindow (s .number) ≡ true → seenFit g s ≡ true → SpanFits g s
+unfolding seenFit cond
+span-fits g s has past e =
+    let h = both-true (windowed g) _ has in
+    let t = all-holds (spanLimits g s) (rw (h .0, h .1, past) at e) in
+    record { width1 = leb-true _ _ (t .0); width-most = leb-true _ _ (t .1 .0); index = ltb-true _ _ (t .1 .1 .0); scan = ltb-true _ _ (t .1 .1 .1 .0) }
+
+pub each-worker : (ws : List ℕ) (g : Settings) (i : ℕ) → i < g .workers → workersFit ws g ≡ true → WorkerFits g (slotAt g ws (workerAt g i))
 unfolding workersFit
-slots-fit g ws =
-    allBelow-same (g .workers) _ _ (λ i l. allBelow-free slotWords (workerWords (g .edition)) _ (slot-within (g .edition)) (λ k m. free-word g k _ m))
+each-worker ws g i l e = worker-fits g _ (allBelow-at (g .workers) _ i l e)
+
+-- a queue's windows
+pair-none : (ws : List ℕ) (g : Settings) (k : ℕ) → noSizeFit (nthSize ws g k) ≡ true → nthSize ws g k ≡ noSize
+pair-none ws g k e =
+    let t = both-true _ _ e in
+    λ u. record { width = eqb-true (getD ws (pairAt g k) 0) 0 (t .0) u; depth = eqb-true (getD ws (pairAt g k + 1) 0) 0 (t .1) u }
+
+pub windows-fit : (ws : List ℕ) (g : Settings) → hasWindows g ≡ true → windowsFit ws g ≡ true → WindowsFit g ws
+unfolding windowsFit cond
+windows-fit ws g has e =
+    let t = both-true (leb (getD ws (setAt g) 0) 1) _ (rw has at e) in
+    let u = both-true (all (sizesFit ws g)) (all (topsFit ws g)) (t .1) in
+    let sizes = all-holds (sizesFit ws g) (u .0) in
+    let tops = all-holds (topsFit ws g) (u .1) in
+    let live = liveOf ws g in
+    let most = leb-true live mostLive (sizes .1 .0) in
+    let pair : (k : ℕ) → k < mostLive → pairFit ws g k ≡ true = λ k l. allBelow-at mostLive (pairFit ws g) k l (sizes .1 .1 .1 .0) in
+    record {
+      set-most = leb-true _ _ (t .0);
+      live1 = leb-true _ _ (sizes .0);
+      live16 = most;
+      next = size-fits g _ (sizes .1 .1 .0);
+      size = λ k l. size-fits g _ (rw (lt-ltb k live l) at (pair k (omega arith)));
+      none = λ k l m. pair-none ws g k (rw (le-ltb k live l) at (pair k m));
+      low = leb-true _ _ (tops .0);
+      lead = eqb-true _ _ (tops .1 .0);
+    }
 
 body-fit : (ws : List ℕ) (h g : Settings) → settingsOf ws ≡ h → settingsFit h ≡ true → bodyChecked ws h ≡ Fit g → FitPool h ws × (h ≡ g)
-unfolding bodyChecked subsFit wordFit cond
+unfolding bodyChecked subsFit slotAt
 body-fit ws h g s limits e =
     let long = passed-not (ltb (length ws) (needed h)) tooFewWords _ g e in
-    let subs = passed (subsFit ws h) notFit _ g (long .1) in
-    let workers = passed (workersFit ws h) notFit _ g (subs .1) in (
+    let rest = passed (all (bodyFit ws h)) notFit _ g (long .1) in
+    let t = all-holds (bodyFit ws h) (rest .0) in
+    let worker : (i : ℕ) → i < h .workers → WorkerFits h (slotAt h ws (workerAt h i)) = λ i l. each-worker ws h i l (t .1 .1 .0) in (
       record {
         bounds = settings-bounds h limits;
         enough = ltb-false _ _ (long .0);
         settings = s;
-        sub = λ j l. sub-fits h _ _ (allBelow-at (h .width) _ j l (subs .0));
-        index = λ i l. ltb-true _ _ (worker-word ws h i indexWord l (word-lt (h .edition) _ (lit< tt)) (workers .0));
-        scan = λ i l. ltb-true _ _ (worker-word ws h i scanWord l (word-lt (h .edition) _ (lit< tt)) (workers .0));
+        sub = λ j l. sub-fits h _ _ _ (allBelow-at (h .width) _ j l (t .1 .0));
+        index = λ i l. worker i l .index;
+        scan = λ i l. worker i l .scan;
+        span = λ i l has past. span-fits h _ has past (worker i l .seen);
+        windows = λ has. windows-fit ws h has (t .0);
       },
-      fit-settings h g (workers .1),
+      fit-settings h g (rest .1),
     )
 
 -- what is checked fit has passed each test of the head, whatever number another edition would have had
 record Passed (ed : ℕ) (ws : List ℕ) (g : Settings) : Type 0 where
   long : ltb (length ws) headWords ≡ false
+  asked : settingsFit (inEdition ed (settingsOf ws)) ≡ true
   limits : settingsFit (settingsOf ws) ≡ true
   edition : eqb (settingsOf ws .edition) ed ≡ true
   body : bodyChecked ws (settingsOf ws) ≡ Fit g
@@ -120,14 +183,20 @@ passed-head : (other ed : ℕ) (ws : List ℕ) (g : Settings) → checkedBy othe
 unfolding checkedBy headChecked
 passed-head other ed ws g e =
     let long = passed-not (ltb (length ws) headWords) tooFewWords _ g e in
-    let limits = passed (settingsFit (settingsOf ws)) notFit _ g (long .1) in
-    let edition = passed (eqb (settingsOf ws .edition) ed) other _ g (limits .1) in
-    record { long = long .0; limits = limits .0; edition = edition .0; body = edition .1 }
+    let asked = passed (settingsFit (inEdition ed (settingsOf ws))) notFit _ g (long .1) in
+    let edition = passed (eqb (settingsOf ws .edition) ed) other _ g (asked .1) in
+    record {
+      long = long .0;
+      asked = asked .0;
+      limits = subst (λ (x : ℕ). settingsFit (inEdition x (settingsOf ws)) ≡ true) (sym (eqb-true _ _ (edition .0))) (asked .0);
+      edition = edition .0;
+      body = edition .1;
+    }
 
 -- so the check of a move's source finds fit what a call's does
 pub fit-with-other : (other other′ ed : ℕ) (ws : List ℕ) (g : Settings) → checkedBy other ed ws ≡ Fit g → checkedBy other′ ed ws ≡ Fit g
 unfolding checkedBy headChecked cond
-fit-with-other other other′ ed ws g e = let p = passed-head other ed ws g e in rw (p .long, p .limits, p .edition) (p .body)
+fit-with-other other other′ ed ws g e = let p = passed-head other ed ws g e in rw (p .long, p .asked, p .edition) (p .body)
 
 -- a pool that is checked fit
 pub fit-pool : (ed : ℕ) (ws : List ℕ) (g : Settings) → checkedOf ed ws ≡ Fit g → FitPool g ws
@@ -146,19 +215,30 @@ fit-head ed ws g e =
 pub fit-own : (ed : ℕ) (ws : List ℕ) (g : Settings) → checkedOf ed ws ≡ Fit g → checkedOf (g .edition) ws ≡ Fit g
 fit-own ed ws g e = subst (λ (x : ℕ). checkedOf x ws ≡ Fit g) (sym (fit-head ed ws g e .1)) e
 
-body-workers : (ws : List ℕ) (h g : Settings) → bodyChecked ws h ≡ Fit g → (workersFit ws h ≡ true) × (h ≡ g)
+-- the tests behind the settings, each
+pub record FitParts (g : Settings) (ws : List ℕ) : Type 0 where
+  pub windows : windowsFit ws g ≡ true
+  pub subs : subsFit ws g ≡ true
+  pub workers : workersFit ws g ≡ true
+
+body-parts : (ws : List ℕ) (h g : Settings) → bodyChecked ws h ≡ Fit g → FitParts h ws × (h ≡ g)
 unfolding bodyChecked
-body-workers ws h g e =
-    let workers = passed (workersFit ws h) notFit _ g (passed (subsFit ws h) notFit _ g (passed-not (ltb (length ws) (needed h)) tooFewWords _ g e .1) .1) in
-    (workers .0, fit-settings h g (workers .1))
+body-parts ws h g e =
+    let rest = passed (all (bodyFit ws h)) notFit _ g (passed-not (ltb (length ws) (needed h)) tooFewWords _ g e .1) in
+    let t = all-holds (bodyFit ws h) (rest .0) in
+    (record { windows = t .0; subs = t .1 .0; workers = t .1 .1 .0 }, fit-settings h g (rest .1))
+
+pub fit-parts : (ed : ℕ) (ws : List ℕ) (g : Settings) → checkedOf ed ws ≡ Fit g → FitParts g ws
+fit-parts ed ws g e =
+    let p = body-parts ws (settingsOf ws) g (passed-head notFit ed ws g e .body) in
+    subst (λ (h : Settings). FitParts h ws) (p .1) (p .0)
+
+pub fit-worker : (ed : ℕ) (ws : List ℕ) (g : Settings) → checkedOf ed ws ≡ Fit g → (i : ℕ) → i < g .workers → WorkerFits g (slotAt g ws (workerAt g i))
+fit-worker ed ws g e i l = each-worker ws g i l (fit-parts ed ws g e .workers)
 
 pub fit-number : (ed : ℕ) (ws : List ℕ) (g : Settings) → checkedOf ed ws ≡ Fit g → (i : ℕ) → i < g .workers → phaseFit (g .kind) (getD ws (workerAt g i) 0) ≡ true
-unfolding wordFit cond
-fit-number ed ws g e i l =
-    let p = body-workers ws (settingsOf ws) g (passed-head notFit ed ws g e .body) in
-    let workers : workersFit ws g ≡ true = subst (λ (h : Settings). workersFit ws h ≡ true) (p .1) (p .0) in
-    let z : workerAt g i + 0 ≡ workerAt g i = omega arith in
-    rw z at (worker-word ws g i phaseWord l (word-lt (g .edition) _ (lit< tt)) workers)
+unfolding slotAt
+fit-number ed ws g e i l = fit-worker ed ws g e i l .number
 
 -- a refusal's number is not 0, so 0 means that the pool is fit, and any other number is the refusal
 Numbered : Settings → Checked → Type 0
@@ -169,13 +249,13 @@ body-numbered : (ws : List ℕ) (g : Settings) → Numbered g (bodyChecked ws g)
 unfolding bodyChecked Numbered
 body-numbered ws g =
     cases (Numbered g) (ltb (length ws) (needed g)) _ _ (λ e. omega arith)
-    (λ e. cases (Numbered g) (subsFit ws g) _ _ (λ f. cases (Numbered g) (workersFit ws g) _ _ (λ h. refl) (λ h. omega arith)) (λ f. omega arith))
+    (λ e. cases (Numbered g) (all (bodyFit ws g)) _ _ (λ f. refl) (λ f. omega arith))
 
 numbered : (other ed : ℕ) (ws : List ℕ) → 1 ≤ other → Numbered (settingsOf ws) (checkedBy other ed ws)
 unfolding checkedBy headChecked Numbered
 numbered other ed ws l =
     cases (Numbered (settingsOf ws)) (ltb (length ws) headWords) _ _ (λ e. omega arith)
-    (λ e. cases (Numbered (settingsOf ws)) (settingsFit (settingsOf ws)) _ _
+    (λ e. cases (Numbered (settingsOf ws)) (settingsFit (inEdition ed (settingsOf ws))) _ _
     (λ f. cases (Numbered (settingsOf ws)) (eqb (settingsOf ws .edition) ed) _ _ (λ h. body-numbered ws (settingsOf ws)) (λ h. l))
     (λ f. omega arith))
 

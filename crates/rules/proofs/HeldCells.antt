@@ -1,20 +1,29 @@
--- K2's theorem: a sub's segments are exactly its held cells, once each, and the distance along them is the answers'. The list of their
--- cells is the list of the held rows' remainders (Ring), and R rows in a row have R different ones (words/Places).
+-- K2's theorem, and K8's: the segments of each live window are exactly the cells that a sub holds of it, once each, and the distance along them is
+-- the answers'. The list of their cells is the list of the rows' remainders (Ring), and R rows in a row have R different ones (words/Places). A sub
+-- holds nothing, or all that it holds lies within R rows above its level, the higher of its last taken row and the take window's bottom; so a band has
+-- at most R rows, and two bands of a sub share no cell, since each window's top is the next one's bottom.
 use Prim.Native.Nat.{ℕ, zero, suc, _+_, _-_, _%_, _^_, _≤_, _<_}
 use mathlib.Core.Path.{_≡_, refl, sym, ap, _∙_}
-use mathlib.Core.Logic.{_⊎_, inl, inr}
+use mathlib.Core.Logic.{_⊎_, inl, inr, ⊎-elim}
+use mathlib.Core.Bool.{Bool, true, false, false≢true}
 use mathlib.Core.List.{List, [], _∷_, List·Memᴰ, List·Memᴰ·head, List·Memᴰ·tail, List·Memᴰ·not-nil, List·Memᴰ·cases-cons}
+use native.Mathlib.Nat.{le-refl, le-trans, eq-or-lt-of-le}
+use native.Mathlib.Decide.{decLt}
 use native.Mathlib.Omega.{arith}
-use lib.ListN.{getD, length}
+use lib.ListN.{getD, length, length-append}
+use lib.Dec.{ltb}
+use borrow.Author.Tests.{ltb-true, ltb-false, eqb-true}
+use Rattle.laws.specs.Choice.{cond, cases, both-true}
 use Rattle.laws.specs.Wrap.{sub32}
-use Rattle.rules.specs.Layout.{cellOf, subCellsAt, firstOf, secondOf}
-use Rattle.rules.specs.Limits.{Bounds}
-use Rattle.rules.specs.Fit.{SubFits, FitPool}
-use Rattle.rules.specs.Held.{rowsBelow, rowsHeld, heldSub, heldBelow, heldBy, heldOf, distanceOf}
-use Rattle.rules.specs.Segments.{heldSegments, cellsOf, cellItems, walkedSub, walkedBelow, walkedDistance}
+use Rattle.rules.specs.Layout.{topAt, cellOf, subCellsAt, firstOf, secondOf}
+use Rattle.rules.specs.Limits.{windowed, Bounds}
+use Rattle.rules.specs.Windows.{hasWindows, liveOf, nthSize, bottomOf, higher, lower, levelOf}
+use Rattle.rules.specs.Fit.{WindowsFit, FitPool}
+use Rattle.rules.specs.Held.{Band, bandBetween, rowsBelow, subBand, windowBand, bandCount, bandOf, itemsAbove, heldBands, heldSub, heldBelow, heldBy, heldOf, distanceOf}
+use Rattle.rules.specs.Segments.{bandSegments, heldSegments, upFrom, cellsOf, cellItems, walkedBands, walkedSub, walkedBelow, walkedDistance}
 use Rattle.rules.specs.HeldCells.{HeldRow, HeldCells, HeldInSegments, WalkMeetsHeld, SameDistance, SameNumber}
 use Rattle.rules.proofs.Types.{Settings, Stamp}
-use Rattle.rules.proofs.Cells.{rows-pos, held-fits}
+use Rattle.rules.proofs.Cells.{rows-pos, held-order, band-fits, higher-right, lower-right, queue-below}
 use Rattle.rules.proofs.Fitness.{fit-pool}
 use Rattle.rules.proofs.Ring.{remainders, remainders-length, remainders-at, segments-cells, segments-within, above-cells}
 use Rattle.rules.proofs.words.Places.{ring-one}
@@ -36,80 +45,258 @@ place-mem [] k c l e = absurd (omega arith)
 place-mem (x ∷ xs) zero c l e = List·Memᴰ·head (sym e)
 place-mem (x ∷ xs) (suc k) c l e = List·Memᴰ·tail (place-mem xs k c (omega arith) e)
 
--- ---- a sub
-module _ (ws : List ℕ) (g : Settings) (j : ℕ) (b : Bounds g) (few : firstOf ws j < 2 ^ 32) (f : SubFits g (firstOf ws j) (secondOf ws j)) where
-  abbrev below : ℕ
-  below = rowsBelow g (secondOf ws j)
-
-  abbrev held : ℕ
-  held = rowsHeld g (firstOf ws j) (secondOf ws j)
-
+-- ---- a band of at most R rows, each a 32-bit word
+module _ (ws : List ℕ) (g : Settings) (j : ℕ) (x : Band) (b : Bounds g) (most : x .rows ≤ g .rows) (few : 1 ≤ x .rows → x .below + x .rows < 2 ^ 32) where
   abbrev cells : List ℕ
-  cells = cellsOf (heldSegments ws g j)
+  cells = cellsOf (bandSegments g x)
 
-  fits : (below + held ≡ firstOf ws j) × (held ≤ g .rows)
-  fits = let h = held-fits g _ _ f in (omega arith, h .1)
+  cells-are : cells ≡ remainders (g .rows) (x .below) (x .rows)
+  cells-are = segments-cells (g .rows) (x .below) (x .rows) (rows-pos g b) most
 
-  cells-are : cells ≡ remainders (g .rows) below held
-  cells-are = segments-cells (g .rows) below held (rows-pos g b) (fits .1)
+  number : length cells ≡ x .rows
+  number = ap length cells-are ∙ remainders-length (g .rows) (x .below) (x .rows)
 
-  number : length cells ≡ held
-  number = ap length cells-are ∙ remainders-length (g .rows) below held
+  -- place i has the cell of row below + i + 1
+  cell-at : (i : ℕ) → i < x .rows → getD cells i 0 ≡ (x .below + i + 1 - 1) % g .rows
+  cell-at i l =
+      let back : x .below + i ≡ x .below + i + 1 - 1 = omega arith in
+      ap (λ (xs : List ℕ). getD xs i 0) cells-are ∙ remainders-at (g .rows) (x .below) (x .rows) i l ∙ ap (λ (n : ℕ). n % g .rows) back
 
-  cell-of : (row : ℕ) → below < row → row ≤ firstOf ws j → cellOf g row ≡ (row - 1) % g .rows
-  cell-of row a u = let back : sub32 row 1 ≡ row - 1 = omega arith in ap (λ (x : ℕ). x % g .rows) back
-
-  -- place k has the cell of row below + k + 1
-  cell-at : (k : ℕ) → k < held → getD cells k 0 ≡ (below + k + 1 - 1) % g .rows
-  cell-at k l =
-      let back : below + k ≡ below + k + 1 - 1 = omega arith in
-      ap (λ (xs : List ℕ). getD xs k 0) cells-are ∙ remainders-at (g .rows) below held k l ∙ ap (λ (x : ℕ). x % g .rows) back
-
-  in-order : (k : ℕ) → k < held → getD cells k 0 ≡ cellOf g (below + k + 1)
-  in-order k l = cell-at k l ∙ sym (cell-of (below + k + 1) (omega arith) (omega (arith, fits .0)))
+  in-order : (i : ℕ) → i < x .rows → getD cells i 0 ≡ cellOf g (x .below + i + 1)
+  in-order i l =
+      let low = few (omega arith) in
+      let back : sub32 (x .below + i + 1) 1 ≡ x .below + i + 1 - 1 = omega arith in
+      cell-at i l ∙ sym (ap (λ (n : ℕ). n % g .rows) back)
 
   once : (a c : ℕ) → a < length cells → c < length cells → getD cells a 0 ≡ getD cells c 0 → a ≡ c
   once a c la lc e =
       let same = sym (cell-at a (omega (arith, number))) ∙ e ∙ cell-at c (omega (arith, number)) in
-      let inA : below + a + 1 ≤ below + g .rows = omega (arith, number, fits .1) in
-      let inC : below + c + 1 ≤ below + g .rows = omega (arith, number, fits .1) in
-      let row = ring-one (g .rows) below (below + a + 1) (below + c + 1) (rows-pos g b) (omega arith) inA (omega arith) inC same in
+      let inA : x .below + a + 1 ≤ x .below + g .rows = omega (arith, number) in
+      let inC : x .below + c + 1 ≤ x .below + g .rows = omega (arith, number) in
+      let row = ring-one (g .rows) (x .below) (x .below + a + 1) (x .below + c + 1) (rows-pos g b) (omega arith) inA (omega arith) inC same in
       omega arith
 
-  held-if : (c : ℕ) → List·Memᴰ c cells → (row : ℕ) × HeldRow ws g j row × (cellOf g row ≡ c)
-  held-if c m =
-      let k = mem-place cells c m in
-      let l : k .0 < held = omega (arith, number, k .1) in
-      (below + k .0 + 1, record { above = omega arith; up-to = omega (arith, fits .0) }, sym (in-order (k .0) l) ∙ k .2)
+  row-of : (c : ℕ) → List·Memᴰ c cells → (row : ℕ) × (x .below < row) × (row ≤ x .below + x .rows) × (cellOf g row ≡ c)
+  row-of c m =
+      let i = mem-place cells c m in
+      let l : i .0 < x .rows = omega (arith, number, i .1) in
+      (x .below + i .0 + 1, omega arith, omega arith, sym (in-order (i .0) l) ∙ i .2)
 
-  if-held : (c : ℕ) → (row : ℕ) × HeldRow ws g j row × (cellOf g row ≡ c) → List·Memᴰ c cells
-  if-held c r =
-      let k = r .0 - below - 1 in
-      let l : k < held = omega (arith, fits .0, r .1 .above, r .1 .up-to) in
-      let is : below + k + 1 ≡ r .0 = omega (arith, r .1 .above) in
-      place-mem cells k c (omega (arith, number)) (in-order k l ∙ ap (cellOf g) is ∙ r .2)
+  of-row : (c row : ℕ) → x .below < row → row ≤ x .below + x .rows → cellOf g row ≡ c → List·Memᴰ c cells
+  of-row c row a u e =
+      let i = row - x .below - 1 in
+      let l : i < x .rows = omega arith in
+      let is : x .below + i + 1 ≡ row = omega arith in
+      place-mem cells i c (omega (arith, number)) (in-order i l ∙ ap (cellOf g) is ∙ e)
+
+  items : cellItems ws (subCellsAt g j) cells ≡ itemsAbove ws g j (x .below) (x .rows)
+  unfolding itemsAbove upFrom
+  items = ap (cellItems ws (subCellsAt g j)) cells-are ∙ along (x .rows) few
+    where
+      along : (n : ℕ) → (1 ≤ n → x .below + n < 2 ^ 32) → cellItems ws (subCellsAt g j) (remainders (g .rows) (x .below) n) ≡ itemsAbove ws g j (x .below) n
+      along zero f = refl
+      along (suc n) f = above-cells ws g j (x .below) (suc n) (f (omega arith))
+
+-- ---- what a sub holds of a window
+items-length : (ws : List ℕ) (g : Settings) (j t k : ℕ) → length (itemsAbove ws g j t k) ≡ k
+unfolding itemsAbove
+items-length ws g j t zero = refl
+items-length ws g j t (suc k) = simp length-append (omega (arith, items-length ws g j t k))
+
+-- rows up to a bottom and rows above it
+gaps : (l p h q a b : ℕ) → l ≤ h → p ≤ h → p ≤ q → a ≤ p - l → b ≤ q - h → a + b ≤ q - l
+gaps l p h q a b u v w x y = omega arith
+
+lower-grows : (f b c : ℕ) → b ≤ c → lower f b ≤ lower f c
+lower-grows f b c l = omega arith
+
+higher-grows : (s b c : ℕ) → b ≤ c → higher s b ≤ higher s c
+higher-grows s b c l = omega arith
+
+stacked : (f s b c d m n : ℕ) → b ≤ c → c ≤ d → m ≤ lower f c - higher s b → n ≤ lower f d - higher s c → m + n ≤ lower f d - higher s b
+stacked f s b c d m n l h x y =
+    gaps (higher s b) (lower f c) (higher s c) (lower f d) m n (higher-grows s b c l) (le-trans (lower-right f c) (higher-right s c)) (lower-grows f c d h) x y
+
+-- each window's bottom is at or above the ones before it
+pub bottoms-grow : (ws : List ℕ) (g : Settings) (k l : ℕ) → k ≤ l → bottomOf ws g k ≤ bottomOf ws g l
+unfolding bottomOf
+bottoms-grow ws g k zero h = let z : k ≡ 0 = omega arith in rw z (le-refl _)
+bottoms-grow ws g k (suc l) h =
+    ⊎-elim
+    (λ (e : k ≡ suc l). rw e (le-refl _))
+    (λ (m : k < suc l). omega (arith, bottoms-grow ws g k l (omega arith)))
+    (eq-or-lt-of-le h)
+
+-- so none is above the put window's top
+pub bottom-most : (ws : List ℕ) (g : Settings) (k : ℕ) → WindowsFit g ws → k ≤ liveOf ws g → bottomOf ws g k ≤ getD ws topAt 0
+bottom-most ws g k fit l = omega (arith, bottoms-grow ws g k (liveOf ws g) l, fit .lead)
+
+-- the rows of x are the held ones of the live window k, at most R and all of them 32-bit words
+pub record Holding (ws : List ℕ) (g : Settings) (k j : ℕ) (x : Band) : Type 0 where
+  pub most : x .rows ≤ g .rows
+  pub few : 1 ≤ x .rows → x .below + x .rows < 2 ^ 32
+  pub each : (row : ℕ) → x .below < row → row ≤ x .below + x .rows → HeldRow ws g k j row
+  pub only : (row : ℕ) → HeldRow ws g k j row → (x .below < row) × (row ≤ x .below + x .rows)
+
+module _ (ws : List ℕ) (g : Settings) (j : ℕ) (few : firstOf ws j < 2 ^ 32) (fit : FitPool g ws) (l : j < g .width) where
+  -- where windows have no sizes of their own, all that it holds
+  whole-holding : (k : ℕ) → hasWindows g ≡ false → Holding ws g k j (subBand g (firstOf ws j) (secondOf ws j))
+  whole-holding k old =
+      let order = held-order g _ _ _ (fit .sub j l) in
+      record {
+        most = band-fits g _ _ _ old (fit .sub j l);
+        few = λ some. omega arith;
+        each = λ row a u. record { above = a; up-to = omega arith; window = λ has. absurd (false≢true (sym old ∙ has)) };
+        only = λ row h. (h .above, omega (arith, h .up-to));
+      }
+
+  module _ (has : hasWindows g ≡ true) where
+    queue : g .kind ≡ 0
+    queue = eqb-true _ _ (both-true (windowed g) _ has .1)
+
+    below-is : rowsBelow g (secondOf ws j) ≡ secondOf ws j
+    below-is = queue-below g queue (secondOf ws j)
+
+    -- a sub that holds something has at most R rows above its level
+    above-level : secondOf ws j < firstOf ws j → firstOf ws j ≤ higher (secondOf ws j) (bottomOf ws g 0) + g .rows
+    unfolding levelOf cond
+    above-level some = rw (both-true (windowed g) _ has .0) at (fit .sub j l .queue-rows queue (λ e. omega arith))
+
+    band-holding : (k : ℕ) → j < nthSize ws g k .width
+        → Holding ws g k j (bandBetween (higher (secondOf ws j) (bottomOf ws g k)) (lower (firstOf ws j) (bottomOf ws g (suc k))))
+    band-holding k wide =
+        record {
+          most = elim (decLt (secondOf ws j) (firstOf ws j)) [
+            | yes y ↦ omega (arith, above-level y, bottoms-grow ws g 0 k (omega arith))
+            | no n ↦ omega arith
+          ];
+          few = λ some. omega arith;
+          each = λ row a u.
+              record { above = omega (arith, below-is); up-to = omega arith; window = λ _. record { wide = wide; above = omega arith; up-to = omega arith } };
+          only = λ row h.
+              let w = h .window has in (omega (arith, below-is, h .above, w .above), omega (arith, below-is, h .above, w .above, h .up-to, w .up-to));
+        }
+
+    none-holding : (k : ℕ) → nthSize ws g k .width ≤ j → Holding ws g k j (bandBetween 0 0)
+    none-holding k narrow =
+        record {
+          most = omega arith;
+          few = λ some. omega arith;
+          each = λ row a u. absurd (omega arith);
+          only = λ row h. absurd (omega (arith, h .window has .wide));
+        }
+
+    window-holding : (k : ℕ) → Holding ws g k j (windowBand ws g j k)
+    window-holding k =
+        cases (Holding ws g k j) (ltb j (nthSize ws g k .width)) _ _ (λ e. band-holding k (ltb-true _ _ e)) (λ e. none-holding k (ltb-false _ _ e))
+
+    -- all bands together lie above the level, one above the other
+    band-rows : (k : ℕ) → windowBand ws g j k .rows ≤ lower (firstOf ws j) (bottomOf ws g (suc k)) - higher (secondOf ws j) (bottomOf ws g k)
+    band-rows k =
+        cases (λ (x : Band). x .rows ≤ lower (firstOf ws j) (bottomOf ws g (suc k)) - higher (secondOf ws j) (bottomOf ws g k)) (ltb j (nthSize ws g k .width)) _ _
+        (λ e. omega arith) (λ e. omega arith)
+
+    bands-rows : (m : ℕ) → length (heldBands ws g j m) ≤ lower (firstOf ws j) (bottomOf ws g m) - higher (secondOf ws j) (bottomOf ws g 0)
+    unfolding heldBands bandOf cond
+    bands-rows zero = omega arith
+    bands-rows (suc k) =
+        let more : length (heldBands ws g j (suc k)) ≡ length (heldBands ws g j k) + windowBand ws g j k .rows =
+        length-append (heldBands ws g j k) _ ∙ rw (has, items-length ws g j (windowBand ws g j k .below) (windowBand ws g j k .rows)) refl in
+        let low = bottoms-grow ws g 0 k (omega arith) in
+        let high = bottoms-grow ws g k (suc k) (omega arith) in
+        rw more (stacked (firstOf ws j) (secondOf ws j) (bottomOf ws g 0) (bottomOf ws g k) (bottomOf ws g (suc k)) _ _ low high (bands-rows k) (band-rows k))
+
+    bands-most : (m : ℕ) → length (heldBands ws g j m) ≤ g .rows
+    bands-most m = elim (decLt (secondOf ws j) (firstOf ws j)) [ yes y ↦ omega (arith, bands-rows m, above-level y) | no n ↦ omega (arith, bands-rows m) ]
+
+    -- a row held is held of one window, and the row of one cell alone
+    held-once : (k m row row′ : ℕ) → HeldRow ws g k j row → HeldRow ws g m j row′ → cellOf g row ≡ cellOf g row′ → k ≡ m
+    held-once k m row row′ h h′ e =
+        let w = h .window has in
+        let w′ = h′ .window has in
+        let level = above-level (omega (arith, below-is, h .above, h .up-to)) in
+        let lowest : bottomOf ws g 0 ≤ bottomOf ws g k = bottoms-grow ws g 0 k (omega arith) in
+        let lowest′ : bottomOf ws g 0 ≤ bottomOf ws g m = bottoms-grow ws g 0 m (omega arith) in
+        let back : sub32 row 1 ≡ row - 1 = omega (arith, below-is, h .above, h .up-to) in
+        let back′ : sub32 row′ 1 ≡ row′ - 1 = omega (arith, below-is, h′ .above, h′ .up-to) in
+        let same : (row - 1) % g .rows ≡ (row′ - 1) % g .rows = rw (back, back′) at e in
+        let one : row ≡ row′ =
+        ring-one (g .rows) (higher (secondOf ws j) (bottomOf ws g 0)) row row′ (rows-pos g (fit .bounds))
+        (omega (arith, below-is, h .above, w .above)) (omega (arith, h .up-to)) (omega (arith, below-is, h′ .above, w′ .above)) (omega (arith, h′ .up-to)) same in
+        elim (decLt k m) [
+          | yes y ↦ absurd (omega (arith, bottoms-grow ws g (suc k) m y, w .up-to, w′ .above))
+          | no n ↦ elim (decLt m k) [
+            | yes y ↦ absurd (omega (arith, bottoms-grow ws g (suc m) k y, w′ .up-to, w .above))
+            | no n′ ↦ omega arith
+          ]
+        ]
+
+  pub holding : (k : ℕ) → Holding ws g k j (bandOf ws g j k)
+  unfolding bandOf
+  holding k = cases (Holding ws g k j) (hasWindows g) _ _ (λ has. window-holding has k) (λ old. whole-holding k old)
+
+  -- a sub holds at most R items
+  pub sub-most : length (heldSub ws g j) ≤ g .rows
+  unfolding heldSub bandCount heldBands cond
+  sub-most = go (hasWindows g) refl
+    where
+      go : (b : Bool) → hasWindows g ≡ b → length (heldBands ws g j (cond b (liveOf ws g) 1)) ≤ g .rows
+      go true has = bands-most has (liveOf ws g)
+      go false old = omega (arith, items-length ws g j (bandOf ws g j 0 .below) (bandOf ws g j 0 .rows), holding 0 .most)
+
+  held-if : (k c : ℕ) → List·Memᴰ c (cellsOf (heldSegments ws g j k)) → (row : ℕ) × HeldRow ws g k j row × (cellOf g row ≡ c)
+  held-if k c m =
+      let h = holding k in
+      let r = row-of ws g j (bandOf ws g j k) (fit .bounds) (h .most) (h .few) c m in
+      (r .0, h .each (r .0) (r .1) (r .2), r .3)
+
+  if-held : (k c : ℕ) → (row : ℕ) × HeldRow ws g k j row × (cellOf g row ≡ c) → List·Memᴰ c (cellsOf (heldSegments ws g j k))
+  if-held k c r =
+      let h = holding k in
+      let o = h .only (r .0) (r .1) in
+      of-row ws g j (bandOf ws g j k) (fit .bounds) (h .most) (h .few) c (r .0) (o .0) (o .1) (r .2)
+
+  pub band-walked : (k : ℕ) → cellItems ws (subCellsAt g j) (cellsOf (heldSegments ws g j k)) ≡ itemsAbove ws g j (bandOf ws g j k .below) (bandOf ws g j k .rows)
+  band-walked k = let h = holding k in items ws g j (bandOf ws g j k) (fit .bounds) (h .most) (h .few)
+
+  held-cells : (k : ℕ) → HeldCells ws g k j (heldSegments ws g j k)
+  held-cells k =
+      let h = holding k in
+      let x = bandOf ws g j k in
+      record {
+        within = segments-within (g .rows) (x .below) (x .rows) (rows-pos g (fit .bounds)) (h .most);
+        exactly = λ c. (held-if k c, if-held k c);
+        once = once ws g j x (fit .bounds) (h .most) (h .few);
+        number = number ws g j x (fit .bounds) (h .most) (h .few);
+        in-order = in-order ws g j x (fit .bounds) (h .most) (h .few);
+        items = band-walked k;
+      }
+
+  -- no cell is in the runs of two windows
+  windows-apart : (k m c : ℕ) → k < bandCount ws g → m < bandCount ws g
+      → List·Memᴰ c (cellsOf (heldSegments ws g j k)) → List·Memᴰ c (cellsOf (heldSegments ws g j m)) → k ≡ m
+  unfolding bandCount cond
+  windows-apart k m c a b u v = go (hasWindows g) refl a b
+    where
+      go : (e : Bool) → hasWindows g ≡ e → k < cond e (liveOf ws g) 1 → m < cond e (liveOf ws g) 1 → k ≡ m
+      go true has p q = let r = held-if k c u in let t = held-if m c v in held-once has k m (r .0) (t .0) (r .1) (t .1) (r .2 ∙ sym (t .2))
+      go false old p q = omega arith
+
+  bands-walked : (m : ℕ) → walkedBands ws g j m ≡ heldBands ws g j m
+  unfolding walkedBands heldBands
+  bands-walked zero = refl
+  bands-walked (suc k) = rw (bands-walked k, band-walked k) refl
 
   pub sub-walked : walkedSub ws g j ≡ heldSub ws g j
   unfolding heldSub
-  sub-walked = ap (cellItems ws (subCellsAt g j)) cells-are ∙ above-cells ws g j below held (omega (arith, fits .0))
-
-  held-cells : HeldCells ws g j (heldSegments ws g j)
-  held-cells =
-      record {
-        within = segments-within (g .rows) below held (rows-pos g b) (fits .1);
-        exactly = λ c. (held-if c, if-held c);
-        once = once;
-        number = number;
-        in-order = in-order;
-        items = sub-walked;
-      }
+  sub-walked = bands-walked (bandCount ws g)
 
 -- ---- a pool
 module _ (ws : List ℕ) (g : Settings) (few : (j : ℕ) → firstOf ws j < 2 ^ 32) (fit : FitPool g ws) where
   walked-below : (m : ℕ) → m ≤ g .width → walkedBelow ws g m ≡ heldBelow ws g m
   unfolding walkedBelow heldBelow
   walked-below zero l = refl
-  walked-below (suc j) l = rw (walked-below j (omega arith), sub-walked ws g j (fit .bounds) (few j) (fit .sub j l)) refl
+  walked-below (suc j) l = rw (walked-below j (omega arith), sub-walked ws g j (few j) fit l) refl
 
   pub distance-walked : (s : Stamp) → walkedDistance ws g s ≡ distanceOf ws g s
   unfolding walkedDistance distanceOf
@@ -119,7 +306,7 @@ module _ (ws : List ℕ) (g : Settings) (few : (j : ℕ) → firstOf ws j < 2 ^ 
 pub held-in-segments : HeldInSegments
 held-in-segments ws g j image l =
     let fit = fit-pool (g .edition) ws g (image .fit) in
-    held-cells ws g j (fit .bounds) (image .words _) (fit .sub j l)
+    (λ k m. held-cells ws g j (image .words _) fit l k, windows-apart ws g j (image .words _) fit l)
 
 pub walk-meets-held : WalkMeetsHeld
 walk-meets-held ws g image = walked-below ws g (λ j. image .words _) (fit-pool (g .edition) ws g (image .fit)) (g .width) (omega arith)

@@ -9,34 +9,38 @@ use native.Mathlib.Decide.{ℕ-discrete}
 use native.Mathlib.Omega.{arith}
 use lib.Dec.{leb, eqb}
 use borrow.Author.Tests.{leb-true, leb-false, eqb-true}
+use Rattle.rules.specs.Full.{PlacesHeld, FullMeans}
+use Rattle.rules.proofs.machine.Slots.{has-queue}
+use Rattle.rules.specs.Worker.{slotAt}
+use Rattle.rules.specs.Windows.{sizeOf, hasWindows, nthSize, bottomOf}
+use Rattle.rules.specs.Layout.{settingsOf, workerAt, secondOf}
+use Rattle.rules.specs.Measures.{measured, seenSize, placesOf, measuresOf}
+use Rattle.laws.specs.Choice.{cond, cases, both}
 use Rattle.rules.specs.Answers.{numberOf, tooFewWords, notFit}
-use Rattle.rules.specs.Layout.{settingsOf}
-use Rattle.rules.specs.Limits.{settingsFit}
-use Rattle.rules.specs.Windows.{sizeOf}
-use Rattle.rules.specs.Measures.{measured, placesOf, measuresOf}
-use Rattle.rules.specs.Held.{Item, heldItems, countItems, isSpacer, passedOver, reported, passedOf, distanceOf}
+use Rattle.rules.specs.Limits.{settingsFit, windowed, sizeFit}
+use Rattle.rules.specs.Held.{Item, heldItems, countItems, isSpacer, passedOver, reported, passedOf, distanceOf, rowsBelow}
 use Rattle.rules.specs.Step.{ruleOf, checkedStep, stepOf}
 use Rattle.rules.specs.Sequential.{Contents, boundBy, leastBy, leastFull}
-use Rattle.rules.specs.Run.{Call, beginPut, beginTake, step, callOf, Event, measuresAt, eventOf, run, nothing, at, stampIn}
+use Rattle.rules.specs.Run.{Call, beginPut, beginTake, step, setSize, callOf, measuresAt, run, at, stampIn, Event, eventOf, nothing}
 use Rattle.rules.specs.Statement.{All}
 use Rattle.rules.specs.Newer.{exactRows}
 use Rattle.rules.specs.Spacers.{TakenWithin, TakesWithin, NoSpacer}
-use Rattle.rules.specs.Consequences.{wordsAfter, itemIn, itemsIn, hasStamp, OwnSizes, OwnPlaces, NoSumWraps}
-use Rattle.rules.proofs.Types.{Settings, Size, Putting, Taking, Effect, Outcome, Answer}
+use Rattle.rules.specs.Consequences.{wordsAfter, itemIn, itemsIn, hasStamp, NoSumWraps, OfEdition, OwnSizes, OwnPlaces}
+use Rattle.rules.proofs.Types.{Settings, Size, Putting, Taking, Effect, Outcome, Answer, Slot}
 use Rattle.rules.specs.declared.Outcome.the-variants.{Refused, Moving, Lost, Shifted, Raised, Dropped, Landed, Removed, Empty, Full}
 use Rattle.rules.specs.declared.Answer.the-variants.{Moving as Goes, Put, Taken, Empty as NoItem, Full as NoRoom, Refused as Stopped}
 use Rattle.rules.proofs.counts.Sums.{bit, bit-le}
 use Rattle.rules.proofs.order.Law.{Next}
 use Rattle.rules.proofs.Fitness.{settings-bounds}
-use Rattle.rules.proofs.Cells.{count-append, held-fits}
-use Rattle.rules.proofs.machine.Machine.{State, placesIn, viewIn, belowIn, applyIn, applyInBy, stepIn, nextIn}
-use Rattle.rules.proofs.machine.Calls.{Called, refuses, does, Steps, step-called, begin-called}
+use Rattle.rules.proofs.Cells.{count-append, held-order, queue-below}
+use Rattle.rules.proofs.machine.Machine.{State, viewIn, belowIn, applyIn, applyInBy, setSizeIn, nextIn, placesIn, stepIn}
+use Rattle.rules.proofs.machine.Calls.{Called, refuses, does, step-called, begin-called, Steps}
 use Rattle.rules.proofs.counts.Held.{count-none, held-count}
-use Rattle.rules.proofs.machine.Turns.{Common, Counts, Safe, Kind}
-use Rattle.rules.proofs.machine.Does.{SharedAfter, rule-in}
+use Rattle.rules.proofs.machine.Turns.{Common, Counts, Safe, Kind, FullAt, ItemIn}
+use Rattle.rules.proofs.machine.Does.{SharedAfter, sized-in, rule-in}
 use Rattle.rules.proofs.order.Given.{item-of, item-not}
 use Rattle.rules.proofs.Transfer.{NoSpacers, Related, related-fit, next-related, related-after}
-use Rattle.rules.proofs.words.Says.{held-same}
+use Rattle.rules.proofs.words.Says.{held-same, bottoms}
 use Rattle.rules.proofs.words.Stores.{view-same}
 use Rattle.rules.proofs.words.Told.{places-said}
 use Rattle.rules.proofs.words.Stays.{Numbered, step-numbered}
@@ -61,8 +65,8 @@ module _ (g : Settings) (limits : settingsFit g ≡ true) (k : Kind g) where
   held-listed : {ws : List ℕ} {s : State} (r : Rel ws s) (p : Item → Bool) → countItems p (heldItems ws g) ≡ countItems p (r .list .items)
   held-listed {ws} {s} r p =
       let order : (j : ℕ) → j < g .width → belowIn g s j ≤ s .first j =
-      λ j l. held-fits g (s .first j) (s .second j) (k .counts s (r .list) (r .whole .inv) .sub j l) .0 in
-      held-same g ws s (r .says) order (k .counts s (r .list) (r .whole .inv) .stamped) p ∙ sym (held-count (k .holding s (r .list) (r .whole .inv) .held) order p)
+      λ j l. held-order g _ (s .first j) (s .second j) (k .counts s (r .list) (r .whole .inv) .sub j l) in
+      held-same g ws s (r .says) (k .counts s (r .list) (r .whole .inv)) p ∙ sym (held-count (k .holding s (r .list) (r .whole .inv) .held) order p)
 
   pub accounted : {ws : List ℕ} {s : State} (r : Rel ws s) (cs : List Call) (p : Item → Bool)
       → countItems p (heldItems (wordsAfter (g .edition) ws cs) g) + countItems p (itemsIn 2 (run (g .edition) ws cs))
@@ -123,39 +127,72 @@ module _ (g : Settings) (limits : settingsFit g ≡ true) (k : Kind g) where
   each-step P none here r (beginPut j v ∷ cs) i zero e = let z : _≡_ {A = ℕ} 0 1 = cc in absurd (omega arith)
   each-step P none here r (beginTake j ∷ cs) i zero e = let z : _≡_ {A = ℕ} 0 1 = cc in absurd (omega arith)
   each-step P none here r (step j ∷ cs) i zero e = here _ _ r j
+  each-step P none here r (setSize width depth ∷ cs) i zero e = let z : _≡_ {A = ℕ} 0 1 = cc in absurd (omega arith)
   each-step P none here r (c ∷ cs) i (suc f) e = each-step P none here (next-related g limits k r c .related) cs i f e
 
   abbrev OwnSize : Event → Type 0
-  OwnSize e = numberOf (e .answer) ≡ 2 → e .measures .size ≡ sizeOf g
+  OwnSize e = hasWindows g ≡ false → numberOf (e .answer) ≡ 2 → e .measures .size ≡ sizeOf g
 
   abbrev OwnPlace : Event → Type 0
-  OwnPlace e = numberOf (e .answer) ≡ 4 → leastBy g (e .measures .places) ≡ leastFull g
+  OwnPlace e = hasWindows g ≡ false → numberOf (e .answer) ≡ 4 → leastBy g (e .measures .places) ≡ leastFull g
+
+  own-size : (x : Slot) → hasWindows g ≡ false → seenSize g x ≡ sizeOf g
+  unfolding seenSize cond
+  own-size x none = rw none refl
 
   step-size : (ws : List ℕ) (s : State) → Rel ws s → (i : ℕ) → OwnSize (eventOf ws (step i) (callOf (g .edition) ws (step i) .answer))
   unfolding measuresAt measuresOf callOf
-  step-size ws s r i two =
-      take-size (sizeOf (settingsOf ws)) (placesOf ws (settingsOf ws)) (stepOf (g .edition) ws i .answer) (numbered r i) two ∙ ap sizeOf (r .says .settings)
+  step-size ws s r i old two =
+      take-size _ (placesOf ws (settingsOf ws)) (stepOf (g .edition) ws i .answer) (numbered r i) two
+      ∙ ap (λ (h : Settings). seenSize h (slotAt h ws (workerAt h i))) (r .says .settings) ∙ own-size (slotAt g ws (workerAt g i)) old
 
-  full-here : (s : State) (q : Contents) → Common g s → k .Inv s q → (i : ℕ) → numberOf (stepIn g s i .answer) ≡ 4 → leastBy g (placesIn g s) ≡ leastFull g
+  full-here : (s : State) (q : Contents) → Common g s → k .Inv s q → (i : ℕ) → numberOf (stepIn g s i .answer) ≡ 4 → FullAt g s
   full-here s q common inv i four = by (step-called g s i)
     where
-      by : Called s (Steps g s i) (applyIn g s i (ruleOf g (viewIn g s i))) (stepIn g s i) → leastBy g (placesIn g s) ≡ leastFull g
+      by : Called s (Steps g s i) (applyIn g s i (ruleOf g (viewIn g s i))) (stepIn g s i) → FullAt g s
       by (refuses n l unable e) = let m = ap (λ (o : Next State). numberOf (o .answer)) e in absurd (omega arith)
       by (does able e) = k .full s q common inv i (sym (ap (λ (o : Next State). numberOf (o .answer)) e) ∙ four)
 
   step-places : (ws : List ℕ) (s : State) → Rel ws s → (i : ℕ) → OwnPlace (eventOf ws (step i) (callOf (g .edition) ws (step i) .answer))
   unfolding measuresAt measuresOf callOf nextIn
-  step-places ws s r i four =
+  step-places ws s r i old four =
       let same : stepOf (g .edition) ws i .answer ≡ stepIn g s i .answer = next-related g limits k r (step i) .answer in
-      let places = full-places (sizeOf (settingsOf ws)) (placesOf ws (settingsOf ws)) (stepOf (g .edition) ws i .answer) (numbered r i) four in
-      ap (leastBy g) (places ∙ ap (placesOf ws) (r .says .settings) ∙ places-said g s ws (r .says))
-      ∙ full-here s (r .list) (r .whole .common) (r .whole .inv) i (ap numberOf (sym same) ∙ four)
+      let places = full-places _ (placesOf ws (settingsOf ws)) (stepOf (g .edition) ws i .answer) (numbered r i) four in
+      ap (leastBy g) (places ∙ ap (placesOf ws) (r .says .settings) ∙ places-said g s ws (r .says) (λ has. k .counts s (r .list) (r .whole .inv) .windows has .fits))
+      ∙ full-here s (r .list) (r .whole .common) (r .whole .inv) i (ap numberOf (sym same) ∙ four) .own old
+
+  -- each place after the take window is held
+  places-held-at : {ws : List ℕ} {s : State} (r : Rel ws s) (i : ℕ) → hasWindows g ≡ true → numberOf (callOf (g .edition) ws (step i) .answer) ≡ 4 → PlacesHeld ws g
+  unfolding callOf nextIn
+  places-held-at {ws} {s} r i has four n j row one l h =
+      let counts = k .counts s (r .list) (r .whole .inv) in
+      let fits = counts .windows has .fits in
+      let win = r .says .windows has in
+      let inside : s .frame .head + n ≤ s .frame .tail = omega (arith, win .live, fits .order) in
+      let z : s .frame .head + suc n ≡ suc (s .frame .head + n) = omega arith in
+      let low : bottomOf ws g n ≡ s .frame .base (s .frame .head + n) = bottoms g s fits ws (r .says) has n (omega arith) in
+      let high : bottomOf ws g (suc n) ≡ s .frame .base (suc (s .frame .head + n)) = bottoms g s fits ws (r .says) has (suc n) (omega arith) ∙ ap (s .frame .base) z in
+      let wide : nthSize ws g n .width ≡ s .frame .wide (s .frame .head + n) = ap (λ (x : Size). x .width) (win .size n inside) in
+      let lj : j < g .width = omega (arith, h .wide, fits .size (s .frame .head + n) (omega arith) inside .width-most) in
+      let four′ : numberOf (stepIn g s i .answer) ≡ 4 = ap numberOf (sym (next-related g limits k r (step i) .answer)) ∙ four in
+      let p = full-here s (r .list) (r .whole .common) (r .whole .inv) i four′ .held has (s .frame .head + n) j row (omega arith) (record {
+        from-head = omega arith;
+        to-tail = inside;
+        wide = omega (arith, h .wide);
+        above = omega (arith, h .above);
+        up-to = omega (arith, h .up-to);
+      }) in
+      let taken : rowsBelow g (secondOf ws j) ≡ s .second j = queue-below g (has-queue g has) (secondOf ws j) ∙ r .says .second j lj in
+      record { above = rw taken (p .0); up-to = rw (r .says .first j lj) (p .1); window = λ has. h }
+
+  pub full-after : {ws : List ℕ} {s : State} → Rel ws s → (cs : List Call) → FullMeans g ws cs
+  full-after r cs i has four = places-held-at (related-after g limits k r cs .related) i has four
 
   pub sizes-at : {ws : List ℕ} {s : State} → Rel ws s → (cs : List Call) → OwnSizes g ws cs
-  sizes-at r cs = each-step OwnSize (λ e. absurd (omega arith)) step-size r cs
+  sizes-at r cs i f old e = each-step OwnSize (λ old e. absurd (omega arith)) step-size r cs i f e old
 
   pub places-at : {ws : List ℕ} {s : State} → Rel ws s → (cs : List Call) → OwnPlaces g ws cs
-  places-at r cs = each-step OwnPlace (λ e. absurd (omega arith)) step-places r cs
+  places-at r cs i f old e = each-step OwnPlace (λ old e. absurd (omega arith)) step-places r cs i f e old
 
   -- where no call begins a put of a spacer, none is held
   pub no-spacers-after : {ws : List ℕ} {s : State} (r : Rel ws s) → NoSpacers g limits k s (r .list) → (cs : List Call) → All NoSpacer cs
@@ -203,7 +240,7 @@ module _ (g : Settings) (limits : settingsFit g ≡ true) (k : Kind g) where
         mark = rw (says .mark) (safe .mark);
         first = λ j l. rw (says .first j l) (safe .first j l);
         second = λ j l. rw (says .second j l) (safe .second j l);
-        rule = λ i l. rw (view-same g ws s says i l (r .whole .common .slots i .index)) (safe .rule i);
+        rule = λ i l. rw (view-same g ws s says i l (r .whole .common .slots i .index) (λ has. counts .windows has .fits)) (safe .rule i);
       }
 
   pub safe-after : {ws : List ℕ} {s : State} → Rel ws s → (cs : List Call) → NoSumWraps g (wordsAfter (g .edition) ws cs)
@@ -213,7 +250,7 @@ module _ (g : Settings) (limits : settingsFit g ≡ true) (k : Kind g) where
   abbrev Fine : Next State → Type 0
   Fine o = (numberOf (o .answer) ≢ tooFewWords) × (numberOf (o .answer) ≢ notFit)
 
-  not-21 : (s : State) (i : ℕ) (e : Effect) (o : Outcome) → SharedAfter g (viewIn g s i) e o → numberOf (applyInBy g s i e o .answer) ≢ tooFewWords
+  not-21 : (s : State) (i : ℕ) (e : Effect) (o : Outcome) → SharedAfter g (viewIn g s i) (ItemIn g s i) e o → numberOf (applyInBy g s i e o .answer) ≢ tooFewWords
   unfolding applyInBy
   not-21 s i e (Refused n) (inl h) u = omega arith
   not-21 s i e (Refused n) (inr h) u = omega arith
@@ -231,7 +268,7 @@ module _ (g : Settings) (limits : settingsFit g ≡ true) (k : Kind g) where
   unfolding applyIn
   fine-rule s q common inv i = (
     not-21 s i (ruleOf g (viewIn g s i)) (ruleOf g (viewIn g s i) .outcome)
-        (rule-in g (settings-bounds g limits) s common i .shared),
+        (rule-in g (settings-bounds g limits) s common (sized-in g s (λ has. k .counts s q inv .windows has .fits)) i .shared),
     k .safe s q common inv .able i,
   )
 
@@ -239,16 +276,22 @@ module _ (g : Settings) (limits : settingsFit g ≡ true) (k : Kind g) where
   fine-called (refuses n l unable e) fine = rw e ((λ u. omega arith), (λ u. omega arith))
   fine-called (does able e) fine = rw e (fine able)
 
-  fine-call : (s : State) (q : Contents) → Common g s → k .Inv s q → (c : Call) → Fine (nextIn g s c)
-  unfolding nextIn
-  fine-call s q common inv (beginPut i v) = fine-called (begin-called g s i Putting v) (λ able. ((λ u. omega arith), (λ u. omega arith)))
-  fine-call s q common inv (beginTake i) = fine-called (begin-called g s i Taking 0) (λ able. ((λ u. omega arith), (λ u. omega arith)))
-  fine-call s q common inv (step i) = fine-called (step-called g s i) (λ able. fine-rule s q common inv i)
+  -- a size call of an edition that has it
+  fine-size : (s : State) → windowed g ≡ true → (size : Size) → Fine (setSizeIn g s size)
+  unfolding setSizeIn cond
+  fine-size s new size = rw new (cases Fine (both (eqb (g .kind) 0) (sizeFit g size)) _ _ (λ e. ((λ u. omega arith), (λ u. omega arith))) (λ e. ((λ u. omega arith), (λ u. omega arith))))
 
-  pub fine-at : {ws : List ℕ} {s : State} → Rel ws s → (cs : List Call) (f : ℕ)
+  fine-call : (s : State) (q : Contents) → Common g s → k .Inv s q → (c : Call) → OfEdition g c → Fine (nextIn g s c)
+  unfolding nextIn
+  fine-call s q common inv (beginPut i v) of = fine-called (begin-called g s i Putting v) (λ able. ((λ u. omega arith), (λ u. omega arith)))
+  fine-call s q common inv (beginTake i) of = fine-called (begin-called g s i Taking 0) (λ able. ((λ u. omega arith), (λ u. omega arith)))
+  fine-call s q common inv (step i) of = fine-called (step-called g s i) (λ able. fine-rule s q common inv i)
+  fine-call s q common inv (setSize width depth) of = fine-size s of (record { width = width; depth = depth })
+
+  pub fine-at : {ws : List ℕ} {s : State} → Rel ws s → (cs : List Call) (f : ℕ) → OfEdition g (at (run (g .edition) ws cs) f .call)
       → (numberOf (at (run (g .edition) ws cs) f .answer) ≢ tooFewWords) × (numberOf (at (run (g .edition) ws cs) f .answer) ≢ notFit)
   unfolding run
-  fine-at r [] f = ((λ u. omega arith), (λ u. omega arith))
-  fine-at {s = s} r (c ∷ cs) zero =
-      rw (next-related g limits k r c .answer) (fine-call s (r .list) (r .whole .common) (r .whole .inv) c)
-  fine-at r (c ∷ cs) (suc f) = fine-at (next-related g limits k r c .related) cs f
+  fine-at r [] f of = ((λ u. omega arith), (λ u. omega arith))
+  fine-at {s = s} r (c ∷ cs) zero of =
+      rw (next-related g limits k r c .answer) (fine-call s (r .list) (r .whole .common) (r .whole .inv) c of)
+  fine-at r (c ∷ cs) (suc f) of = fine-at (next-related g limits k r c .related) cs f of

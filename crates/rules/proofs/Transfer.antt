@@ -26,7 +26,7 @@ use Rattle.rules.proofs.Fitness.{settings-bounds}
 use Rattle.rules.proofs.machine.Machine.{State, nextIn, madeIn}
 use Rattle.rules.proofs.machine.Phases.{statusOf, idle-phase}
 use Rattle.rules.proofs.machine.Turns.{Common, Kind, Turned, statusIn, turn}
-use Rattle.rules.proofs.machine.Does.{common-next, common-made}
+use Rattle.rules.proofs.machine.Does.{sized-in, common-next, common-made}
 use Rattle.rules.proofs.order.Given.{Changed, unchanged-by, gives-changed}
 use Rattle.rules.proofs.words.Says.{Says}
 use Rattle.rules.proofs.words.Told.{measures-same}
@@ -69,7 +69,8 @@ module _ (g : Settings) (limits : settingsFit g ≡ true) (k : Kind g) where
   with-common m (wins i op u n l a b w h z) = wins i op u n l a b (rest w) (whole m h) z
 
   whole-turn : (s : State) (q : Contents) → Whole s q → (c : Call) → After s q c (nextIn g s c)
-  whole-turn s q h c = with-common (common-next g (settings-bounds g limits) s (h .common) c) (turn g k s q (h .common) (h .inv) c)
+  whole-turn s q h c =
+      with-common (common-next g (settings-bounds g limits) s (h .common) (sized-in g s (λ has. k .counts s q (h .inv) .windows has .fits)) c) (turn g k s q (h .common) (h .inv) c)
 
   -- ---- the list after a call
   -- no spacer is on the list, and none is under way
@@ -150,7 +151,8 @@ module _ (g : Settings) (limits : settingsFit g ≡ true) (k : Kind g) where
 
   -- so the pool is fit
   pub related-fit : {ws : List ℕ} {s : State} → Related ws s → checkedOf (g .edition) ws ≡ Fit g
-  related-fit {ws} {s} r = checked-fit g limits (settings-bounds g limits .kind1) ws s (r .says) (r .whole .common) (k .counts s (r .list) (r .whole .inv) .sub)
+  related-fit {ws} {s} r = checked-fit g limits (settings-bounds g limits .kind1) ws s (r .says) (r .whole .common) (λ has. k .counts s (r .list) (r .whole .inv) .windows has .fits)
+      (k .counts s (r .list) (r .whole .inv) .sub)
 
   -- the words after a call, with the list after it
   pub record Next-related (ws : List ℕ) (s : State) (q : Contents) (c : Call) : Type 0 where
@@ -166,7 +168,7 @@ module _ (g : Settings) (limits : settingsFit g ≡ true) (k : Kind g) where
       let f : Follows g (callOf (g .edition) ws c) (nextIn g s c) = follows g limits ws s (r .says) (h .common) (k .counts s (r .list) (h .inv)) c in
       let n = onward s (r .list) h c in
       let told : measuresAt ws c (callOf (g .edition) ws c .answer) ≡ nextIn g s c .measures =
-      ap (measuresAt ws c) (f .answer) ∙ measures-same g s ws (r .says) c in
+      ap (measuresAt ws c) (f .answer) ∙ measures-same g s ws (r .says) (λ has. k .counts s (r .list) (h .inv) .windows has .fits) c in
       record {
         answer = f .answer;
         measures = told;

@@ -5,6 +5,7 @@ pub use Rattle.rules.specs.declared.Side.the-variants.{Putting, Taking}
 pub use Rattle.rules.specs.declared.Phase.{Phase}
 pub use Rattle.rules.specs.declared.Phase.the-variants.{Idle, Window, QueuePutRead, QueueTakeRead, StackRead, Check, QueueCommit, StackCommit, QueueShift, StackShift, QueueConfirm, StackConfirm}
 pub use Rattle.rules.specs.declared.Size.{Size}
+pub use Rattle.rules.specs.declared.Sizes.{Sizes}
 pub use Rattle.rules.specs.declared.Span.{Span}
 pub use Rattle.rules.specs.declared.Version.{Version}
 pub use Rattle.rules.specs.declared.Row.{Row}

@@ -1,4 +1,4 @@
--- What is counted on the way through the segments: one cell more, the cells of a part of the words, two segments, one sub more.
+-- What is counted on the way through the segments: one cell more, the cells of a part of the words, two segments, one band more, one sub more.
 use Prim.Native.Nat.{ℕ, zero, suc, _+_, _*_, _≤_, _<_}
 use mathlib.Core.Path.{_≡_, refl, sym, ap, _∙_}
 use mathlib.Core.Bool.{Bool}
@@ -10,7 +10,7 @@ use lib.Seq.{getD-drop, getD-take}
 use Rattle.laws.specs.Choice.{cond}
 use Rattle.rules.specs.Layout.{cellWords, nthCellAt, stampAt}
 use Rattle.rules.specs.Held.{Item, cellItem, countItems}
-use Rattle.rules.specs.Segments.{upFrom, cellItems, walkedSub, walkedBelow}
+use Rattle.rules.specs.Segments.{upFrom, cellItems, walkedBand, walkedBands, walkedSub, walkedBelow}
 use Rattle.rules.specs.declared.Settings.{Settings}
 use Rattle.rules.proofs.Cells.{count-append}
 
@@ -50,6 +50,16 @@ cells-part ws n at start (suc k) h =
         getD-take n (drop (nthCellAt at start) ws) i 0 l
         ∙ getD-drop (nthCellAt at start) ws i 0
         ∙ ap (λ (x : ℕ). getD ws x 0) e
+
+-- ---- bands
+pub bands-none : (p : Item → Bool) (ws : List ℕ) (g : Settings) (j : ℕ) → countItems p (walkedBands ws g j 0) ≡ 0
+unfolding walkedBands countItems
+bands-none p ws g j = refl
+
+pub bands-more : (p : Item → Bool) (ws : List ℕ) (g : Settings) (j k : ℕ)
+    → countItems p (walkedBands ws g j (k + 1)) ≡ countItems p (walkedBands ws g j k) + countItems p (walkedBand ws g j k)
+unfolding walkedBands
+bands-more p ws g j k = rw (add-one k) (count-append p (walkedBands ws g j k) (walkedBand ws g j k))
 
 -- ---- subs
 pub subs-none : (p : Item → Bool) (ws : List ℕ) (g : Settings) → countItems p (walkedBelow ws g 0) ≡ 0

@@ -52,6 +52,10 @@ overBound = 30
 abbrev pub wrongEdition : ℕ
 wrongEdition = 31
 
+-- a size call: "a next size off limits, or one for a pile"
+abbrev pub offSize : ℕ
+offSize = 32
+
 -- ---- the answers
 abbrev pub numberOf : Answer → ℕ
 numberOf Moving = 0

@@ -1,12 +1,14 @@
 -- What an effect does to the words, and what it answers. A step not refused adds 1 to the step count.
-use Prim.Native.Nat.{ℕ}
+use Prim.Native.Nat.{ℕ, zero, suc, _+_, _-_, _*_}
 use mathlib.Core.List.{List}
 use lib.ListN.{getD, set}
 use lib.Dec.{ltb}
 use Rattle.laws.specs.Choice.{cond}
 use Rattle.laws.specs.Wrap.{add32}
 use Rattle.rules.specs.Answers.{Out, out, refuse}
-use Rattle.rules.specs.Layout.{stepsAt, putsAt, topAt, markAt, firstAt, secondAt, workerWords, lostWord, lostAt, cellAt, stampAt}
+use Rattle.rules.specs.Layout.{stepsAt, putsAt, topAt, markAt, firstAt, secondAt, workerWords, lostWord, lostAt, cellAt, stampAt, liveAt, pairWords, pairsAt, pairAt}
+use Rattle.rules.specs.Limits.{windowed, mostLive}
+use Rattle.rules.specs.Windows.{liveOf, nextSize}
 use Rattle.rules.specs.Worker.{putSlot}
 use Rattle.rules.specs.Held.{itemAt, distanceOf}
 use Rattle.rules.specs.declared.Settings.{Settings}
@@ -34,21 +36,34 @@ putLanded ws g j value row stamp e = putSub (set (putItem ws g j value row stamp
 unfoldable pub putShifted : List ℕ → Effect → List ℕ
 putShifted ws e = set (set ws topAt (e .top)) markAt (e .mark)
 
--- a queue's put window
-unfoldable pub putRaised : List ℕ → Effect → List ℕ
-putRaised ws e = set ws topAt (e .top)
+-- a queue's put window: from edition 2 on "a call sets the size of put windows from the next one on", and its pair is the last
+unfoldable pub pairAdded : List ℕ → Settings → List ℕ
+pairAdded ws g =
+    set (set (set ws (pairAt g (liveOf ws g)) (nextSize ws g .width)) (pairAt g (liveOf ws g) + 1) (nextSize ws g .depth)) (liveAt g) (liveOf ws g + 1)
 
--- and its take window
-unfoldable pub putDropped : List ℕ → Effect → List ℕ
-putDropped ws e = set ws markAt (e .mark)
+unfoldable pub putRaised : List ℕ → Settings → Effect → List ℕ
+putRaised ws g e = set (cond (windowed g) (pairAdded ws g) ws) topAt (e .top)
+
+-- and its take window, whose pair goes: each word of the pairs is the one a pair behind it, and the last pair is zero
+unfoldable pub wordsDown : List ℕ → ℕ → ℕ → List ℕ
+wordsDown ws at zero = ws
+wordsDown ws at (suc k) = set (wordsDown ws at k) (at + k) (getD ws (at + k + pairWords) 0)
+
+unfoldable pub pairGone : List ℕ → Settings → List ℕ
+pairGone ws g =
+    set (set (set (wordsDown ws (pairsAt g) (pairWords * (mostLive - 1))) (pairAt g (mostLive - 1)) 0) (pairAt g (mostLive - 1) + 1) 0)
+    (liveAt g) (liveOf ws g - 1)
+
+unfoldable pub putDropped : List ℕ → Settings → Effect → List ℕ
+putDropped ws g e = set (cond (windowed g) (pairGone ws g) ws) markAt (e .mark)
 
 -- one failed commit more, "modulo 2^32", in the editions that count them
 unfoldable pub countLost : List ℕ → Settings → ℕ → List ℕ
 countLost ws g at = cond (ltb lostWord (workerWords (g .edition))) (set ws (lostAt at) (add32 (getD ws (lostAt at) 0) 1)) ws
 
 -- the worker's words, and the step counted
-unfoldable pub putWorker : List ℕ → ℕ → Effect → List ℕ
-putWorker ws at e = putSlot (set ws stepsAt (add32 (getD ws stepsAt 0) 1)) at (e .slot)
+unfoldable pub putWorker : List ℕ → Settings → ℕ → Effect → List ℕ
+putWorker ws g at e = putSlot g (set ws stepsAt (add32 (getD ws stepsAt 0) 1)) at (e .slot)
 
 -- the stamp in the cell of a row
 abbrev pub stampInCell : List ℕ → Settings → ℕ → Row → Stamp
@@ -61,15 +76,15 @@ takenOf ws g j row =
 
 unfoldable pub applyBy : List ℕ → Settings → ℕ → ℕ → Effect → Outcome → Out
 applyBy ws g at j e (Stays n) = refuse n ws
-applyBy ws g at j e Moves = out Moving (putWorker ws at e)
-applyBy ws g at j e Lost = out Moving (putWorker (countLost ws g at) at e)
-applyBy ws g at j e Shifted = out Moving (putWorker (putShifted ws e) at e)
-applyBy ws g at j e Raised = out Moving (putWorker (putRaised ws e) at e)
-applyBy ws g at j e Dropped = out Moving (putWorker (putDropped ws e) at e)
-applyBy ws g at j e (Landed value row stamp) = out (Put value j row stamp) (putWorker (putLanded ws g j value row stamp e) at e)
-applyBy ws g at j e (Removed row) = out (takenOf ws g j row) (putWorker (putSub ws j e) at e)
-applyBy ws g at j e NoItem = out Empty (putWorker ws at e)
-applyBy ws g at j e NoRoom = out Full (putWorker ws at e)
+applyBy ws g at j e Moves = out Moving (putWorker ws g at e)
+applyBy ws g at j e Lost = out Moving (putWorker (countLost ws g at) g at e)
+applyBy ws g at j e Shifted = out Moving (putWorker (putShifted ws e) g at e)
+applyBy ws g at j e Raised = out Moving (putWorker (putRaised ws g e) g at e)
+applyBy ws g at j e Dropped = out Moving (putWorker (putDropped ws g e) g at e)
+applyBy ws g at j e (Landed value row stamp) = out (Put value j row stamp) (putWorker (putLanded ws g j value row stamp e) g at e)
+applyBy ws g at j e (Removed row) = out (takenOf ws g j row) (putWorker (putSub ws j e) g at e)
+applyBy ws g at j e NoItem = out Empty (putWorker ws g at e)
+applyBy ws g at j e NoRoom = out Full (putWorker ws g at e)
 
 -- an effect of the worker whose words start at `at` and whose sub is j
 unfoldable pub applyOf : List ℕ → Settings → ℕ → ℕ → Effect → Out

@@ -26,15 +26,15 @@ abbrev pub outOfSteps : List ℕ → Bool
 outOfSteps ws = leb stepLimit (getD ws stepsAt 0)
 
 -- 25, 27, then the worker whose words start at `at` is begun
-unfoldable pub slotBegin : List ℕ → ℕ → Side → ℕ → Out
-slotBegin ws at side value =
+unfoldable pub slotBegin : List ℕ → Settings → ℕ → Side → ℕ → Out
+slotBegin ws g at side value =
     cond (idleAt ws at)
-    (cond (outOfSteps ws) (refuse stepsSpent ws) (out Moving (putSlot ws at (fresh value (getD ws (indexAt at) 0) (Window side)))))
+    (cond (outOfSteps ws) (refuse stepsSpent ws) (out Moving (putSlot g ws at (fresh g value (getD ws (indexAt at) 0) (Window side)))))
     (refuse workerBusy ws)
 
 -- 24 first
 unfoldable pub fitBegin : List ℕ → Settings → ℕ → Side → ℕ → Out
-fitBegin ws g i side value = cond (leb (g .workers) i) (refuse noSuchWorker ws) (slotBegin ws (workerAt g i) side value)
+fitBegin ws g i side value = cond (leb (g .workers) i) (refuse noSuchWorker ws) (slotBegin ws g (workerAt g i) side value)
 
 unfoldable pub checkedBegin : List ℕ → Checked → ℕ → Side → ℕ → Out
 checkedBegin ws (Unfit n) i side value = refuse n ws

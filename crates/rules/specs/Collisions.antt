@@ -16,7 +16,7 @@ use Rattle.rules.specs.Layout.{workerWords, lostWord, workerAt, lostAt}
 use Rattle.rules.specs.Fit.{Fit, checkedOf}
 use Rattle.rules.specs.Effects.{viewOf, lastPut, lastTaken, subVersion}
 use Rattle.rules.specs.Step.{stepOf}
-use Rattle.rules.specs.Run.{Call, beginPut, beginTake, step, callOf}
+use Rattle.rules.specs.Run.{Call, beginPut, beginTake, step, setSize, callOf}
 use Rattle.rules.specs.Consequences.{wordsAfter, OfEveryRun}
 use Rattle.rules.specs.declared.Settings.{Settings}
 use Rattle.rules.specs.declared.Side.the-variants.{Putting, Taking}
@@ -53,6 +53,7 @@ abbrev pub fails : Settings → List ℕ → ℕ → Call → Bool
 fails g ws i (beginPut j v) = false
 fails g ws i (beginTake j) = false
 fails g ws i (step j) = both (eqb j i) (both (leb (numberOf (stepOf (g .edition) ws j .answer)) 4) (findsOther g ws j))
+fails g ws i (setSize width depth) = false
 
 -- "its failed commits": how many of the calls of a list do, from given words on
 unfoldable pub failedCommits : Settings → List ℕ → ℕ → List Call → ℕ

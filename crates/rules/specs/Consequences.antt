@@ -2,19 +2,21 @@
 use Prim.Native.Nat.{ℕ, _+_, _*_, _^_, _≤_, _<_}
 use mathlib.Core.Path.{_≡_}
 use mathlib.Core.Logic.{_≢_}
-use mathlib.Core.Bool.{Bool}
+use mathlib.Core.Bool.{Bool, true, false}
 use mathlib.Core.List.{List, [], _∷_, _++_, List·Memᴰ}
 use lib.ListN.{getD}
 use lib.Dec.{eqb}
+use Rattle.rules.specs.declared.Size.{Size}
 use Rattle.laws.specs.Choice.{cond}
 use Rattle.rules.specs.Answers.{tooFewWords, notFit, numberOf}
 use Rattle.rules.specs.Layout.{stepsAt, putsAt, topAt, markAt, firstOf, secondOf, workerAt}
 use Rattle.rules.specs.Effects.{viewOf, takeWindow, stackWindow, windowVersion, lastPut, lastTaken, itemsHeld, subVersion}
-use Rattle.rules.specs.Windows.{sizeOf}
+use Rattle.rules.specs.Windows.{sizeOf, levelOf, hasWindows}
+use Rattle.rules.specs.Limits.{windowed, deepest}
 use Rattle.rules.specs.Held.{Item, heldItems, countItems}
 use Rattle.rules.specs.Make.{makeOf}
 use Rattle.rules.specs.Sequential.{boundBy, leastBy, leastFull}
-use Rattle.rules.specs.Run.{Call, step, callOf, Event, run, at, valueIn, stampIn, distanceIn}
+use Rattle.rules.specs.Run.{Call, beginPut, beginTake, step, setSize, callOf, Event, run, at, valueIn, stampIn, distanceIn}
 use Rattle.rules.specs.Statement.{Placement, OneAtATimeWithin}
 use Rattle.rules.specs.declared.Settings.{Settings}
 use Rattle.rules.specs.declared.Side.the-variants.{Putting, Taking}
@@ -67,16 +69,26 @@ WithinBound each g ws cs =
     (i f : ℕ) → at (run (g .edition) ws cs) f .call ≡ step i → numberOf (at (run (g .edition) ws cs) f .answer) ≡ 2
     → DistanceWithin each g (at (run (g .edition) ws cs) f)
 
--- that window has the pool's size
+-- where windows have no sizes of their own, that window has the pool's size
 abbrev pub OwnSizes : Settings → List ℕ → List Call → Type 0
 OwnSizes g ws cs =
-    (i f : ℕ) → at (run (g .edition) ws cs) f .call ≡ step i → numberOf (at (run (g .edition) ws cs) f .answer) ≡ 2
+    (i f : ℕ) → hasWindows g ≡ false → at (run (g .edition) ws cs) f .call ≡ step i → numberOf (at (run (g .edition) ws cs) f .answer) ≡ 2
     → at (run (g .edition) ws cs) f .measures .size ≡ sizeOf g
+
+-- else it has the pool's size, or one that was set by a call that was not refused: whatever test these pass, it passes
+abbrev pub SetSizes : (Size → Bool) → List Event → Type 0
+SetSizes p es = (f width depth : ℕ) → at es f .call ≡ setSize width depth → numberOf (at es f .answer) ≡ 0 → p (record { width = width; depth = depth }) ≡ true
+
+abbrev pub SizesKnown : Settings → List ℕ → List Call → Type 0
+SizesKnown g ws cs =
+    (p : Size → Bool) → p (sizeOf g) ≡ true → SetSizes p (run (g .edition) ws cs)
+    → (i f : ℕ) → at (run (g .edition) ws cs) f .call ≡ step i → numberOf (at (run (g .edition) ws cs) f .answer) ≡ 2
+    → p (at (run (g .edition) ws cs) f .measures .size) ≡ true
 
 -- and "full" is answered with w (R - d) places after a queue's take window
 abbrev pub OwnPlaces : Settings → List ℕ → List Call → Type 0
 OwnPlaces g ws cs =
-    (i f : ℕ) → at (run (g .edition) ws cs) f .call ≡ step i → numberOf (at (run (g .edition) ws cs) f .answer) ≡ 4
+    (i f : ℕ) → hasWindows g ≡ false → at (run (g .edition) ws cs) f .call ≡ step i → numberOf (at (run (g .edition) ws cs) f .answer) ≡ 4
     → leastBy g (at (run (g .edition) ws cs) f .measures .places) ≡ leastFull g
 
 -- ---- an operation that finished before another began stands before it in the order
@@ -90,15 +102,16 @@ abbrev pub NoWrap : Settings → View → Phase → Type 0
 NoWrap g v Idle = Unit {0}
 -- window: nothing is added up
 NoWrap g v (Window side) = Unit {0}
--- read: what is read joins the sum, and a miss is counted; a queue's take counts a bare sub, a stack's looks above the seen window - d
+-- read: what is read joins the sum, and a miss is counted; a queue's take counts a bare sub, a stack's looks above the seen window - d. Where windows
+-- have sizes of their own, "these sums may pass 2^32 even in a pool from make"
 NoWrap g v (QueuePutRead window scan) = scan + 1 < 2 ^ 32
-NoWrap g v (QueueTakeRead window bare scan sum) = (sum + lastPut v < 2 ^ 32) × (bare + 1 < 2 ^ 32) × (scan + 1 < 2 ^ 32)
+NoWrap g v (QueueTakeRead window bare scan sum) = (windowed g ≡ false → sum + lastPut v < 2 ^ 32) × (bare + 1 < 2 ^ 32) × (scan + 1 < 2 ^ 32)
 NoWrap g v (StackRead side window version scan sum) = (sum + subVersion v .0 < 2 ^ 32) × (scan + 1 < 2 ^ 32) × (g .depth ≤ window)
 -- check: nothing is added up
 NoWrap g v (Check side version seen) = Unit {0}
--- commit: the counts change by one, and a put's stamp is the next; a queue's put looks at put - taken, a stack's take leaves held - 1
-NoWrap g v (QueueCommit Putting window seen) = (lastTaken v ≤ lastPut v) × (lastPut v + 1 < 2 ^ 32) × (v .puts + 1 < 2 ^ 32)
-NoWrap g v (QueueCommit Taking window seen) = lastTaken v + 1 < 2 ^ 32
+-- commit: the row is the next above a level, or the counts change by one, and a put's stamp is the next; a stack's take leaves held - 1
+NoWrap g v (QueueCommit Putting window seen) = (lastTaken v ≤ lastPut v) × (levelOf g (lastPut v) (window .bottom) + 1 < 2 ^ 32) × (v .puts + 1 < 2 ^ 32)
+NoWrap g v (QueueCommit Taking window seen) = levelOf g (lastTaken v) (window .bottom) + 1 < 2 ^ 32
 NoWrap g v (StackCommit Putting seen) = (itemsHeld v + 1 < 2 ^ 32) × (subVersion v .0 + 1 < 2 ^ 32) × (v .puts + 1 < 2 ^ 32)
 NoWrap g v (StackCommit Taking seen) = (subVersion v .0 ≡ seen .0 → 1 ≤ itemsHeld v) × (subVersion v .0 + 1 < 2 ^ 32)
 -- shift: P and T grow by a window's depth, and a queue's put looks at the rows from the take window's bottom, which is T less that window's depth, to
@@ -120,12 +133,19 @@ pub record NoSumWraps (g : Settings) (ws : List ℕ) : Type 0 where
   pub first : (j : ℕ) → j < g .width → firstOf ws j + 1 < 2 ^ 32
   pub second : (j : ℕ) → j < g .width → secondOf ws j + 1 < 2 ^ 32
   -- P or G, and T or G's version
-  pub top : getD ws topAt 0 + 2 * g .depth < 2 ^ 32
-  pub mark : getD ws markAt 0 + g .depth < 2 ^ 32
+  pub top : getD ws topAt 0 + 2 * deepest < 2 ^ 32
+  pub mark : getD ws markAt 0 + deepest < 2 ^ 32
   -- what each worker's next step adds up or takes away
   pub rule : (i : ℕ) → i < g .workers → NoWrap g (viewOf ws g (workerAt g i)) (viewOf ws g (workerAt g i) .worker .phase)
 
 -- ---- no call finds the pool unfit, and no commit that matches is refused
+-- a call that an edition has: sizes are set from edition 2 on
+abbrev pub OfEdition : Settings → Call → Type 0
+OfEdition g (beginPut i v) = Unit {0}
+OfEdition g (beginTake i) = Unit {0}
+OfEdition g (step i) = Unit {0}
+OfEdition g (setSize width depth) = windowed g ≡ true
+
 abbrev pub NeverUnfit : Settings → List ℕ → List Call → Type 0
 NeverUnfit g ws cs =
-    (f : ℕ) → (numberOf (at (run (g .edition) ws cs) f .answer) ≢ tooFewWords) × (numberOf (at (run (g .edition) ws cs) f .answer) ≢ notFit)
+    (f : ℕ) → OfEdition g (at (run (g .edition) ws cs) f .call) → (numberOf (at (run (g .edition) ws cs) f .answer) ≢ tooFewWords) × (numberOf (at (run (g .edition) ws cs) f .answer) ≢ notFit)

@@ -47,10 +47,11 @@ DispatchNobody = (ws : List ℕ) (g : Settings) (i steps : ℕ) → checkedOf (g
 abbrev pub NamedFirst : Type 0
 NamedFirst = (ws : List ℕ) (g : Settings) (i : ℕ) → i < g .workers → getD ws (workerAt g i) 0 ≢ 0 → turnFrom ws g i ≡ Worker i
 
--- ---- where the count runs out, a dispatch from the worker named then goes on as one with a greater count would have
+-- ---- where the count runs out, a dispatch from the worker named then goes on as one with a greater count would have. Greater by 1 or more: a call checks
+-- its pool first, whatever its count, and the last step so far may have left a damaged pool unfit, where from edition 2 on it moved a queue's window
 abbrev pub DispatchGoesOn : Type 0
 DispatchGoesOn =
-    (e : ℕ) (ws : List ℕ) (i steps more next : ℕ) → dispatchOf e ws i steps .result ≡ RanOut next
+    (e : ℕ) (ws : List ℕ) (i steps more next : ℕ) → 1 ≤ more → dispatchOf e ws i steps .result ≡ RanOut next
     → dispatchOf e ws i (steps + more) ≡ dispatchOf e (dispatchOf e ws i steps .words) next more
 
 -- ---- a list of calls with dispatches among them comes to the words of a list of calls

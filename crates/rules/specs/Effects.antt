@@ -5,7 +5,7 @@ use lib.ListN.{getD}
 use lib.Dec.{eqb}
 use Rattle.laws.specs.Choice.{cond}
 use Rattle.rules.specs.Layout.{putsAt, topAt, markAt, indexAt, firstOf, secondOf}
-use Rattle.rules.specs.Windows.{ownSizes, spanOf}
+use Rattle.rules.specs.Windows.{sizesOf, spanOf}
 use Rattle.rules.specs.Worker.{slotAt, decode, encode, fresh}
 use Rattle.rules.specs.declared.Settings.{Settings}
 use Rattle.rules.specs.declared.Side.{Side}
@@ -29,12 +29,12 @@ viewOf ws g at =
     record {
       top = getD ws topAt 0;
       mark = getD ws markAt 0;
-      sizes = ownSizes g;
+      sizes = sizesOf ws g;
       puts = getD ws putsAt 0;
       first = firstOf ws (getD ws (indexAt at) 0);
       second = secondOf ws (getD ws (indexAt at) 0);
-      worker = decode g (slotAt ws at);
-      kept = slotAt ws at;
+      worker = decode g (slotAt g ws at);
+      kept = slotAt g ws at;
     }
 
 -- ---- the words of a view, by their names in the paper
@@ -46,7 +46,7 @@ putWindow v = spanOf (v .top) (v .sizes .put)
 abbrev pub takeWindow : View → Span
 takeWindow v = spanOf (v .mark) (v .sizes .take)
 
--- items put, and items taken: the last rows that were put into and taken from
+-- items put, and items taken; from edition 2 on "per-sub counts become last rows"
 abbrev pub lastPut : View → ℕ
 lastPut v = v .first
 
@@ -74,6 +74,7 @@ queueView v =
       take = takeWindow v;
       next = v .sizes .next .depth;
       after = v .sizes .after .depth;
+      live = v .sizes .live;
       «last_put» = lastPut v;
       «last_taken» = lastTaken v;
     }
@@ -116,16 +117,16 @@ abbrev pub workerOf : View → ℕ → Phase → Worker
 workerOf v index phase = record { value = v .worker .value; index = index; phase = phase }
 
 -- it goes on so; its words that the phase does not hold are as in `kept`
-abbrev pub movedOf : View → ℕ → Phase → Slot → Effect
-movedOf v index phase kept = keepOf v Moving (encode (workerOf v index phase) kept)
+abbrev pub movedOf : Settings → View → ℕ → Phase → Slot → Effect
+movedOf g v index phase kept = keepOf v Moving (encode g (workerOf v index phase) kept)
 
 -- "Restart" is the window phase, the worker's other words kept
-abbrev pub restartOf : View → ℕ → Side → Effect
-restartOf v index side = movedOf v index (Window side) (v .kept)
+abbrev pub restartOf : Settings → View → ℕ → Side → Effect
+restartOf g v index side = movedOf g v index (Window side) (v .kept)
 
 -- a final answer: the worker is idle, all its words zero but the index
-abbrev pub finishedOf : View → Outcome → ℕ → Effect
-finishedOf v outcome index = keepOf v outcome (fresh 0 index Idle)
+abbrev pub finishedOf : Settings → View → Outcome → ℕ → Effect
+finishedOf g v outcome index = keepOf v outcome (fresh g 0 index Idle)
 
 -- the answer of a pass that found no place: 4 for a put, 3 for a take
 abbrev pub nothingFor : Side → Outcome
@@ -144,4 +145,6 @@ withPass o extra scan sum =
       scan = scan;
       seen = o .seen;
       sum = sum;
+      bottom = o .bottom;
+      width = o .width;
     }

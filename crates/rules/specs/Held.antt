@@ -7,6 +7,7 @@ use lib.ListN.{getD, length}
 use lib.Dec.{ltb, eqb}
 use Rattle.laws.specs.Choice.{cond}
 use Rattle.rules.specs.Layout.{cellAt, stampAt, firstOf, secondOf}
+use Rattle.rules.specs.Windows.{hasWindows, liveOf, nthSize, bottomOf, higher, lower}
 use Rattle.rules.specs.Fit.{Checked, Unfit, Fit, checkedOf}
 use Rattle.rules.specs.declared.Settings.{Settings}
 use Rattle.rules.specs.declared.Stamp.{Stamp}
@@ -23,20 +24,47 @@ cellItem ws cell = record { value = getD ws cell 0; stamp = getD ws (stampAt cel
 abbrev pub itemAt : List ℕ → Settings → ℕ → ℕ → Item
 itemAt ws g j row = cellItem ws (cellAt g j row)
 
--- a sub's held rows are the `rowsHeld` ones above `rowsBelow`: in a queue those above the taken ones, in a stack all
+-- a sub's rows above `below`, so many
+pub record Band : Type 0 where
+  pub below : ℕ
+  pub rows : ℕ
+
+abbrev pub bandBetween : ℕ → ℕ → Band
+bandBetween low high = record { below = low; rows = high - low }
+
+-- all that a sub holds, by its two words: in a queue the rows above the taken ones, in a stack all
 abbrev pub rowsBelow : Settings → ℕ → ℕ
 rowsBelow g second = cond (eqb (g .kind) 0) second 0
 
-abbrev pub rowsHeld : Settings → ℕ → ℕ → ℕ
-rowsHeld g first second = first - rowsBelow g second
+abbrev pub subBand : Settings → ℕ → ℕ → Band
+subBand g first second = bandBetween (rowsBelow g second) first
+
+-- what it holds of a window: "a row of a sub at or below the take window's bottom, outside its window's width, or above the put window's top holds
+-- nothing"
+abbrev pub windowBand : List ℕ → Settings → ℕ → ℕ → Band
+windowBand ws g j k =
+    cond (ltb j (nthSize ws g k .width)) (bandBetween (higher (secondOf ws j) (bottomOf ws g k)) (lower (firstOf ws j) (bottomOf ws g (suc k))))
+    (bandBetween 0 0)
+
+-- where windows have sizes of their own, a band for each live one
+unfoldable pub bandCount : List ℕ → Settings → ℕ
+bandCount ws g = cond (hasWindows g) (liveOf ws g) 1
+
+unfoldable pub bandOf : List ℕ → Settings → ℕ → ℕ → Band
+bandOf ws g j k = cond (hasWindows g) (windowBand ws g j k) (subBand g (firstOf ws j) (secondOf ws j))
 
 -- the items of the k rows of sub j above row t
 unfoldable pub itemsAbove : List ℕ → Settings → ℕ → ℕ → ℕ → List Item
 itemsAbove ws g j t zero = []
 itemsAbove ws g j t (suc k) = itemsAbove ws g j t k ++ (itemAt ws g j (t + k + 1) ∷ [])
 
+-- the items of sub j in its bands below m
+unfoldable pub heldBands : List ℕ → Settings → ℕ → ℕ → List Item
+heldBands ws g j zero = []
+heldBands ws g j (suc k) = heldBands ws g j k ++ itemsAbove ws g j (bandOf ws g j k .below) (bandOf ws g j k .rows)
+
 unfoldable pub heldSub : List ℕ → Settings → ℕ → List Item
-heldSub ws g j = itemsAbove ws g j (rowsBelow g (secondOf ws j)) (rowsHeld g (firstOf ws j) (secondOf ws j))
+heldSub ws g j = heldBands ws g j (bandCount ws g)
 
 -- the items held in the subs below m
 unfoldable pub heldBelow : List ℕ → Settings → ℕ → List Item

@@ -1,16 +1,19 @@
 -- Paper 02, K2: "please let the distance take no remainder for each row, and go through a sub's held cells in at most two straight
 -- runs, up to the last cell and on from the first. Show that these runs are exactly its held cells, once each, and that no answer
--- changes."
+-- changes." K8: "a row of a sub at or below the take window's bottom, outside its window's width, or above the put window's top holds
+-- nothing, and K2's runs are then for each live window."
 -- The runs are `heldSegments`, the distance along them is `walkedDistance` (specs/Segments); the code's contracts cite both. The
 -- answers' own definition, over the held list, is `distanceOf` (specs/Held), and no rule names a segment.
-use Prim.Native.Nat.{ℕ, _+_, _^_, _≤_, _<_}
+use Prim.Native.Nat.{ℕ, suc, _+_, _^_, _≤_, _<_}
 use mathlib.Core.Path.{_≡_}
 use mathlib.Core.Logic.{_↔_}
 use mathlib.Core.List.{List, List·Memᴰ}
+use mathlib.Core.Bool.{true}
 use lib.ListN.{getD, length}
 use Rattle.rules.specs.Layout.{cellOf, subCellsAt, firstOf, secondOf}
+use Rattle.rules.specs.Windows.{hasWindows, nthSize, bottomOf}
 use Rattle.rules.specs.Fit.{Fit, checkedOf}
-use Rattle.rules.specs.Held.{rowsBelow, rowsHeld, heldSub, heldItems, heldOf, distanceOf}
+use Rattle.rules.specs.Held.{rowsBelow, bandOf, bandCount, itemsAbove, heldItems, heldOf, distanceOf}
 use Rattle.rules.specs.Segments.{Within, heldSegments, cellsOf, cellItems, walkedItems, walkedDistance}
 use Rattle.rules.specs.declared.Settings.{Settings}
 use Rattle.rules.specs.declared.Stamp.{Stamp}
@@ -22,28 +25,39 @@ pub record FitImage (ws : List ℕ) (g : Settings) : Type 0 where
   pub fit : checkedOf (g .edition) ws ≡ Fit g
 
 -- ---- the held cells of a sub
--- a row that sub j holds: in a queue above those taken and up to those put, in a stack from 1 up to those held
-pub record HeldRow (ws : List ℕ) (g : Settings) (j row : ℕ) : Type 0 where
+-- a row of sub j in the live window k: within its width, above its bottom and up to its top, which is the next one's bottom
+pub record InWindow (ws : List ℕ) (g : Settings) (k j row : ℕ) : Type 0 where
+  pub wide : j < nthSize ws g k .width
+  pub above : bottomOf ws g k < row
+  pub up-to : row ≤ bottomOf ws g (suc k)
+
+-- a row that sub j holds: in a queue above those taken and up to those put, in a stack from 1 up to those held; and of the live window k, where
+-- windows have sizes of their own
+pub record HeldRow (ws : List ℕ) (g : Settings) (k j row : ℕ) : Type 0 where
   pub above : rowsBelow g (secondOf ws j) < row
   pub up-to : row ≤ firstOf ws j
+  pub window : hasWindows g ≡ true → InWindow ws g k j row
 
--- x are the straight runs of the held cells of sub j
-pub record HeldCells (ws : List ℕ) (g : Settings) (j : ℕ) (x : Segments) : Type 0 where
+-- x are the straight runs of the held cells of sub j, of one live window
+pub record HeldCells (ws : List ℕ) (g : Settings) (k j : ℕ) (x : Segments) : Type 0 where
   -- "in at most two straight runs, up to the last cell and on from the first"
   pub within : Within (g .rows) x
   -- "exactly its held cells": a cell is in them if and only if it is that of a held row
-  pub exactly : (c : ℕ) → List·Memᴰ c (cellsOf x) ↔ ((row : ℕ) × HeldRow ws g j row × (cellOf g row ≡ c))
+  pub exactly : (c : ℕ) → List·Memᴰ c (cellsOf x) ↔ ((row : ℕ) × HeldRow ws g k j row × (cellOf g row ≡ c))
   -- "once each": no two places in their list have the same cell
   pub once : (a b : ℕ) → a < length (cellsOf x) → b < length (cellsOf x) → getD (cellsOf x) a 0 ≡ getD (cellsOf x) b 0 → a ≡ b
-  -- as many as the sub holds, in the order of their rows
-  pub number : length (cellsOf x) ≡ rowsHeld g (firstOf ws j) (secondOf ws j)
-  pub in-order : (k : ℕ) → k < rowsHeld g (firstOf ws j) (secondOf ws j) → getD (cellsOf x) k 0 ≡ cellOf g (rowsBelow g (secondOf ws j) + k + 1)
-  -- and the items in them are the sub's in the held list
-  pub items : cellItems ws (subCellsAt g j) (cellsOf x) ≡ heldSub ws g j
+  -- as many as the sub holds of it, in the order of their rows
+  pub number : length (cellsOf x) ≡ bandOf ws g j k .rows
+  pub in-order : (i : ℕ) → i < bandOf ws g j k .rows → getD (cellsOf x) i 0 ≡ cellOf g (bandOf ws g j k .below + i + 1)
+  -- and the items in them are the band's in the held list
+  pub items : cellItems ws (subCellsAt g j) (cellsOf x) ≡ itemsAbove ws g j (bandOf ws g j k .below) (bandOf ws g j k .rows)
 
--- of every fit image and every sub of it, queue and stack
+-- of every fit image and every sub of it, queue and stack; no cell is in the runs of two windows
 abbrev pub HeldInSegments : Type 0
-HeldInSegments = (ws : List ℕ) (g : Settings) (j : ℕ) → FitImage ws g → j < g .width → HeldCells ws g j (heldSegments ws g j)
+HeldInSegments =
+    (ws : List ℕ) (g : Settings) (j : ℕ) → FitImage ws g → j < g .width
+    → ((k : ℕ) → k < bandCount ws g → HeldCells ws g k j (heldSegments ws g j k))
+    × ((k l c : ℕ) → k < bandCount ws g → l < bandCount ws g → List·Memᴰ c (cellsOf (heldSegments ws g j k)) → List·Memᴰ c (cellsOf (heldSegments ws g j l)) → k ≡ l)
 
 -- ---- "no answer changes"
 -- the walk meets the held list, item by item in its order

@@ -82,11 +82,13 @@ firstOf ws j = getD ws (firstAt j) 0
 abbrev pub secondOf : List ℕ → ℕ → ℕ
 secondOf ws j = getD ws (secondAt j) 0
 
--- ---- the workers: phase, value, index, seen window, extra, scan, seen, sum; from edition 1 on "a ninth word, its failed commits since make"
+-- ---- the workers: phase, value, index, seen window, extra, scan, seen, sum; from edition 1 on "a ninth word, its failed commits since make"; from
+-- edition 2 on "each worker's seen bottom and width come after its ninth word"
 -- how many words a worker has, by edition
 unfoldable pub workerWords : ℕ → ℕ
 workerWords zero = 8
-workerWords (suc e) = 9
+workerWords (suc zero) = 9
+workerWords (suc (suc e)) = 11
 
 abbrev pub workersAt : Settings → ℕ
 workersAt g = headWords + subWords * g .width
@@ -127,6 +129,13 @@ slotWords = sumWord + 1
 abbrev pub lostWord : ℕ
 lostWord = slotWords
 
+-- the rest of the window seen
+abbrev pub bottomWord : ℕ
+bottomWord = lostWord + 1
+
+abbrev pub widthWord : ℕ
+widthWord = bottomWord + 1
+
 -- of the worker whose words start at `at`
 abbrev pub phaseAt : ℕ → ℕ
 phaseAt at = at
@@ -155,6 +164,12 @@ sumAt at = at + sumWord
 abbrev pub lostAt : ℕ → ℕ
 lostAt at = at + lostWord
 
+abbrev pub bottomAt : ℕ → ℕ
+bottomAt at = at + bottomWord
+
+abbrev pub seenWidthAt : ℕ → ℕ
+seenWidthAt at = at + widthWord
+
 -- ---- the cells: value, stamp
 abbrev pub cellWords : ℕ
 cellWords = 2
@@ -181,13 +196,46 @@ nthCellAt at c = at + cellWords * c
 abbrev pub stampAt : ℕ → ℕ
 stampAt cell = cell + 1
 
+-- ---- the windows, from edition 2 on: "after the cells next width, next depth, 1 once a size was set, the number of live windows, and 16 pairs of
+-- width and depth, from take window to put window, zero beyond"
+abbrev pub windowsAt : Settings → ℕ
+windowsAt g = cellsAt g + cellWords * (g .width * g .rows)
+
+abbrev pub nextWidthAt : Settings → ℕ
+nextWidthAt g = windowsAt g
+
+abbrev pub nextDepthAt : Settings → ℕ
+nextDepthAt g = windowsAt g + 1
+
+abbrev pub setAt : Settings → ℕ
+setAt g = windowsAt g + 2
+
+abbrev pub liveAt : Settings → ℕ
+liveAt g = windowsAt g + 3
+
+-- the pair of the live window k, from 0: width, depth
+abbrev pub pairsAt : Settings → ℕ
+pairsAt g = windowsAt g + 4
+
+abbrev pub pairWords : ℕ
+pairWords = 2
+
+abbrev pub pairAt : Settings → ℕ → ℕ
+pairAt g k = pairsAt g + pairWords * k
+
+-- how many they are
+unfoldable pub windowsWords : ℕ → ℕ
+windowsWords zero = 0
+windowsWords (suc zero) = 0
+windowsWords (suc (suc e)) = 36
+
 -- ---- how many words
 abbrev pub needed : Settings → ℕ
-needed g = cellsAt g + cellWords * (g .width * g .rows)
+needed g = windowsAt g + windowsWords (g .edition)
 
 -- enough for every pool of an edition
 abbrev pub mostWords : ℕ → ℕ
-mostWords e = headWords + subWords * widest + workerWords e * mostWorkers + cellWords * mostCells
+mostWords e = headWords + subWords * widest + workerWords e * mostWorkers + cellWords * mostCells + windowsWords e
 
 -- the words are enough, and those of a worker start at `at`
 pub record Lent (g : Settings) (ws : List ℕ) (at : ℕ) : Type 0 where

@@ -5,6 +5,7 @@ use mathlib.Core.Bool.{Bool, true}
 use lib.Dec.{ltb, leb, eqb}
 use Rattle.laws.specs.Choice.{cond, both, all}
 use Rattle.rules.specs.declared.Settings.{Settings}
+use Rattle.rules.specs.declared.Size.{Size}
 
 abbrev pub widest : ℕ
 widest = 16
@@ -34,12 +35,29 @@ limits g =
     leb (g .width * g .rows) mostCells ∷
     ltb (g .stride) (g .width) ∷ []
 
--- a queue has s = d, and R is a multiple of d
+-- the editions with windows that have sizes of their own: from 2 on
+unfoldable pub windowed : Settings → Bool
+windowed g = leb 2 (g .edition)
+
+-- a queue has s = d, and R is a multiple of d; from edition 2 on "R need no longer be a multiple of d"
 abbrev pub queueLimits : Settings → List Bool
-queueLimits g = eqb (g .shift) (g .depth) ∷ eqb (g .rows % g .depth) 0 ∷ []
+queueLimits g = eqb (g .shift) (g .depth) ∷ cond (windowed g) true (eqb (g .rows % g .depth) 0) ∷ []
 
 unfoldable pub settingsFit : Settings → Bool
 settingsFit g = both (all (limits g)) (cond (eqb (g .kind) 0) (all (queueLimits g)) true)
+
+-- "width (up to the pool's w) and depth (1 to 64, at most half of R)"
+abbrev pub sizeLimits : Settings → Size → List Bool
+sizeLimits g size =
+    leb 1 (size .width) ∷ leb (size .width) (g .width) ∷
+    leb 1 (size .depth) ∷ leb (size .depth) deepest ∷ leb (2 * size .depth) (g .rows) ∷ []
+
+unfoldable pub sizeFit : Settings → Size → Bool
+sizeFit g size = all (sizeLimits g size)
+
+-- so many windows are live at the most
+abbrev pub mostLive : ℕ
+mostLive = 16
 
 -- a pool takes so many steps
 abbrev pub stepLimit : ℕ

@@ -1,4 +1,5 @@
--- "Make": P = T = d, or G = d; worker i has index i mod w; all other needed words but the settings, the edition among them, are zero.
+-- "Make": P = T = d, or G = d; worker i has index i mod w; from edition 2 on a queue has its windows; all other needed words but the settings, the
+-- edition among them, are zero.
 use Prim.Native.Nat.{ℕ, zero, suc, _%_}
 use mathlib.Core.List.{List, [], _∷_}
 use lib.ListN.{set, length}
@@ -6,8 +7,9 @@ use lib.Seq.{sets}
 use lib.Dec.{ltb, eqb}
 use Rattle.laws.specs.Choice.{cond}
 use Rattle.rules.specs.Answers.{Out, out, refuse, tooFewWords, offLimits}
-use Rattle.rules.specs.Layout.{workerAt, indexAt, needed}
+use Rattle.rules.specs.Layout.{workerAt, indexAt, windowsAt, needed}
 use Rattle.rules.specs.Limits.{settingsFit}
+use Rattle.rules.specs.Windows.{hasWindows}
 use Rattle.rules.specs.declared.Settings.{Settings}
 use Rattle.rules.specs.declared.Answer.the-variants.{Moving}
 
@@ -43,13 +45,17 @@ abbrev pub newHead : Settings → List ℕ
 newHead g =
     g .kind ∷ g .width ∷ g .depth ∷ g .shift ∷ g .rows ∷ g .workers ∷ 0 ∷ 0 ∷ g .depth ∷ newMark g ∷ g .stride ∷ g .edition ∷ []
 
+-- the first words of its windows: "until then the size is the pool's", and one window is both put window and take window
+abbrev pub newWindows : Settings → List ℕ
+newWindows g = cond (hasWindows g) (g .width ∷ g .depth ∷ 0 ∷ 1 ∷ g .width ∷ g .depth ∷ []) []
+
 -- each worker below n has its index
 unfoldable pub indexed : List ℕ → Settings → ℕ → List ℕ
 indexed ws g zero = ws
 indexed ws g (suc i) = set (indexed ws g i) (indexAt (workerAt g i)) (i % g .width)
 
 unfoldable pub madeWords : List ℕ → Settings → List ℕ
-madeWords ws g = indexed (sets (zeroed ws (needed g)) 0 (newHead g)) g (g .workers)
+madeWords ws g = indexed (sets (sets (zeroed ws (needed g)) 0 (newHead g)) (windowsAt g) (newWindows g)) g (g .workers)
 
 -- 22, then 21
 unfoldable pub makeOf : List ℕ → Settings → Out

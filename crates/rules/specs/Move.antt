@@ -6,7 +6,7 @@ use mathlib.Core.List.{List}
 use lib.ListN.{getD, set, drop, length}
 use lib.Seq.{paste}
 use lib.Dec.{ltb}
-use Rattle.laws.specs.Choice.{cond}
+use Rattle.laws.specs.Choice.{cond, both}
 use Rattle.rules.specs.Answers.{Out, out, refuse, tooFewWords, wrongEdition}
 use Rattle.rules.specs.Layout.{editionAt, workerWords, workersAt, workerAt, cellWords, cellsAt, needed}
 use Rattle.rules.specs.Limits.{Bounds}
@@ -62,6 +62,6 @@ unfoldable pub checkedMove : ℕ → List ℕ → Checked → List ℕ → Out
 checkedMove b from (Unfit n) to = refuse n to
 checkedMove b from (Fit g) to = fitMove from g to (inEdition b g)
 
--- the answer, and the target's words: "A move answers 0 and leaves the source as it was"
+-- the answer, and the target's words: "A move answers 0 and leaves the source as it was". No move leads to edition 2 or back yet
 unfoldable pub moveOf : ℕ → ℕ → List ℕ → List ℕ → Out
-moveOf a b from to = checkedMove b from (sourceChecked a from) to
+moveOf a b from to = cond (both (ltb a 2) (ltb b 2)) (checkedMove b from (sourceChecked a from) to) (refuse wrongEdition to)

@@ -6,17 +6,19 @@ use lib.ListN.{getD}
 use Rattle.rules.specs.Answers.{Out, workerIdle, numberOf, fieldsOf}
 use Rattle.rules.specs.Begin.{beginPutOf, beginTakeOf}
 use Rattle.rules.specs.Step.{stepOf}
-use Rattle.rules.specs.Layout.{settingsOf}
+use Rattle.rules.specs.Resize.{setSizeOf}
+use Rattle.rules.specs.Layout.{settingsOf, workerAt}
 use Rattle.rules.specs.Measures.{Measures, noMeasures, measuresOf}
 use Rattle.rules.specs.Sequential.{Operation, putting, taking}
 use Rattle.rules.specs.declared.Answer.{Answer}
 use Rattle.rules.specs.declared.Answer.the-variants.{Refused}
 
--- the list has begin put, begin take and step, with any worker numbers and values
+-- the list has begin put, begin take and step, with any worker numbers and values; since paper 02's K8 the size call too, with any sizes
 pub data Call : Type 0 where
   beginPut : ℕ → ℕ → Call
   beginTake : ℕ → Call
   step : ℕ → Call
+  setSize : ℕ → ℕ → Call
 
 -- the begin of an operation by a worker
 abbrev pub begin : ℕ → Operation → Call
@@ -28,6 +30,7 @@ unfoldable pub callOf : ℕ → List ℕ → Call → Out
 callOf e ws (beginPut i v) = beginPutOf e ws i v
 callOf e ws (beginTake i) = beginTakeOf e ws i
 callOf e ws (step i) = stepOf e ws i
+callOf e ws (setSize width depth) = setSizeOf e ws (record { width = width; depth = depth })
 
 -- a call with its answer, and what its answer is held to
 pub record Event : Type 0 where
@@ -39,7 +42,8 @@ pub record Event : Type 0 where
 unfoldable pub measuresAt : List ℕ → Call → Answer → Measures
 measuresAt ws (beginPut i v) a = noMeasures
 measuresAt ws (beginTake i) a = noMeasures
-measuresAt ws (step i) a = measuresOf ws (settingsOf ws) a
+measuresAt ws (step i) a = measuresOf ws (settingsOf ws) (workerAt (settingsOf ws) i) a
+measuresAt ws (setSize width depth) a = noMeasures
 
 abbrev pub eventOf : List ℕ → Call → Answer → Event
 eventOf ws c a = record { call = c; answer = a; measures = measuresAt ws c a }

@@ -5,8 +5,8 @@ use mathlib.Core.Path.{_≡_}
 use mathlib.Core.List.{List, [], _∷_, _++_, map}
 use lib.Dec.{leb, eqb}
 use Rattle.laws.specs.Choice.{cond}
-use Rattle.rules.specs.Layout.{subCellsAt, nthCellAt, firstOf, secondOf}
-use Rattle.rules.specs.Held.{Item, cellItem, rowsBelow, rowsHeld, countItems, reported}
+use Rattle.rules.specs.Layout.{subCellsAt, nthCellAt}
+use Rattle.rules.specs.Held.{Item, cellItem, Band, bandOf, bandCount, countItems, reported}
 use Rattle.rules.specs.declared.Settings.{Settings}
 use Rattle.rules.specs.declared.Stamp.{Stamp}
 use Rattle.rules.specs.declared.Segment.{Segment}
@@ -34,12 +34,13 @@ segmentsFrom rows start held = cond (leb held (rows - start)) (only (segment sta
 unfoldable pub segmentsAbove : ℕ → ℕ → ℕ → Segments
 segmentsAbove rows below held = cond (eqb held 0) (only noCells) (segmentsFrom rows (below % rows) held)
 
--- those of a sub's held rows, by its two words
-abbrev pub subSegments : Settings → ℕ → ℕ → Segments
-subSegments g first second = segmentsAbove (g .rows) (rowsBelow g second) (rowsHeld g first second)
+-- those of a band
+abbrev pub bandSegments : Settings → Band → Segments
+bandSegments g b = segmentsAbove (g .rows) (b .below) (b .rows)
 
-abbrev pub heldSegments : List ℕ → Settings → ℕ → Segments
-heldSegments ws g j = subSegments g (firstOf ws j) (secondOf ws j)
+-- of what sub j holds: "K2's runs are then for each live window"
+abbrev pub heldSegments : List ℕ → Settings → ℕ → ℕ → Segments
+heldSegments ws g j k = bandSegments g (bandOf ws g j k)
 
 -- at most two straight runs in a ring of `rows` cells; one without cells is none
 pub record Within (rows : ℕ) (x : Segments) : Type 0 where
@@ -67,9 +68,17 @@ cellsOf x = segmentCells (x .first) ++ segmentCells (x .second)
 abbrev pub cellItems : List ℕ → ℕ → List ℕ → List Item
 cellItems ws at cells = map (λ c. cellItem ws (nthCellAt at c)) cells
 
--- the items that a walk through the segments of sub j meets
+-- the items that a walk through the segments of a band of sub j meets
+abbrev pub walkedBand : List ℕ → Settings → ℕ → ℕ → List Item
+walkedBand ws g j k = cellItems ws (subCellsAt g j) (cellsOf (heldSegments ws g j k))
+
+-- of its bands below m
+unfoldable pub walkedBands : List ℕ → Settings → ℕ → ℕ → List Item
+walkedBands ws g j zero = []
+walkedBands ws g j (suc k) = walkedBands ws g j k ++ walkedBand ws g j k
+
 abbrev pub walkedSub : List ℕ → Settings → ℕ → List Item
-walkedSub ws g j = cellItems ws (subCellsAt g j) (cellsOf (heldSegments ws g j))
+walkedSub ws g j = walkedBands ws g j (bandCount ws g)
 
 -- of the subs below m
 unfoldable pub walkedBelow : List ℕ → Settings → ℕ → List Item

@@ -12,7 +12,7 @@ use Rattle.rules.specs.Answers.{numberOf}
 use Rattle.rules.specs.Layout.{stepsAt}
 use Rattle.rules.specs.Limits.{stepLimit}
 use Rattle.rules.specs.Sequential.{Operation, putting, taking}
-use Rattle.rules.specs.Run.{Call, beginPut, beginTake, step, begin, callOf, Event, run, at, Final, StepOf}
+use Rattle.rules.specs.Run.{Call, beginPut, beginTake, step, setSize, begin, callOf, Event, run, at, Final, StepOf}
 use Rattle.rules.specs.Consequences.{wordsAfter, OfEveryRun}
 use Rattle.rules.specs.declared.Settings.{Settings}
 
@@ -43,7 +43,7 @@ pub record Begun (e : ℕ) (ws : List ℕ) (i : ℕ) (o : Operation) (n : ℕ) :
 abbrev pub afterBegin : ℕ → List ℕ → ℕ → Operation → List Call → List Event
 afterBegin e ws i o ds = run e (callOf e ws (begin i o) .words) ds
 
--- "whose worker alone steps": no step of another is taken. Begins of any worker, and refused calls, may stand between
+-- "whose worker alone steps": no step of another is taken. Begins of any worker, size calls, and refused calls, may stand between
 abbrev pub Solo : ℕ → List Event → Type 0
 Solo i es = (j p : ℕ) → StepOf es j p → j ≡ i
 
@@ -52,6 +52,7 @@ abbrev pub stepOfWorker : ℕ → Call → ℕ
 stepOfWorker i (beginPut j v) = 0
 stepOfWorker i (beginTake j) = 0
 stepOfWorker i (step j) = cond (eqb j i) 1 0
+stepOfWorker i (setSize width depth) = 0
 
 -- worker i's steps before position p
 unfoldable pub stepsBefore : ℕ → List Event → ℕ → ℕ

@@ -16,7 +16,7 @@ use Rattle.rules.specs.Apply.{stampInCell, takenOf}
 use Rattle.rules.specs.Held.{Item, isSpacer, passedOver, reported, countItems, passedOf, distanceOf}
 use Rattle.rules.specs.Measures.{Measures}
 use Rattle.rules.specs.Sequential.{taking, Contents, Fed, Given, give, boundBy, passedBy, reportedBy}
-use Rattle.rules.specs.Run.{Call, beginPut, beginTake, step, callOf, measuresAt, stampIn, distanceIn}
+use Rattle.rules.specs.Run.{Call, beginPut, beginTake, step, setSize, callOf, measuresAt, stampIn, distanceIn}
 use Rattle.rules.specs.Statement.{All}
 use Rattle.rules.specs.Consequences.{wordsAfter}
 use Rattle.rules.specs.declared.Settings.{Settings}
@@ -91,6 +91,7 @@ abbrev pub NoSpacer : Call → Type 0
 NoSpacer (beginPut i v) = v ≢ 0
 NoSpacer (beginTake i) = Unit {0}
 NoSpacer (step i) = Unit {0}
+NoSpacer (setSize width depth) = Unit {0}
 
 abbrev pub AllReported : Settings → List ℕ → List Call → Type 0
 AllReported g ws cs =

@@ -25,15 +25,15 @@ use Rattle.rules.specs.declared.Effect.{Effect}
 unfoldable pub ruleBy : Settings → View → Phase → Effect
 ruleBy g v Idle = refusedOf v workerIdle
 ruleBy g v (Window side) = windowRule g v side
-ruleBy g v (QueuePutRead window scan) = queuePutRead v window scan
-ruleBy g v (QueueTakeRead window bare scan sum) = queueTakeRead v window bare scan sum
+ruleBy g v (QueuePutRead window scan) = queuePutRead g v window scan
+ruleBy g v (QueueTakeRead window bare scan sum) = queueTakeRead g v window bare scan sum
 ruleBy g v (StackRead side window version scan sum) = stackRead g v side window version scan sum
-ruleBy g v (Check side version seen) = checkRule v side version seen
-ruleBy g v (QueueCommit side window seen) = queueCommit g v side seen
+ruleBy g v (Check side version seen) = checkRule g v side version seen
+ruleBy g v (QueueCommit side window seen) = queueCommit g v side window seen
 ruleBy g v (StackCommit side seen) = stackCommit g v side seen
 ruleBy g v (QueueShift side window) = queueShift g v side window
 ruleBy g v (StackShift side version scan sum) = stackShift g v side version scan sum
-ruleBy g v (QueueConfirm window scan sum) = queueConfirm v window scan sum
+ruleBy g v (QueueConfirm window scan sum) = queueConfirm g v window scan sum
 ruleBy g v (StackConfirm side scan sum) = stackConfirm g v side scan sum
 
 unfoldable pub ruleOf : Settings → View → Effect

@@ -1,6 +1,6 @@
 -- Paper 02, K6, the statements: "Old to new to old gives the needed words exactly, and operations under way go on: edition 0, by the rules before K5,
 -- and edition 1 give the same answers to the same later begins and steps." The move itself is in specs/Move; the rules before K5 are the same
--- definitions at edition 0.
+-- definitions at edition 0. All of it speaks of these two editions, in which every window has the pool's own size.
 use Prim.Native.Nat.{ℕ, zero, suc, _+_, _*_, _≤_, _<_}
 use mathlib.Core.Path.{_≡_}
 use mathlib.Core.Logic.{_≢_}
@@ -28,10 +28,13 @@ use Rattle.rules.specs.declared.Settings.{Settings}
 use Rattle.rules.specs.declared.Answer.the-variants.{Moving}
 
 -- ---- one pool in two areas
--- the pool of settings g in `ws` is the pool of settings h in `vs`, of another edition or of the same, but for the workers' cards, which no rule
--- reads: the words of the head but the edition, of the subs, of each worker up to its sum, and of the cells
+-- the pool of settings g in `ws` is the pool of settings h in `vs`, of the other of the two editions or of the same, but for the workers' cards,
+-- which no rule reads: the words of the head but the edition, of the subs, of each worker up to its sum, and of the cells
 pub record SamePool (g : Settings) (ws : List ℕ) (h : Settings) (vs : List ℕ) : Type 0 where
   pub same : h ≡ inEdition (h .edition) g
+  -- K6's editions: these words of a worker are then all that the rules read, and no word lies behind the cells
+  pub old-one : g .edition < 2
+  pub old-two : h .edition < 2
   pub settings-one : settingsOf ws ≡ g
   pub settings-two : settingsOf vs ≡ h
   pub enough-one : needed g ≤ length ws
@@ -86,7 +89,7 @@ pub record InStep (g : Settings) (ws : List ℕ) (h : Settings) (vs : List ℕ) 
   pub answers : run (h .edition) vs cs ≡ run (g .edition) ws cs
   pub later : SamePool g (wordsAfter (g .edition) ws cs) h (wordsAfter (h .edition) vs cs)
 
--- of all words, of pools that no make gave as well; and where both are of one edition, no answer depends on a card
+-- of all words, of pools that no make gave as well; and where both are of one edition, no answer depends on a card. A size call is refused in both
 abbrev pub Lockstep : Type 0
 Lockstep = (g : Settings) (ws : List ℕ) (h : Settings) (vs : List ℕ) (cs : List Call) → SamePool g ws h vs → InStep g ws h vs cs
 
@@ -155,12 +158,12 @@ pub record Unseen (g : Settings) (ws : List ℕ) (p : Place) (xs : List Act) : T
   pub ends : SamePool g (wordsAfter (g .edition) ws (callsIn xs)) (inEdition (placeOver p xs .edition) g) (placeOver p xs .words)
 
 abbrev pub MovesUnseen : Type 0
-MovesUnseen = (g : Settings) (ws : List ℕ) (xs : List Act) → checkedOf (g .edition) ws ≡ Fit g → Unseen g ws (here g ws) xs
+MovesUnseen = (g : Settings) (ws : List ℕ) (xs : List Act) → g .edition < 2 → checkedOf (g .edition) ws ≡ Fit g → Unseen g ws (here g ws) xs
 
--- a claim about a new pool of any edition, and any begins, steps and moves of it
+-- a claim about a new pool of edition 0 or 1, and any begins, steps and moves of it
 abbrev pub OfEveryTurnaround : (Settings → List ℕ → List Act → Type 0) → Type 0
 OfEveryTurnaround P =
-    (ws : List ℕ) (g : Settings) (xs : List Act) → numberOf (makeOf ws g .answer) ≡ 0 → P g (makeOf ws g .words) xs
+    (ws : List ℕ) (g : Settings) (xs : List Act) → g .edition < 2 → numberOf (makeOf ws g .answer) ≡ 0 → P g (makeOf ws g .words) xs
 
 -- whatever is so of the run of every list of calls on a new pool is so over any moves
 abbrev pub RunsOverMoves : Type 1

@@ -9,8 +9,10 @@ use Rattle.rules.specs.Move.{moveOf}
 use Rattle.rules.specs.Begin.{beginOf}
 use Rattle.rules.specs.Step.{stepOf}
 use Rattle.rules.specs.Dispatch.{dispatchOf}
+use Rattle.rules.specs.Resize.{setSizeOf}
 use Rattle.rules.specs.declared.Settings.{Settings}
 use Rattle.rules.specs.declared.Side.{Side}
+use Rattle.rules.specs.declared.Size.{Size}
 
 -- as many words as before, and those from `n` on as they were
 pub record Beyond (n : ℕ) (before after : List ℕ) : Type 0 where
@@ -25,6 +27,9 @@ BeginKeeps = (e : ℕ) (ws : List ℕ) (i : ℕ) (side : Side) (value : ℕ) →
 
 abbrev pub StepKeeps : Type 0
 StepKeeps = (e : ℕ) (ws : List ℕ) (i : ℕ) → Beyond (needed (settingsOf ws)) ws (stepOf e ws i .words)
+
+abbrev pub SetSizeKeeps : Type 0
+SetSizeKeeps = (e : ℕ) (ws : List ℕ) (size : Size) → Beyond (needed (settingsOf ws)) ws (setSizeOf e ws size .words)
 
 -- of a move's target; its source is lent for reading
 abbrev pub MoveKeeps : Type 0

@@ -1,4 +1,5 @@
--- "Window": the seen window becomes P, T or G; extra becomes G's version (stack) or 0; scan, seen and sum become 0; on to read.
+-- "Window": the seen window becomes P, T or G; extra becomes G's version (stack) or 0; scan, seen and sum become 0; on to read. From edition 2 on the seen
+-- window's bottom and width are stored with its top.
 use Prim.Native.Nat.{_%_}
 use lib.Dec.{eqb}
 use Rattle.laws.specs.Choice.{cond}
@@ -24,11 +25,11 @@ readFrom window Putting = QueuePutRead window 0
 readFrom window Taking = QueueTakeRead window 0 0 0
 
 -- "a worker whose index lies beyond it starts at index mod that width"
-abbrev pub queueSeen : View → Side → Span → Effect
-queueSeen v side window = movedOf v (v .worker .index % window .width) (readFrom window side) zeroSlot
+abbrev pub queueSeen : Settings → View → Side → Span → Effect
+queueSeen g v side window = movedOf g v (v .worker .index % window .width) (readFrom window side) zeroSlot
 
-abbrev pub stackSeen : View → Side → Effect
-stackSeen v side = movedOf v (v .worker .index) (StackRead side (stackWindow v) (windowVersion v) 0 0) zeroSlot
+abbrev pub stackSeen : Settings → View → Side → Effect
+stackSeen g v side = movedOf g v (v .worker .index) (StackRead side (stackWindow v) (windowVersion v) 0 0) zeroSlot
 
 unfoldable pub windowRule : Settings → View → Side → Effect
-windowRule g v side = cond (eqb (g .kind) 0) (queueSeen v side (windowFor (queueView v) side)) (stackSeen v side)
+windowRule g v side = cond (eqb (g .kind) 0) (queueSeen g v side (windowFor (queueView v) side)) (stackSeen g v side)

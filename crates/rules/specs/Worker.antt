@@ -5,7 +5,8 @@ use lib.ListN.{getD}
 use lib.Seq.{sets}
 use lib.Dec.{eqb}
 use Rattle.laws.specs.Choice.{cond}
-use Rattle.rules.specs.Layout.{phaseAt, valueAt, indexAt, windowAt, extraAt, scanAt, seenAt, sumAt}
+use Rattle.rules.specs.Layout.{phaseAt, valueAt, indexAt, windowAt, extraAt, scanAt, seenAt, sumAt, bottomAt, seenWidthAt}
+use Rattle.rules.specs.Limits.{windowed}
 use Rattle.rules.specs.Windows.{sizeOf, spanOf}
 use Rattle.rules.specs.declared.Settings.{Settings}
 use Rattle.rules.specs.declared.Side.{Side}
@@ -49,9 +50,9 @@ abbrev pub numberFor : Side → ℕ → ℕ
 numberFor side phase = sideBase side + phase
 
 -- ---- a worker's words
--- the words of a worker from `at` on, but for its failed commits
-unfoldable pub slotAt : List ℕ → ℕ → Slot
-slotAt ws at =
+-- the words of a worker from `at` on, but for its failed commits; those that the edition does not have are 0
+unfoldable pub slotAt : Settings → List ℕ → ℕ → Slot
+slotAt g ws at =
     record {
       number = getD ws (phaseAt at) 0;
       value = getD ws (valueAt at) 0;
@@ -61,22 +62,28 @@ slotAt ws at =
       scan = getD ws (scanAt at) 0;
       seen = getD ws (seenAt at) 0;
       sum = getD ws (sumAt at) 0;
+      bottom = cond (windowed g) (getD ws (bottomAt at) 0) 0;
+      width = cond (windowed g) (getD ws (seenWidthAt at) 0) 0;
     }
 
 -- in the order of their places
 abbrev pub wordsOf : Slot → List ℕ
 wordsOf s = s .number ∷ s .value ∷ s .index ∷ s .window ∷ s .extra ∷ s .scan ∷ s .seen ∷ s .sum ∷ []
 
-unfoldable pub putSlot : List ℕ → ℕ → Slot → List ℕ
-putSlot ws at s = sets ws at (wordsOf s)
+-- behind the failed commits
+abbrev pub seenWords : Slot → List ℕ
+seenWords s = s .bottom ∷ s .width ∷ []
+
+unfoldable pub putSlot : Settings → List ℕ → ℕ → Slot → List ℕ
+putSlot g ws at s = cond (windowed g) (sets (sets ws at (wordsOf s)) (bottomAt at) (seenWords s)) (sets ws at (wordsOf s))
 
 -- ---- the worker that they hold
 abbrev version : ℕ → Version
 version x = record { 0 = x }
 
--- the window that a queue's worker has seen
-abbrev pub seenBy : Settings → Slot → Span
-seenBy g s = spanOf (s .window) (sizeOf g)
+-- the window that a queue's worker has seen: in editions 0 and 1 by its top
+unfoldable pub seenBy : Settings → Slot → Span
+seenBy g s = cond (windowed g) (record { top = s .window; bottom = s .bottom; width = s .width }) (spanOf (s .window) (sizeOf g))
 
 -- the phase that a queue's worker is in; a queue has no 3, 6 or 11
 unfoldable pub queuePhase : Settings → Slot → Phase
@@ -116,26 +123,30 @@ abbrev pub decode : Settings → Slot → Worker
 decode g s = record { value = s .value; index = s .index; phase = phaseOf g s }
 
 -- ---- the words of a worker: those that its phase does not hold are as in `o`
-unfoldable pub encodePhase : Phase → ℕ → ℕ → Slot → Slot
-encodePhase Idle v x o = record { number = idlePhase; value = v; index = x; window = o .window; extra = o .extra; scan = o .scan; seen = o .seen; sum = o .sum }
-encodePhase (Window side) v x o = record { number = numberFor side windowPhase; value = v; index = x; window = o .window; extra = o .extra; scan = o .scan; seen = o .seen; sum = o .sum }
-encodePhase (QueuePutRead window scan) v x o = record { number = numberFor Putting readPhase; value = v; index = x; window = window .top; extra = o .extra; scan = scan; seen = o .seen; sum = o .sum }
-encodePhase (QueueTakeRead window bare scan sum) v x o = record { number = numberFor Taking readPhase; value = v; index = x; window = window .top; extra = bare; scan = scan; seen = o .seen; sum = sum }
-encodePhase (StackRead side window version scan sum) v x o = record { number = numberFor side readPhase; value = v; index = x; window = window; extra = version .0; scan = scan; seen = o .seen; sum = sum }
-encodePhase (Check side version seen) v x o = record { number = numberFor side checkPhase; value = v; index = x; window = o .window; extra = version .0; scan = o .scan; seen = seen .0; sum = o .sum }
-encodePhase (QueueCommit side window seen) v x o = record { number = numberFor side commitPhase; value = v; index = x; window = window .top; extra = o .extra; scan = o .scan; seen = seen; sum = o .sum }
-encodePhase (StackCommit side seen) v x o = record { number = numberFor side commitPhase; value = v; index = x; window = o .window; extra = o .extra; scan = o .scan; seen = seen .0; sum = o .sum }
-encodePhase (QueueShift side window) v x o = record { number = numberFor side shiftPhase; value = v; index = x; window = window .top; extra = o .extra; scan = o .scan; seen = o .seen; sum = o .sum }
-encodePhase (StackShift side version scan sum) v x o = record { number = numberFor side shiftPhase; value = v; index = x; window = o .window; extra = version .0; scan = scan; seen = o .seen; sum = sum }
-encodePhase (QueueConfirm window scan sum) v x o = record { number = numberFor Taking confirmPhase; value = v; index = x; window = window .top; extra = o .extra; scan = scan; seen = o .seen; sum = sum }
-encodePhase (StackConfirm side scan sum) v x o = record { number = numberFor side confirmPhase; value = v; index = x; window = o .window; extra = o .extra; scan = scan; seen = o .seen; sum = sum }
+-- the bottom and the width of a window seen, where the edition has words for them
+abbrev pub kept : Settings → ℕ → ℕ
+kept g x = cond (windowed g) x 0
 
-unfoldable pub encode : Worker → Slot → Slot
-encode k o = encodePhase (k .phase) (k .value) (k .index) o
+unfoldable pub encodePhase : Settings → Phase → ℕ → ℕ → Slot → Slot
+encodePhase g Idle v x o = record { number = idlePhase; value = v; index = x; window = o .window; extra = o .extra; scan = o .scan; seen = o .seen; sum = o .sum; bottom = o .bottom; width = o .width }
+encodePhase g (Window side) v x o = record { number = numberFor side windowPhase; value = v; index = x; window = o .window; extra = o .extra; scan = o .scan; seen = o .seen; sum = o .sum; bottom = o .bottom; width = o .width }
+encodePhase g (QueuePutRead window scan) v x o = record { number = numberFor Putting readPhase; value = v; index = x; window = window .top; extra = o .extra; scan = scan; seen = o .seen; sum = o .sum; bottom = kept g (window .bottom); width = kept g (window .width) }
+encodePhase g (QueueTakeRead window bare scan sum) v x o = record { number = numberFor Taking readPhase; value = v; index = x; window = window .top; extra = bare; scan = scan; seen = o .seen; sum = sum; bottom = kept g (window .bottom); width = kept g (window .width) }
+encodePhase g (StackRead side window version scan sum) v x o = record { number = numberFor side readPhase; value = v; index = x; window = window; extra = version .0; scan = scan; seen = o .seen; sum = sum; bottom = o .bottom; width = o .width }
+encodePhase g (Check side version seen) v x o = record { number = numberFor side checkPhase; value = v; index = x; window = o .window; extra = version .0; scan = o .scan; seen = seen .0; sum = o .sum; bottom = o .bottom; width = o .width }
+encodePhase g (QueueCommit side window seen) v x o = record { number = numberFor side commitPhase; value = v; index = x; window = window .top; extra = o .extra; scan = o .scan; seen = seen; sum = o .sum; bottom = kept g (window .bottom); width = kept g (window .width) }
+encodePhase g (StackCommit side seen) v x o = record { number = numberFor side commitPhase; value = v; index = x; window = o .window; extra = o .extra; scan = o .scan; seen = seen .0; sum = o .sum; bottom = o .bottom; width = o .width }
+encodePhase g (QueueShift side window) v x o = record { number = numberFor side shiftPhase; value = v; index = x; window = window .top; extra = o .extra; scan = o .scan; seen = o .seen; sum = o .sum; bottom = kept g (window .bottom); width = kept g (window .width) }
+encodePhase g (StackShift side version scan sum) v x o = record { number = numberFor side shiftPhase; value = v; index = x; window = o .window; extra = version .0; scan = scan; seen = o .seen; sum = sum; bottom = o .bottom; width = o .width }
+encodePhase g (QueueConfirm window scan sum) v x o = record { number = numberFor Taking confirmPhase; value = v; index = x; window = window .top; extra = o .extra; scan = scan; seen = o .seen; sum = sum; bottom = kept g (window .bottom); width = kept g (window .width) }
+encodePhase g (StackConfirm side scan sum) v x o = record { number = numberFor side confirmPhase; value = v; index = x; window = o .window; extra = o .extra; scan = scan; seen = o .seen; sum = sum; bottom = o .bottom; width = o .width }
+
+unfoldable pub encode : Settings → Worker → Slot → Slot
+encode g k o = encodePhase g (k .phase) (k .value) (k .index) o
 
 abbrev pub zeroSlot : Slot
-zeroSlot = record { number = 0; value = 0; index = 0; window = 0; extra = 0; scan = 0; seen = 0; sum = 0 }
+zeroSlot = record { number = 0; value = 0; index = 0; window = 0; extra = 0; scan = 0; seen = 0; sum = 0; bottom = 0; width = 0 }
 
 -- a worker whose other words are zero: one that has just begun, that has looked at the window, or that is idle again
-abbrev pub fresh : ℕ → ℕ → Phase → Slot
-fresh value index phase = encode (record { value = value; index = index; phase = phase }) zeroSlot
+abbrev pub fresh : Settings → ℕ → ℕ → Phase → Slot
+fresh g value index phase = encode g (record { value = value; index = index; phase = phase }) zeroSlot

@@ -11,7 +11,7 @@ pub struct Stamp(pub u32);
 pub struct Version(pub u32);
 
 // A pool's settings, words 0 to 5, 10 and 11. Kind 0 is a queue (paper 01's line), 1 a stack (its pile). The edition says how many words a
-// worker has.
+// worker has, and whether a queue's windows have sizes of their own.
 pub struct Settings {
     pub kind: u32,
     pub width: u32,
@@ -127,7 +127,8 @@ pub struct Worker {
     pub phase: Phase,
 }
 
-// A worker's words as they lie, but for its failed commits; `number` is the phase's.
+// A worker's words as they lie, but for its failed commits; `number` is the phase's. An edition that does not have the last two, of the
+// window seen, reads them as zero and drops them.
 pub struct Slot {
     pub number: u32,
     pub value: u32,
@@ -137,14 +138,18 @@ pub struct Slot {
     pub scan: u32,
     pub seen: u32,
     pub sum: u32,
+    pub bottom: u32,
+    pub width: u32,
 }
 
-// How large a queue's windows are: the put window, the take window, the one after it, and the next put window.
+// How large a queue's windows are: the put window, the take window, the one after it, and the next put window; and how many are live, from
+// the take window to the put window.
 pub struct Sizes {
     pub put: Size,
     pub take: Size,
     pub after: Size,
     pub next: Size,
+    pub live: u32,
 }
 
 // What a step may read. `top` is word 8, the top of a queue's put window or a stack's window; `mark` is word 9, the top of a queue's
@@ -162,13 +167,14 @@ pub struct View {
     pub kept: Slot,
 }
 
-// What a queue's rules read of a view: the two windows, how deep the next put window is and the window after the take window, and the
-// last rows of the sub.
+// What a queue's rules read of a view: the two windows, how deep the next put window is and the window after the take window, how many
+// windows are live, and the last rows of the sub.
 pub struct QueueView {
     pub put: Span,
     pub take: Span,
     pub next: u32,
     pub after: u32,
+    pub live: u32,
     pub last_put: u32,
     pub last_taken: u32,
 }

@@ -23,6 +23,8 @@ pub const OVER_BOUND: u32 = 30;
 
 pub const WRONG_EDITION: u32 = 31;
 
+pub const OFF_SIZE: u32 = 32;
+
 // The phases of a put; a take's are these and `TAKING`.
 pub const IDLE: u32 = 0;
 
@@ -55,6 +57,9 @@ pub const TAKE_CONFIRM: u32 = TAKING + CONFIRM;
 // The edition of the shipped calls.
 pub const SHIPPED: u32 = 1;
 
+// The first edition whose windows have sizes of their own.
+pub const WINDOWED: u32 = 2;
+
 // The limits of the settings, and of the step count.
 pub const WIDEST: u32 = 16;
 
@@ -65,5 +70,7 @@ pub const MOST_ROWS: u32 = 1024;
 pub const MOST_WORKERS: u32 = 32;
 
 pub const MOST_CELLS: u32 = 4096;
+
+pub const MOST_LIVE: u32 = 16;
 
 pub const STEP_LIMIT: u32 = 4000000000;

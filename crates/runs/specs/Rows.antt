@@ -9,7 +9,7 @@ use Rattle.rules.specs.Answers.{numberOf, fieldsOf}
 use Rattle.rules.specs.Layout.{needed, stepsAt}
 use Rattle.rules.specs.Limits.{settingsFit}
 use Rattle.rules.specs.Make.{makeOf}
-use Rattle.rules.specs.Run.{Call, beginPut, beginTake, step, Event, run}
+use Rattle.rules.specs.Run.{Call, beginPut, beginTake, step, setSize, Event, run}
 use Rattle.rules.specs.Statement.{All}
 use Rattle.rules.specs.declared.Settings.{Settings}
 
@@ -42,11 +42,14 @@ abbrev stepsAfter : (ℕ → ℕ) → Call → ℕ → ℕ → ℕ
 stepsAfter f (beginPut i v) n = cond (eqb n 0) (atWorker f i 0) f
 stepsAfter f (beginTake i) n = cond (eqb n 0) (atWorker f i 0) f
 stepsAfter f (step i) n = cond (leb n 4) (atWorker f i (f i + 1)) f
+stepsAfter f (setSize width depth) n = f
 
+-- a size is set by no worker: "listed with worker 0"
 abbrev workerOf : Call → ℕ
 workerOf (beginPut i v) = i
 workerOf (beginTake i) = i
 workerOf (step i) = i
+workerOf (setSize width depth) = 0
 
 abbrev lineFor : (ℕ → ℕ) → Event → List Line
 lineFor f e =

@@ -1,5 +1,6 @@
--- What a move leaves for a file: a refusal nothing, and one that answers 0 a fit pool, whose settings are within limits and whose needed words are there.
-use Prim.Native.Nat.{ℕ, _≤_}
+-- What a move leaves for a file: a refusal nothing, and one that answers 0 a fit pool of edition 0 or 1, whose settings are within limits and whose
+-- needed words are there.
+use Prim.Native.Nat.{ℕ, _≤_, _<_}
 use mathlib.Core.Path.{_≡_, refl, sym, subst}
 use mathlib.Core.List.{List, []}
 use lib.ListN.{length}
@@ -24,9 +25,15 @@ pub moved-bytes : (o : Out) → numberOf (o .answer) ≡ 0 → savedBy o ≡ sav
 unfolding savedBy cond
 moved-bytes o e = rw (eq-eqb (numberOf (o .answer)) 0 e) refl
 
+pub record MovedPool (vs : List ℕ) (h : Settings) : Type 0 where
+  pub bounds : Bounds h
+  pub old : h .edition < 2
+  pub enough : needed h ≤ length vs
+
 pub moved-pool : (a b : ℕ) (from to : List ℕ) → numberOf (moveOf a b from to .answer) ≡ 0
-    → Bounds (settingsOf (moveOf a b from to .words)) × (needed (settingsOf (moveOf a b from to .words)) ≤ length (moveOf a b from to .words))
+    → MovedPool (moveOf a b from to .words) (settingsOf (moveOf a b from to .words))
 moved-pool a b from to none =
     let vs = moveOf a b from to .words in
-    let pool = fit-pool b vs (inEdition b (settingsOf from)) (move-does a b from to none .fit-after) in
-    subst (λ (h : Settings). Bounds h × (needed h ≤ length vs)) (sym (pool .settings)) (pool .bounds, pool .enough)
+    let does = move-does a b from to none in
+    let pool = fit-pool b vs (inEdition b (settingsOf from)) (does .fit-after) in
+    subst (MovedPool vs) (sym (pool .settings)) (record { bounds = pool .bounds; old = does .pool .old-two; enough = pool .enough })

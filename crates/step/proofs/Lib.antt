@@ -1,1 +1,4 @@
 pub mod Seen
+pub mod Pairs
+pub mod Asked
+pub mod Moves

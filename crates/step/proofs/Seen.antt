@@ -1,56 +1,146 @@
--- What a step reads lies inside the windows that a rule goes by: every window is as wide as the pool, and so is the one that a worker has seen.
-use Prim.Native.Nat.{ℕ, _<_}
-use mathlib.Core.Bool.{Bool}
+-- The phase that a worker's words hold, case by case; and so what a step reads lies inside the windows that a rule goes by. A window that is live has a
+-- sub; the one that a queue's worker has seen has its index, which fitness asks where its width is among the words, and else it is as wide as the pool.
+use Prim.Native.Nat.{ℕ, _-_, _≤_, _<_}
+use mathlib.Core.Bool.{true}
 use mathlib.Core.List.{List}
+use mathlib.Core.Path.{_≡_, refl}
+use native.Mathlib.Omega.{arith}
+use lib.Dec.{eqb}
 use lib.ListN.{getD}
+use borrow.Author.Tests.{eqb-true, eq-eqb}
 use Rattle.laws.specs.Choice.{cond, cases}
 use Rattle.rules.specs.Layout.{indexAt}
-use Rattle.rules.specs.Limits.{Bounds}
-use Rattle.rules.specs.Worker.{slotAt, queuePhase, stackPhase, phaseOf}
+use Rattle.rules.specs.Limits.{windowed}
+use Rattle.rules.specs.Windows.{sizeOf, spanOf, hasWindows, liveOf, sizesIn, ownSizes, sizesOf}
+use Rattle.rules.specs.Fit.{FitPool, SpanFits, pastWindow}
+use Rattle.rules.specs.Worker.{windowPhase, readPhase, checkPhase, commitPhase, shiftPhase, confirmPhase, numberFor, seenBy, slotAt, queuePhase, stackPhase, phaseOf}
 use Rattle.rules.specs.Effects.{viewOf}
 use Rattle.rules.specs.declared.Settings.{Settings}
 use Rattle.rules.specs.declared.Slot.{Slot}
+use Rattle.rules.specs.declared.Sizes.{Sizes}
+use Rattle.rules.specs.declared.Span.{Span}
+use Rattle.rules.specs.declared.Side.{Side}
+use Rattle.rules.specs.declared.Side.the-variants.{Putting, Taking}
 use Rattle.rules.specs.declared.Phase.{Phase}
+use Rattle.rules.specs.declared.Phase.the-variants.{Idle, Window, QueuePutRead, QueueTakeRead, StackRead, Check, QueueCommit, StackCommit, QueueShift, StackShift, QueueConfirm, StackConfirm}
 use Rattle.phases.specs.Inside.{InWindow, Inside}
+use Rattle.step.specs.Asked.{askedBy, withSizes, asked}
 
-module _ (g : Settings) (s : Slot) (l : s .index < g .width) where
-  -- either phase is in its window
-  or : (b : Bool) (p q : Phase) → InWindow (s .index) p → InWindow (s .index) q → InWindow (s .index) (cond b p q)
-  or b p q hp hq = cases (InWindow (s .index)) b p q (λ _. hp) (λ _. hq)
+-- ---- the phases
+-- what is so of the phase that has a number, and of those behind it
+is : (P : Phase → Type 0) (s : Slot) (side : Side) (phase : ℕ) {p q : Phase}
+    → (s .number ≡ numberFor side phase → P p) → P q → P (cond (eqb (s .number) (numberFor side phase)) p q)
+is P s side phase {p} {q} f r = cases P (eqb (s .number) (numberFor side phase)) p q (λ e. f (eqb-true _ _ e)) (λ e. r)
 
-  queue-in : InWindow (s .index) (queuePhase g s)
-  unfolding queuePhase
-  queue-in =
-      or _ _ _ tt
-      (or _ _ _ l
-      (or _ _ _ tt
-      (or _ _ _ tt
-      (or _ _ _ tt
-      (or _ _ _ l
-      (or _ _ _ tt
-      (or _ _ _ tt
-      (or _ _ _ l tt))))))))
+-- what is so of each phase that a queue's number stands for
+pub record OfQueue (P : Phase → Type 0) (g : Settings) (s : Slot) : Type 0 where
+  pub window : (side : Side) → P (Window side)
+  pub put-read : s .number ≡ numberFor Putting readPhase → P (QueuePutRead (seenBy g s) (s .scan))
+  pub take-read : s .number ≡ numberFor Taking readPhase → P (QueueTakeRead (seenBy g s) (s .extra) (s .scan) (s .sum))
+  pub commit : (side : Side) → P (QueueCommit side (seenBy g s) (s .seen))
+  pub shift : (side : Side) → P (QueueShift side (seenBy g s))
+  pub confirm : s .number ≡ numberFor Taking confirmPhase → P (QueueConfirm (seenBy g s) (s .scan) (s .sum))
+  pub idle : P Idle
 
-  stack-in : InWindow (s .index) (stackPhase s)
-  unfolding stackPhase
-  stack-in =
-      or _ _ _ tt
-      (or _ _ _ tt
-      (or _ _ _ tt
-      (or _ _ _ tt
-      (or _ _ _ tt
-      (or _ _ _ tt
-      (or _ _ _ tt
-      (or _ _ _ tt
-      (or _ _ _ tt
-      (or _ _ _ tt
-      (or _ _ _ tt
-      (or _ _ _ tt tt)))))))))))
+queue-phase : (P : Phase → Type 0) (g : Settings) (s : Slot) → OfQueue P g s → P (queuePhase g s)
+unfolding queuePhase
+queue-phase P g s o =
+    is P s Putting windowPhase (λ e. o .window Putting)
+    (is P s Putting readPhase (o .put-read)
+    (is P s Putting commitPhase (λ e. o .commit Putting)
+    (is P s Putting shiftPhase (λ e. o .shift Putting)
+    (is P s Taking windowPhase (λ e. o .window Taking)
+    (is P s Taking readPhase (o .take-read)
+    (is P s Taking commitPhase (λ e. o .commit Taking)
+    (is P s Taking shiftPhase (λ e. o .shift Taking)
+    (is P s Taking confirmPhase (o .confirm) (o .idle)))))))))
 
-  phase-in : InWindow (s .index) (phaseOf g s)
-  unfolding phaseOf
-  phase-in = or _ _ _ queue-in stack-in
+pub record OfStack (P : Phase → Type 0) (s : Slot) : Type 0 where
+  pub window : (side : Side) → P (Window side)
+  pub read : (side : Side) → P (StackRead side (s .window) (record { 0 = s .extra }) (s .scan) (s .sum))
+  pub check : (side : Side) → P (Check side (record { 0 = s .extra }) (record { 0 = s .seen }))
+  pub commit : (side : Side) → P (StackCommit side (record { 0 = s .seen }))
+  pub shift : (side : Side) → P (StackShift side (record { 0 = s .extra }) (s .scan) (s .sum))
+  pub confirm : (side : Side) → P (StackConfirm side (s .scan) (s .sum))
+  pub idle : P Idle
 
-pub view-inside : (ws : List ℕ) (g : Settings) (at : ℕ) → Bounds g → getD ws (indexAt at) 0 < g .width → Inside (viewOf ws g at)
-unfolding viewOf slotAt
-view-inside ws g at b l = record { put1 = b .width1; take1 = b .width1; seen = phase-in g (slotAt ws at) l }
+stack-phase : (P : Phase → Type 0) (s : Slot) → OfStack P s → P (stackPhase s)
+unfolding stackPhase
+stack-phase P s o =
+    is P s Putting windowPhase (λ e. o .window Putting)
+    (is P s Putting readPhase (λ e. o .read Putting)
+    (is P s Putting checkPhase (λ e. o .check Putting)
+    (is P s Putting commitPhase (λ e. o .commit Putting)
+    (is P s Putting shiftPhase (λ e. o .shift Putting)
+    (is P s Putting confirmPhase (λ e. o .confirm Putting)
+    (is P s Taking windowPhase (λ e. o .window Taking)
+    (is P s Taking readPhase (λ e. o .read Taking)
+    (is P s Taking checkPhase (λ e. o .check Taking)
+    (is P s Taking commitPhase (λ e. o .commit Taking)
+    (is P s Taking shiftPhase (λ e. o .shift Taking)
+    (is P s Taking confirmPhase (λ e. o .confirm Taking) (o .idle))))))))))))
+
+pub of-phase : (P : Phase → Type 0) (g : Settings) (s : Slot) → (g .kind ≡ 0 → OfQueue P g s) → OfStack P s → P (phaseOf g s)
+unfolding phaseOf
+of-phase P g s q t = cases P (eqb (g .kind) 0) (queuePhase g s) (stackPhase s) (λ e. queue-phase P g s (q (eqb-true _ _ e))) (λ e. stack-phase P s t)
+
+-- ---- the windows
+put-wide : (ws : List ℕ) (g : Settings) → FitPool g ws → 1 ≤ sizesOf ws g .put .width
+unfolding sizesOf
+put-wide ws g f =
+    cases (λ (z : Sizes). 1 ≤ z .put .width) (hasWindows g) (sizesIn ws g) (ownSizes g)
+    (λ e. let w = f .windows e in w .size (liveOf ws g - 1) (omega (arith, w .live1)) .width1)
+    (λ e. f .bounds .width1)
+
+take-wide : (ws : List ℕ) (g : Settings) → FitPool g ws → 1 ≤ sizesOf ws g .take .width
+unfolding sizesOf
+take-wide ws g f =
+    cases (λ (z : Sizes). 1 ≤ z .take .width) (hasWindows g) (sizesIn ws g) (ownSizes g)
+    (λ e. let w = f .windows e in w .size 0 (omega (arith, w .live1)) .width1)
+    (λ e. f .bounds .width1)
+
+-- what a queue's worker that is past its window phase has seen, where fitness asks for it
+abbrev pub Spanned : Settings → Slot → Type 0
+Spanned g s = hasWindows g ≡ true → pastWindow (s .number) ≡ true → SpanFits g s
+
+seen-wide : (g : Settings) (s : Slot) → g .kind ≡ 0 → s .index < g .width → Spanned g s → pastWindow (s .number) ≡ true → s .index < seenBy g s .width
+unfolding seenBy
+seen-wide g s queue l span past =
+    cases (λ (w : Span). s .index < w .width) (windowed g) (record { top = s .window; bottom = s .bottom; width = s .width }) (spanOf (s .window) (sizeOf g))
+    (λ e. let has : hasWindows g ≡ true = rw (e, eq-eqb _ _ queue) refl in span has past .index)
+    (λ e. l)
+
+pub view-inside : (ws : List ℕ) (g : Settings) (at : ℕ) → FitPool g ws → getD ws (indexAt at) 0 < g .width → Spanned g (slotAt g ws at) → Inside (asked (viewOf ws g at))
+unfolding viewOf slotAt cond
+view-inside ws g at f l span = of-phase In g s of-queue of-stack
+  where
+    s : Slot
+    s = slotAt g ws at
+
+    In : Phase → Type 0
+    In p = InWindow (withSizes (askedBy p (sizesOf ws g)) (viewOf ws g at)) p
+
+    look : (side : Side) → In (Window side)
+    look Putting = put-wide ws g f
+    look Taking = take-wide ws g f
+
+    none : (side : Side) → Unit {0}
+    none side = tt
+
+    past : (x : ℕ) → s .number ≡ x → pastWindow x ≡ true → pastWindow (s .number) ≡ true
+    past x e h = rw e h
+
+    of-queue : g .kind ≡ 0 → OfQueue In g s
+    of-queue queue =
+        record {
+          window = look;
+          put-read = λ e. seen-wide g s queue l span (past _ e refl);
+          take-read = λ e. seen-wide g s queue l span (past _ e refl);
+          commit = none;
+          shift = none;
+          confirm = λ e. seen-wide g s queue l span (past _ e refl);
+          idle = tt;
+        }
+
+    of-stack : OfStack In s
+    of-stack = record { window = look; read = none; check = none; commit = none; shift = none; confirm = none; idle = tt }

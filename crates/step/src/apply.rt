@@ -19,6 +19,7 @@ ghost use Rattle.rules.specs.Answers.{out};
 ghost use Rattle.rules.specs.Fit.{FitPool};
 ghost use Rattle.rules.specs.Layout.{Lent};
 ghost use Rattle.rules.specs.Apply.{takenOf, applyOf};
+ghost use Rattle.step.specs.Allowed.{Allowed};
 
 // The answer of a take: the row's item, and the distance just before.
 fn taken(words: &[u32], g: Settings, j: u32, row: Row) -> Answer
@@ -41,39 +42,39 @@ fn taken(words: &[u32], g: Settings, j: u32, row: Row) -> Answer
 pub fn apply(words: &mut [u32], g: Settings, at: usize, j: u32, e: Effect) -> Answer
     requires { ⌜ FitPool g (now words) ⌝ }
     requires { ⌜ Lent g (now words) at ⌝ }
-    requires { ⌜ j < g .width ⌝ }
+    requires { ⌜ (j < g .width) × Allowed (now words) g (e .outcome) ⌝ }
     ensures { λ r. ⌜ out r (now (words .exit)) ≡ applyOf (now (words .entry)) g at j e ⌝ }
 {
     let outcome = e.outcome;
     match outcome {
         Outcome::Refused(n) => Answer::Refused(n),
         Outcome::Moving => {
-            put_worker(words, at, e);
+            put_worker(words, g, at, e);
             Answer::Moving
         }
         Outcome::Lost => {
             count_lost(words, g, at);
-            put_worker(words, at, e);
+            put_worker(words, g, at, e);
             Answer::Moving
         }
         Outcome::Shifted => {
             put_shifted(words, e);
-            put_worker(words, at, e);
+            put_worker(words, g, at, e);
             Answer::Moving
         }
         Outcome::Raised => {
-            put_raised(words, e);
-            put_worker(words, at, e);
+            put_raised(words, g, e);
+            put_worker(words, g, at, e);
             Answer::Moving
         }
         Outcome::Dropped => {
-            put_dropped(words, e);
-            put_worker(words, at, e);
+            put_dropped(words, g, e);
+            put_worker(words, g, at, e);
             Answer::Moving
         }
         Outcome::Landed { value, row, stamp } => {
             put_landed(words, g, j, value, row, stamp, e);
-            put_worker(words, at, e);
+            put_worker(words, g, at, e);
             Answer::Put {
                 value,
                 sub: j,
@@ -84,15 +85,15 @@ pub fn apply(words: &mut [u32], g: Settings, at: usize, j: u32, e: Effect) -> An
         Outcome::Removed { row } => {
             let answer = taken(words, g, j, row);
             put_sub(words, j, e);
-            put_worker(words, at, e);
+            put_worker(words, g, at, e);
             answer
         }
         Outcome::Empty => {
-            put_worker(words, at, e);
+            put_worker(words, g, at, e);
             Answer::Empty
         }
         Outcome::Full => {
-            put_worker(words, at, e);
+            put_worker(words, g, at, e);
             Answer::Full
         }
     }

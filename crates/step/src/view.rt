@@ -1,4 +1,5 @@
 // What a step reads.
+use crate::sizes::sizes_for;
 use image::MARK;
 use image::PUTS;
 use image::TOP;
@@ -6,30 +7,38 @@ use image::load;
 use image::sub_of;
 use rules::Settings;
 use rules::View;
-use worker::own_sizes;
 use worker::worker_of;
 ghost use mathlib.Core.Path.{_≡_};
-ghost use Prim.Native.Nat.{_+_, _≤_};
-ghost use lib.ListN.{length, getD};
+ghost use Prim.Native.Nat.{_<_};
+ghost use lib.ListN.{getD};
 ghost use Rattle.rules.specs.Effects.{viewOf};
-ghost use Rattle.rules.specs.Layout.{headWords, slotWords, subWords, subAt, indexAt};
+ghost use Rattle.rules.specs.Fit.{FitPool};
+ghost use Rattle.rules.specs.Layout.{Lent, indexAt};
+ghost use Rattle.step.specs.Asked.{asked};
 
-// What the worker whose words start at `at` reads.
+// What the worker whose words start at `at` reads, with the sizes that its phase asks for.
 pub fn view(words: &[u32], g: Settings, at: usize) -> View
-    requires { ⌜ (headWords ≤ at) × (at + slotWords ≤ length (now words)) ⌝ }
-    requires { ⌜ subAt (getD (now words) (indexAt at) 0) + subWords ≤ length (now words) ⌝ }
-    ensures { λ r. ⌜ r ≡ viewOf (now (words .entry)) g at ⌝ }
+    requires { ⌜ FitPool g (now words) ⌝ }
+    requires { ⌜ Lent g (now words) at ⌝ }
+    requires { ⌜ getD (now words) (indexAt at) 0 < g .width ⌝ }
+    ensures { λ r. ⌜ r ≡ asked (viewOf (now (words .entry)) g at) ⌝ }
 {
-    let kept = load(words, at);
+    let kept = load(words, g, at);
     let s = sub_of(words, kept.index);
+    let top = words[TOP];
+    let mark = words[MARK];
+    let puts = words[PUTS];
+    let worker = worker_of(g, kept);
+    let phase = worker.phase;
+    let sizes = sizes_for(words, g, phase);
     View {
-        top: words[TOP],
-        mark: words[MARK],
-        sizes: own_sizes(g),
-        puts: words[PUTS],
+        top,
+        mark,
+        sizes,
+        puts,
         first: s.first,
         second: s.second,
-        worker: worker_of(g, kept),
+        worker,
         kept,
     }
 }

@@ -15,20 +15,24 @@ use rules::numbers::NO_SUCH_WORKER;
 use rules::numbers::SHIPPED;
 use rules::numbers::STEPS_SPENT;
 use rules::numbers::WORKER_IDLE;
+ghost use mathlib.Core.Bool.{true};
 ghost use mathlib.Core.Path.{_≡_};
 ghost use Prim.Native.Nat.{_<_};
 ghost use lib.ListN.{getD};
 ghost use Rattle.rules.specs.Answers.{out, returned, returnedOf};
-ghost use Rattle.rules.specs.Fit.{Fit, FitPool, checkedOf};
-ghost use Rattle.rules.specs.Layout.{Lent, indexAt, settingsOf};
+ghost use Rattle.rules.specs.Fit.{Fit, FitPool, SpanFits, checkedOf, pastWindow};
+ghost use Rattle.rules.specs.Layout.{Lent, phaseAt, indexAt, settingsOf};
 ghost use Rattle.rules.specs.Make.{shipped};
 ghost use Rattle.rules.specs.Step.{slotStep, fitStep, stepOf};
+ghost use Rattle.rules.specs.Windows.{hasWindows};
+ghost use Rattle.rules.specs.Worker.{slotAt};
 
 // A step of the worker whose words start at `at`.
 fn slot_step(words: &mut [u32], g: Settings, at: usize) -> Answer
     requires { ⌜ FitPool g (now words) ⌝ }
     requires { ⌜ Lent g (now words) at ⌝ }
     requires { ⌜ getD (now words) (indexAt at) 0 < g .width ⌝ }
+    requires { ⌜ (hasWindows g ≡ true → pastWindow (getD (now words) (phaseAt at) 0) ≡ true → SpanFits g (slotAt g (now words) at)) ⌝ }
     ensures { λ r. ⌜ out r (now (words .exit)) ≡ slotStep (now (words .entry)) g at ⌝ }
 {
     if idle_at(words, at) {

@@ -1,23 +1,24 @@
--- What a call does to a queue: nothing, where it is refused; it begins an operation; it moves a worker on, which leaves every operation
--- open that was; or it gives a final answer, and its worker is idle.
+-- What a call does to a queue: nothing, where it is refused; it begins an operation; it sets the size of the next window; it moves a worker on, which
+-- leaves every operation open that was; or it gives a final answer, and its worker is idle.
 use mathlib.Core.Path.{_≡_, refl, sym, ap, _∙_}
 use mathlib.Core.Logic.{_≢_, inl, inr}
 use Prim.Native.Nat.{ℕ, _*_, _<_}
 use native.Mathlib.Decide.{ℕ-discrete}
 use native.Mathlib.Nat.{le-refl}
 use native.Mathlib.Omega.{arith}
-use Rattle.rules.specs.Limits.{stepLimit}
+use Rattle.laws.specs.Choice.{cases}
+use Rattle.rules.specs.Limits.{stepLimit, windowed}
 use Rattle.rules.specs.Answers.{numberOf}
 use Rattle.rules.specs.Worker.{phaseOf, fresh, zeroSlot}
 use Rattle.rules.specs.Step.{ruleOf}
 use Rattle.rules.specs.Sequential.{putting, taking, Contents}
-use Rattle.rules.specs.Run.{Call, beginPut, beginTake, step, Final}
+use Rattle.rules.specs.Run.{Call, beginPut, beginTake, step, setSize, Final}
 use Rattle.stretch.specs.Stretch.{countedCall}
-use Rattle.stretch.proofs.Types.{Settings, Side, Putting, Taking, Idle, Window, Slot}
+use Rattle.stretch.proofs.Types.{Settings, Size, Side, Putting, Taking, Idle, Window, Slot, Answer}
 use Rattle.rules.specs.declared.Answer.the-variants.{Moving}
 use Rattle.rules.proofs.counts.Sums.{upd-same, upd-other}
 use Rattle.rules.proofs.order.Law.{Next, refused, passes, opened, walks, tries, stays, loses, ends as ends-here, wins}
-use Rattle.rules.proofs.machine.Machine.{State, next, subIn, viewIn, phaseIn, applyIn, nextIn, apply-other}
+use Rattle.rules.proofs.machine.Machine.{State, next, subIn, viewIn, phaseIn, applyIn, withSize, setSizeIn, nextIn, apply-other}
 use Rattle.rules.proofs.machine.Phases.{statusOf, idle-phase, window-phase}
 use Rattle.rules.proofs.machine.Calls.{Called, refuses, does, able-does, Steps, Begins, step-called, begun, begin-called}
 use Rattle.rules.proofs.machine.Good.{Good}
@@ -35,7 +36,8 @@ use Rattle.stretch.proofs.Owed.{OwesIn, mostOwed, owes-most}
 
 pub data Acts (g : Settings) (s : State) (c : Call) (o : Next State) : Type 0 where
   same : o .state ≡ s → Acts g s c o
-  begins : (i : ℕ) (side : Side) (v : ℕ) → i < g .workers → phaseIn g s i ≡ Idle → countedCall c (o .answer) ≡ 0 → o .state ≡ begun s i side v → Acts g s c o
+  begins : (i : ℕ) (side : Side) (v : ℕ) → i < g .workers → phaseIn g s i ≡ Idle → countedCall c (o .answer) ≡ 0 → o .state ≡ begun g s i side v → Acts g s c o
+  sizes : (size : Size) → countedCall c (o .answer) ≡ 0 → o .state ≡ withSize s size → Acts g s c o
   goes : (i : ℕ) → i < g .workers → Moved g s i (o .state) → ((j : ℕ) → putIn g (o .state) j ≡ putIn g s j) → Acts g s c o
   answers : (i : ℕ) → c ≡ step i → i < g .workers → Final (o .answer) → phaseIn g (o .state) i ≡ Idle
       → ((j : ℕ) → j ≢ i → putIn g (o .state) j ≡ putIn g s j) → Ended g s i (o .state) → Acts g s c o
@@ -44,17 +46,17 @@ pub data Acts (g : Settings) (s : State) (c : Call) (o : Next State) : Type 0 wh
 abbrev slotPut : Settings → Slot → ℕ
 slotPut g x = openPut (statusOf (x .value) (phaseOf g x))
 
-pub put-begun : (g : Settings) (s : State) (i : ℕ) (side : Side) (v : ℕ) → putIn g (begun s i side v) i ≡ openPut (statusOf v (Window side))
+pub put-begun : (g : Settings) (s : State) (i : ℕ) (side : Side) (v : ℕ) → putIn g (begun g s i side v) i ≡ openPut (statusOf v (Window side))
 put-begun g s i side v =
-    ap (slotPut g) (upd-same (s .slot) i (fresh v (subIn s i) (Window side))) ∙ by side
+    ap (slotPut g) (upd-same (s .slot) i (fresh g v (subIn s i) (Window side))) ∙ by side
   where
-    by : (side : Side) → slotPut g (fresh v (subIn s i) (Window side)) ≡ openPut (statusOf v (Window side))
+    by : (side : Side) → slotPut g (fresh g v (subIn s i) (Window side)) ≡ openPut (statusOf v (Window side))
     by Putting = rw (window-phase g Putting v (subIn s i) zeroSlot) refl
     by Taking = rw (window-phase g Taking v (subIn s i) zeroSlot) refl
 
-pub put-begun-other : (g : Settings) (s : State) (i : ℕ) (side : Side) (v j : ℕ) → j ≢ i → putIn g (begun s i side v) j ≡ putIn g s j
+pub put-begun-other : (g : Settings) (s : State) (i : ℕ) (side : Side) (v j : ℕ) → j ≢ i → putIn g (begun g s i side v) j ≡ putIn g s j
 put-begun-other g s i side v j n =
-    ap (slotPut g) (upd-other (s .slot) i (fresh v (subIn s i) (Window side)) j n)
+    ap (slotPut g) (upd-other (s .slot) i (fresh g v (subIn s i) (Window side)) j n)
 
 pub put-idle : (g : Settings) (s : State) (i : ℕ) → phaseIn g s i ≡ Idle → putIn g s i ≡ 0
 put-idle g s i e = rw e refl
@@ -108,13 +110,22 @@ module _ (g : Settings) (good : Good g) (kind : g .kind ≡ 0) (s : State) (q : 
 
   -- ---- a begin
   by-begin : (c : Call) (i : ℕ) (side : Side) (v : ℕ) (o′ : Next State) → countedCall c (o′ .answer) ≡ 0
-      → Called s (Begins g s i) (next Moving (begun s i side v)) o′ → Acts g s c o′
+      → Called s (Begins g s i) (next Moving (begun g s i side v)) o′ → Acts g s c o′
   by-begin c i side v o′ z (refuses n l unable e) = same (ap (λ (x : Next State). x .state) e)
   by-begin c i side v o′ z (does able e) =
       begins i side v (able .worker) (idle-phase g (s .slot i) (able .idle)) z (ap (λ (x : Next State). x .state) e)
+
+  -- ---- a size call
+  by-size : (c : Call) (size : Size) → ((a : Answer) → countedCall c a ≡ 0) → Acts g s c (setSizeIn g s size)
+  unfolding setSizeIn
+  by-size c size z =
+      cases (Acts g s c) (windowed g) _ _
+      (λ a. cases (Acts g s c) _ _ _ (λ e. sizes size (z Moving) refl) (λ e. same refl))
+      (λ a. same refl)
 
   pub acts : (c : Call) → Acts g s c (nextIn g s c)
   unfolding nextIn
   acts (beginPut i v) = by-begin (beginPut i v) i Putting v _ refl (begin-called g s i Putting v)
   acts (beginTake i) = by-begin (beginTake i) i Taking 0 _ refl (begin-called g s i Taking 0)
   acts (step i) = by-step i (step-called g s i)
+  acts (setSize width depth) = by-size (setSize width depth) (record { width = width; depth = depth }) (λ a. refl)

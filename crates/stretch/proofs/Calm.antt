@@ -13,9 +13,9 @@ use Rattle.rules.specs.Limits.{settingsFit}
 use Rattle.rules.specs.Sequential.{Contents}
 use Rattle.rules.specs.Run.{Call, step, Event, run, Final}
 use Rattle.stretch.specs.Stretch.{countedCall}
-use Rattle.stretch.proofs.Types.{Settings, Putting, Taking, Idle}
+use Rattle.stretch.proofs.Types.{Settings, Size, Putting, Taking, Idle}
 use Rattle.rules.proofs.counts.Sums.{upd, upd-all, sumN, sum-swap}
-use Rattle.rules.proofs.machine.Machine.{State, phaseIn, nextIn}
+use Rattle.rules.proofs.machine.Machine.{State, phaseIn, withSize, nextIn}
 use Rattle.rules.proofs.machine.Calls.{begun}
 use Rattle.rules.proofs.machine.Good.{Good}
 use Rattle.rules.proofs.machine.Turns.{Common}
@@ -46,7 +46,7 @@ pub record Enough (g : Settings) (s : State) (worst calm : ℕ → ℕ) (n : ℕ
 
 -- ---- what stays calm
 module _ (g : Settings) (s : State) (calm : Calm g s) where
-  calm-begins : (i v : ℕ) → Calm g (begun s i Taking v)
+  calm-begins : (i v : ℕ) → Calm g (begun g s i Taking v)
   calm-begins i v =
       record {
         no-put = λ j l. elim (ℕ-discrete j i) [
@@ -55,6 +55,9 @@ module _ (g : Settings) (s : State) (calm : Calm g s) where
         ];
         stock = calm .stock;
       }
+
+  calm-sizes : (size : Size) → Calm g (withSize s size)
+  calm-sizes size = record { no-put = calm .no-put; stock = calm .stock }
 
   calm-goes : (t : State) (i : ℕ) → i < g .workers → Moved g s i t → ((j : ℕ) → putIn g t j ≡ putIn g s j) → Calm g t
   calm-goes t i li m keeps = by (put-or-keeps g s t i m)
@@ -68,9 +71,9 @@ module _ (g : Settings) (s : State) (calm : Calm g s) where
 
 -- ---- a put begins
 put-begins : (g : Settings) (s : State) (worst : ℕ → ℕ) (i v : ℕ) → Debts g (2 * g .width) s worst
-    → Debts g (2 * g .width) (begun s i Putting v) (upd worst i (g .width + 4))
+    → Debts g (2 * g .width) (begun g s i Putting v) (upd worst i (g .width + 4))
 put-begins g s worst i v owed j l =
-    upd-all (λ m (x : ℕ). OwesIn g (2 * g .width) (begun s i Putting v) x m) worst i (g .width + 4) j
+    upd-all (λ m (x : ℕ). OwesIn g (2 * g .width) (begun g s i Putting v) x m) worst i (g .width + 4) j
     (λ e. rw e (begun-put-owes g (2 * g .width) s i v))
     (λ n. begun-others g (2 * g .width) s (worst j) i Putting v j n (owed j l))
 
@@ -121,6 +124,7 @@ module _ (g : Settings) (good : Good g) (kind : g .kind ≡ 0) where
         omega (arith, sum-swap b (g .workers) i (g .width + 4) l, x .spare i l idle) in
         bounded-more n (sumN (upd b i (g .width + 4)) (g .workers)) e es (rw (u, v, none) (omega arith)) (put-rest (upd b i (g .width + 4)) owed)
     by-acts (Acts.begins i Taking k l idle none w) = stays (rw w (calm-begins g s calm i k))
+    by-acts (Acts.sizes size none w) = stays (rw w (calm-sizes g s calm size))
     by-acts (Acts.goes i l m keeps) = stays (calm-goes g s calm t i l m keeps)
     by-acts (Acts.answers i w l f idle keeps m) = answered i w f
 

@@ -10,16 +10,17 @@ use lib.Dec.{leb}
 use borrow.Author.Tests.{leb-true}
 use Rattle.laws.specs.Choice.{cases}
 use Rattle.rules.specs.Answers.{numberOf}
+use Rattle.rules.specs.Limits.{windowed}
 use Rattle.rules.specs.Worker.{phaseOf}
 use Rattle.rules.specs.Step.{ruleOf}
 use Rattle.rules.specs.Sequential.{Contents}
-use Rattle.rules.specs.Run.{Call, beginPut, beginTake, step, Final}
+use Rattle.rules.specs.Run.{Call, beginPut, beginTake, step, setSize, Final}
 use Rattle.stretch.specs.Stretch.{countedCall}
-use Rattle.stretch.proofs.Types.{Settings, Side, Putting, Taking, Idle, Slot, Answer}
+use Rattle.stretch.proofs.Types.{Settings, Size, Side, Putting, Taking, Idle, Slot, Answer}
 use Rattle.rules.specs.declared.Answer.the-variants.{Moving, Refused}
 use Rattle.rules.proofs.counts.Sums.{upd, upd-same, upd-other, upd-all, sumN, sum-bump}
 use Rattle.rules.proofs.order.Law.{Next}
-use Rattle.rules.proofs.machine.Machine.{State, next, subIn, viewIn, phaseIn, applyIn, nextIn, apply-other}
+use Rattle.rules.proofs.machine.Machine.{State, next, subIn, viewIn, phaseIn, applyIn, withSize, setSizeIn, nextIn, apply-other}
 use Rattle.rules.proofs.machine.Phases.{idle-phase}
 use Rattle.rules.proofs.machine.Calls.{Called, refuses, does, Steps, Begins, step-called, begun, begin-called}
 use Rattle.rules.proofs.machine.Good.{Good}
@@ -59,27 +60,27 @@ module _ (g : Settings) (good : Good g) (kind : g .kind ≡ 0) (L : ℕ) (enough
 
   -- ---- a begin
   module _ (i : ℕ) (side : Side) (v : ℕ) (idle : s .slot i .number ≡ 0) where
-    opens : OwesIn g L s (debt i) i → OwesIn g L (begun s i side v) (debt i) i
+    opens : OwesIn g L s (debt i) i → OwesIn g L (begun g s i side v) (debt i) i
     opens (inl r) = begun-owes g L s (debt i) i side v (r .take) (r .put)
     opens (inr x) = absurd (subst (queueLeft g L s (debt i) (subIn s i)) (idle-phase g (s .slot i) idle) x)
 
-    begun-debts : i < g .workers → Debts g L (begun s i side v) debt
+    begun-debts : i < g .workers → Debts g L (begun g s i side v) debt
     begun-debts l j m = elim (ℕ-discrete j i) [
       | yes e ↦ rw e (opens (owed i l))
       | no n ↦ begun-others g L s (debt j) i side v j n (owed j m)
     ]
 
-    was-idle : (j : ℕ) → phaseIn g (begun s i side v) j ≡ Idle → phaseIn g s j ≡ Idle
+    was-idle : (j : ℕ) → phaseIn g (begun g s i side v) j ≡ Idle → phaseIn g s j ≡ Idle
     was-idle j u = elim (ℕ-discrete j i) [
       | yes e ↦ rw e (idle-phase g (s .slot i) idle)
       | no n ↦ ap (λ (x : Slot). phaseOf g x) (sym (upd-other (s .slot) i _ j n)) ∙ u
     ]
 
   by-begin : (c : Call) (i : ℕ) (side : Side) (v : ℕ) (o : Next State) → countedCall c (o .answer) ≡ 0
-      → Called s (Begins g s i) (next Moving (begun s i side v)) o → Account g L s debt c o
+      → Called s (Begins g s i) (next Moving (begun g s i side v)) o → Account g L s debt c o
   by-begin c i side v o z (refuses n l unable e) = unchanged c o (ap (λ (x : Next State). x .state) e) z
   by-begin c i side v o z (does able e) =
-      let now : o .state ≡ begun s i side v = ap (λ (x : Next State). x .state) e in
+      let now : o .state ≡ begun g s i side v = ap (λ (x : Next State). x .state) e in
       pays (record {
         after = debt;
         owed = rw now (begun-debts i side v (able .idle) (able .worker));
@@ -87,6 +88,19 @@ module _ (g : Settings) (good : Good g) (kind : g .kind ≡ 0) (L : ℕ) (enough
         idle = λ j u. (was-idle i side v (able .idle) j (rw now at u), refl);
         paid = omega arith;
       })
+
+  -- ---- a size call: what is owed is told by the windows, the subs and the slots
+  resized : (size : Size) → Debts g L (withSize s size) debt
+  resized size = owed
+
+  by-size : (c : Call) (size : Size) → ((a : Answer) → countedCall c a ≡ 0) → Account g L s debt c (setSizeIn g s size)
+  unfolding setSizeIn
+  by-size c size z =
+      cases (Account g L s debt c) (windowed g) _ _
+      (λ a. cases (Account g L s debt c) _ _ _
+      (λ e. pays (record { after = debt; owed = resized size; less = λ j. le-refl _; idle = λ j u. (u, refl); paid = omega (arith, z Moving) }))
+      (λ e. unchanged c _ refl (z _)))
+      (λ a. unchanged c _ refl (z _))
 
   -- ---- a step
   module _ (i : ℕ) (l : i < g .workers) where
@@ -140,3 +154,4 @@ module _ (g : Settings) (good : Good g) (kind : g .kind ≡ 0) (L : ℕ) (enough
   account (beginPut i v) = by-begin (beginPut i v) i Putting v _ refl (begin-called g s i Putting v)
   account (beginTake i) = by-begin (beginTake i) i Taking 0 _ refl (begin-called g s i Taking 0)
   account (step i) = by-step i (step-called g s i)
+  account (setSize width depth) = by-size (setSize width depth) (record { width = width; depth = depth }) (λ a. refl)

@@ -33,7 +33,7 @@ use Rattle.stretch.proofs.Acts.{busy-step}
 use Rattle.stretch.proofs.Owed.{mostOwed}
 use Rattle.stretch.proofs.Past.{Reached, reached}
 use Rattle.stretch.proofs.Theorem.{finishes-within, exact-k7}
-use Rattle.rules.proofs.dispatch.Turns.{HasTurn, has-turn, busy-found, turns-on, turns-end, turn-stays, fit-turns}
+use Rattle.rules.proofs.dispatch.Turns.{HasTurn, has-turn, busy-found, turns-on, turns-end, turn-busy, fit-turns}
 
 -- ---- steps none of which is final
 pub record Unfinished (ed : ℕ) (ws : List ℕ) (m : ℕ) : Type 0 where
@@ -95,7 +95,7 @@ module _ (g : Settings) (good : Good g) (kind : g .kind ≡ 0) (limits : setting
     by : Result g (queueLeft g (2 * g .width)) s j (mostOwed g (2 * g .width)) (nextIn g s (step j)) → Comes ws i (suc k) (suc m)
     unfolding callOf
     by (finishes f) = inl (ends (rw answer f))
-    by (goes y) = on (rest (y .steps) (j, busy .among, turn-stays ws g (fit r) j moving .busy))
+    by (goes y) = on (rest (y .steps) (j, busy .among, turn-busy ws g j (r .says .settings) moving))
       where
         moving : numberOf (stepOf (g .edition) ws j .answer) ≡ 0
         moving = rw answer (y .answer)

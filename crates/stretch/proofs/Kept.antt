@@ -57,7 +57,7 @@ module _ (g : Settings) (L : ℕ) (was now : Span) (put taken : ℕ → ℕ) (no
   take-window-on (TakeWindow.confirms l m) = absurd (not-low l)
   take-window-on (TakeWindow.hits l stock m) = absurd (not-low l)
 
-  take-read-on : {n index : ℕ} {window : Span} {scan sum : ℕ} → TakeRead g L was put taken n index window scan sum → TakeRead g L now put taken n index window scan sum
+  take-read-on : {n index : ℕ} {window : Span} {bare scan sum : ℕ} → TakeRead g L was put taken n index window bare scan sum → TakeRead g L now put taken n index window bare scan sum
   take-read-on (TakeRead.stale m) = TakeRead.stale m
   take-read-on (TakeRead.clean c m) = TakeRead.clean c m
   take-read-on (TakeRead.fresh c e m) = TakeRead.late c now-low ready m
@@ -76,7 +76,7 @@ module _ (g : Settings) (L : ℕ) (was now : Span) (put taken : ℕ → ℕ) (no
 
   take-confirm-on : {n index : ℕ} {window : Span} {scan sum : ℕ} → TakeConfirm g L was put taken n index window scan sum → TakeConfirm g L now put taken n index window scan sum
   take-confirm-on (TakeConfirm.stale m) = TakeConfirm.stale m
-  take-confirm-on (TakeConfirm.clean a) = TakeConfirm.clean a
+  take-confirm-on (TakeConfirm.clean a u) = TakeConfirm.clean a u
 
   kept-on : (p : Span) (n index : ℕ) (phase : Phase) → Left g L p was put taken n index phase → Left g L p now put taken n index phase
   kept-on p n index Idle x = x

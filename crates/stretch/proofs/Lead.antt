@@ -10,7 +10,7 @@ use Rattle.rules.specs.Sequential.{Contents}
 use Rattle.rules.specs.Run.{Call}
 use Rattle.stretch.proofs.Types.{Settings, Putting, Taking, Idle}
 use Rattle.rules.proofs.counts.Sums.{upd, upd-same, upd-all}
-use Rattle.rules.proofs.machine.Machine.{State, phaseIn, nextIn}
+use Rattle.rules.proofs.machine.Machine.{State, phaseIn, withSize, nextIn}
 use Rattle.rules.proofs.machine.Calls.{begun}
 use Rattle.rules.proofs.machine.Good.{Good}
 use Rattle.rules.proofs.machine.Turns.{Common}
@@ -52,7 +52,7 @@ module _ (g : Settings) (good : Good g) (L : ℕ) (enough : g .width < L) where
       }
 
   -- a put that has just begun
-  begun-leads : (s : State) (i v : ℕ) → i < g .workers → Lead g L (begun s i Putting v)
+  begun-leads : (s : State) (i v : ℕ) → i < g .workers → Lead g L (begun g s i Putting v)
   begun-leads s i v l =
       record {
         who = i;
@@ -91,12 +91,13 @@ module _ (g : Settings) (good : Good g) (L : ℕ) (enough : g .width < L) where
     by-acts (Acts.same e) = rw e lead
     by-acts (Acts.begins i Putting v l e z u) = elim (ℕ-discrete (lead .who) i) [
       | yes y ↦ rw u (begun-leads s i v l)
-      | no n ↦ leads-on (λ one. let before : putIn g (begun s i Putting v) (lead .who) ≡ 1 = rw u at one in omega (arith, put-begun-other g s i Putting v (lead .who) n))
+      | no n ↦ leads-on (λ one. let before : putIn g (begun g s i Putting v) (lead .who) ≡ 1 = rw u at one in omega (arith, put-begun-other g s i Putting v (lead .who) n))
     ]
     by-acts (Acts.begins i Taking v l e z u) = elim (ℕ-discrete (lead .who) i) [
-      | yes y ↦ leads-on (λ one. absurd (let now : putIn g (begun s i Taking v) i ≡ 1 = rw (u, y) at one in omega (arith, put-begun g s i Taking v)))
-      | no n ↦ leads-on (λ one. let before : putIn g (begun s i Taking v) (lead .who) ≡ 1 = rw u at one in omega (arith, put-begun-other g s i Taking v (lead .who) n))
+      | yes y ↦ leads-on (λ one. absurd (let now : putIn g (begun g s i Taking v) i ≡ 1 = rw (u, y) at one in omega (arith, put-begun g s i Taking v)))
+      | no n ↦ leads-on (λ one. let before : putIn g (begun g s i Taking v) (lead .who) ≡ 1 = rw u at one in omega (arith, put-begun-other g s i Taking v (lead .who) n))
     ]
+    by-acts (Acts.sizes size z u) = leads-on (λ one. let before : putIn g (withSize s size) (lead .who) ≡ 1 = rw u at one in before)
     by-acts (Acts.goes i l m keeps) = leads-on (λ one. omega (arith, keeps (lead .who)))
     by-acts (Acts.answers i w l f e keeps m) = idle-leads t i l e
 

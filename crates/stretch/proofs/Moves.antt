@@ -19,8 +19,8 @@ over-moves : (most : Settings → ℕ) → StretchWithin most → DispatchWithin
 over-moves most stretches dispatches =
     record {
       stretches = runs-over-moves (λ g es. StretchesWithin g (most g) es) stretches;
-      dispatches = λ ws g xs made kind i steps li busy many time.
-          let pool = from-make ws g xs made .ends in
+      dispatches = λ ws g xs old made kind i steps li busy many time.
+          let pool = from-make ws g xs old made .ends in
           let p = placeOver (here g (makeOf ws g .words)) xs in
           let vs = wordsAfter (g .edition) (makeOf ws g .words) (callsIn xs) in
           let same = number-same g (p .edition) vs (p .words) pool (busy .0) (busy .1) in

@@ -42,15 +42,15 @@ begun-left : (g : Settings) (L : ℕ) (s : State) (n index : ℕ) (side : Side) 
 begun-left g L s n index Putting take put = PutWindow.any put
 begun-left g L s n index Taking take put = TakeWindow.any take
 
-pub begun-owes : (g : Settings) (L : ℕ) (s : State) (n i : ℕ) (side : Side) (v : ℕ) → g .width + 2 + L ≤ n → g .width + 4 ≤ n → OwesIn g L (begun s i side v) n i
+pub begun-owes : (g : Settings) (L : ℕ) (s : State) (n i : ℕ) (side : Side) (v : ℕ) → g .width + 2 + L ≤ n → g .width + 4 ≤ n → OwesIn g L (begun g s i side v) n i
 begun-owes g L s n i side v take put = inr (at-begun g (queueLeft g L) s i n side v (begun-left g L s n (subIn s i) side take put))
 
 -- the other workers owe what they did
-pub begun-others : (g : Settings) (L : ℕ) (s : State) (n i : ℕ) (side : Side) (v j : ℕ) → j ≢ i → OwesIn g L s n j → OwesIn g L (begun s i side v) n j
+pub begun-others : (g : Settings) (L : ℕ) (s : State) (n i : ℕ) (side : Side) (v j : ℕ) → j ≢ i → OwesIn g L s n j → OwesIn g L (begun g s i side v) n j
 begun-others g L s n i side v j ne owes =
-    subst (λ (x : Slot). Owes g L s n (x .index) (phaseOf g x)) (sym (upd-other (s .slot) i (fresh v (subIn s i) (Window side)) j ne)) owes
+    subst (λ (x : Slot). Owes g L s n (x .index) (phaseOf g x)) (sym (upd-other (s .slot) i (fresh g v (subIn s i) (Window side)) j ne)) owes
 
-pub begun-put-owes : (g : Settings) (L : ℕ) (s : State) (i v : ℕ) → OwesIn g L (begun s i Putting v) (g .width + 4) i
+pub begun-put-owes : (g : Settings) (L : ℕ) (s : State) (i v : ℕ) → OwesIn g L (begun g s i Putting v) (g .width + 4) i
 begun-put-owes g L s i v = inr (at-begun g (queueLeft g L) s i (g .width + 4) Putting v (PutWindow.any (le-refl _)))
 
 -- ---- a worker in any phase
@@ -69,8 +69,9 @@ module _ (g : Settings) (good : Good g) (L : ℕ) (enough : g .width < L) (s : S
 
   -- a take that has read nothing yet is clean
   reading : (index : ℕ) (window : Span) (bare scan sum : ℕ) → TakeReads s index window bare scan sum
-      → TakeRead g L (takeNow (s .frame)) (s .first) (s .second) (mostOwed g L) index window scan sum
-  reading index window bare zero sum k = TakeRead.clean (clean-none (k .read .sums)) (omega (arith, take-wide (k .read .sees)))
+      → TakeRead g L (takeNow (s .frame)) (s .first) (s .second) (mostOwed g L) index window bare scan sum
+  reading index window bare zero sum k =
+      TakeRead.clean (record { clean = clean-none (k .read .sums); under = λ some. absurd (some (omega (arith, k .read .bare-le))) }) (omega (arith, take-wide (k .read .sees)))
   reading index window bare (suc scan) sum k = TakeRead.stale (omega (arith, take-wide (k .read .sees)))
 
   by-phase : (index : ℕ) (p : Phase) → Knows s index p → Owes g L s (mostOwed g L) index p

@@ -17,7 +17,7 @@ use Rattle.rules.specs.Sequential.{Contents}
 use Rattle.rules.specs.Run.{Call}
 use Rattle.rules.specs.Consequences.{wordsAfter}
 use Rattle.stretch.proofs.Types.{Settings, Idle}
-use Rattle.rules.proofs.machine.Machine.{State, phaseIn, nextIn, madeIn}
+use Rattle.rules.proofs.machine.Machine.{State, phaseIn, withSize, nextIn, madeIn}
 use Rattle.rules.proofs.machine.Phases.{idle-phase}
 use Rattle.rules.proofs.machine.Good.{Good}
 use Rattle.rules.proofs.machine.Turns.{Common}
@@ -61,6 +61,7 @@ module _ (g : Settings) (good : Good g) (kind : g .kind ≡ 0) where
     open-next : PutOpen g s → Acts g s c (nextIn g s c) → Second
     open-next x (Acts.same e) = inr (rw e x)
     open-next x (Acts.begins i side v l e z u) = inr (rw u (put-open-begins g s i side v e x))
+    open-next x (Acts.sizes size z u) = inr (rw u (put-open-goes g s (withSize s size) (λ j. refl) x))
     open-next x (Acts.goes i l m keeps) = inr (put-open-goes g s t keeps x)
     open-next x (Acts.answers i w l f e keeps m) = inl (idle-leads g good (g .width + 1) once t i l e)
 

@@ -1,7 +1,7 @@
 -- Where a queue from make has its take window below its put window, some sub has a row in the put window (Filled), or a put is under way: the
 -- put that moved the put window, until one lands or answers full. A take window that moves then finds an item: in the put window, if it moves
 -- there; else each sub in the width of the window that it moves to has filled it, and no row of it is taken.
-use mathlib.Core.Path.{_≡_, ap, _∙_}
+use mathlib.Core.Path.{_≡_, refl, ap, _∙_}
 use mathlib.Core.Logic.{_≢_, _⊎_, inl, inr}
 use Prim.Native.Nat.{ℕ, suc, _+_, _≤_, _<_}
 use native.Mathlib.Nat.{le-refl}
@@ -9,9 +9,9 @@ use native.Mathlib.Decide.{ℕ-discrete}
 use native.Mathlib.Omega.{arith}
 use Rattle.rules.specs.Sequential.{Contents}
 use Rattle.rules.specs.Run.{Call}
-use Rattle.stretch.proofs.Types.{Settings, Side, Idle}
+use Rattle.stretch.proofs.Types.{Settings, Size, Side, Idle}
 use Rattle.rules.proofs.order.Law.{Next}
-use Rattle.rules.proofs.machine.Machine.{Frame, State, markOf, phaseIn}
+use Rattle.rules.proofs.machine.Machine.{Frame, State, markOf, phaseIn, withSize}
 use Rattle.rules.proofs.machine.Calls.{begun}
 use Rattle.rules.proofs.queue.Inv.{Inv}
 use Rattle.rules.proofs.progress.QueueLeft.{Behind, NextReady, Stock}
@@ -35,7 +35,7 @@ module _ (g : Settings) where
     pub among : who < g .workers
     pub putting : putIn g s who ≡ 1
 
-  pub put-open-begins : (s : State) (i : ℕ) (side : Side) (v : ℕ) → phaseIn g s i ≡ Idle → PutOpen s → PutOpen (begun s i side v)
+  pub put-open-begins : (s : State) (i : ℕ) (side : Side) (v : ℕ) → phaseIn g s i ≡ Idle → PutOpen s → PutOpen (begun g s i side v)
   put-open-begins s i side v e x = elim (ℕ-discrete (x .who) i) [
     | yes y ↦ absurd (let one : putIn g s i ≡ 1 = rw y at (x .putting) in omega (arith, put-idle g s i e))
     | no n ↦ record { who = x .who; among = x .among; putting = put-begun-other g s i side v (x .who) n ∙ x .putting }
@@ -49,12 +49,19 @@ module _ (g : Settings) where
   Stocked s = Behind s → Filled s ⊎ PutOpen s
 
   module _ (s : State) (stocked : Stocked s) where
-    stocked-begins : (i : ℕ) (side : Side) (v : ℕ) → phaseIn g s i ≡ Idle → Stocked (begun s i side v)
+    stocked-begins : (i : ℕ) (side : Side) (v : ℕ) → phaseIn g s i ≡ Idle → Stocked (begun g s i side v)
     stocked-begins i side v e l = by (stocked l)
       where
-        by : Filled s ⊎ PutOpen s → Filled s ⊎ PutOpen (begun s i side v)
+        by : Filled s ⊎ PutOpen s → Filled s ⊎ PutOpen (begun g s i side v)
         by (inl x) = inl x
         by (inr x) = inr (put-open-begins s i side v e x)
+
+    stocked-sizes : (size : Size) → Stocked (withSize s size)
+    stocked-sizes size l = by (stocked l)
+      where
+        by : Filled s ⊎ PutOpen s → Filled s ⊎ PutOpen (withSize s size)
+        by (inl x) = inl x
+        by (inr x) = inr (put-open-goes s (withSize s size) (λ j. refl) x)
 
     module _ (t : State) (i : ℕ) where
       stocked-goes : i < g .workers → ((j : ℕ) → putIn g t j ≡ putIn g s j) → Moved g s i t → Stocked t
@@ -81,6 +88,7 @@ module _ (g : Settings) where
     pub stocked-next : {c : Call} {o : Next State} → Acts g s c o → Stocked (o .state)
     stocked-next (Acts.same e) = rw e stocked
     stocked-next (Acts.begins i side v l e z u) = rw u (stocked-begins i side v e)
+    stocked-next (Acts.sizes size z u) = rw u (stocked-sizes size)
     stocked-next {o = o} (Acts.goes i l m same) = stocked-goes (o .state) i l same m
     stocked-next {o = o} (Acts.answers i w l f e same m) = stocked-ends (o .state) i same m
 

@@ -1,5 +1,6 @@
 -- The declared types of crates/rules, and the cases of side and phase: one line of each file names what it uses.
 pub use Rattle.rules.specs.declared.Settings.{Settings}
+pub use Rattle.rules.specs.declared.Size.{Size}
 pub use Rattle.rules.specs.declared.Side.{Side}
 pub use Rattle.rules.specs.declared.Side.the-variants.{Putting, Taking}
 pub use Rattle.rules.specs.declared.Phase.{Phase}

@@ -10,7 +10,7 @@ use Rattle.laws.specs.Choice.{cond}
 use Rattle.rules.specs.Answers.{numberOf}
 use Rattle.rules.specs.Layout.{stepsAt}
 use Rattle.rules.specs.Limits.{stepLimit}
-use Rattle.rules.specs.Run.{Call, beginPut, beginTake, step, Event, run, at, Final, StepOf}
+use Rattle.rules.specs.Run.{Call, beginPut, beginTake, step, setSize, Event, run, at, Final, StepOf}
 use Rattle.rules.specs.Consequences.{wordsAfter, OfEveryRun}
 use Rattle.rules.specs.Dispatch.{DispatchOut, Busy, dispatchOf}
 use Rattle.rules.specs.Make.{inEdition}
@@ -35,11 +35,12 @@ exactStretch g =
 abbrev pub stretch : ℕ → ℕ → List Event → List Event
 stretch p m es = take m (drop p es)
 
--- "counted": a step that was not refused; begins and refused calls may stand between
+-- "counted": a step that was not refused; begins, size calls and refused calls may stand between
 abbrev pub countedCall : Call → Answer → ℕ
 countedCall (beginPut i v) a = 0
 countedCall (beginTake i) a = 0
 countedCall (step i) a = cond (leb (numberOf a) 4) 1 0
+countedCall (setSize width depth) a = 0
 
 unfoldable pub countedSteps : List Event → ℕ
 countedSteps [] = 0

@@ -21,6 +21,7 @@ use rules::numbers::TAKE_SHIFT;
 use rules::numbers::TAKE_WINDOW;
 use rules::numbers::TAKING;
 use rules::numbers::WINDOW;
+use rules::numbers::WINDOWED;
 ghost use mathlib.Core.Path.{_≡_};
 ghost use lib.Dec.{ltb};
 ghost use Rattle.laws.specs.Choice.{cond};
@@ -36,10 +37,17 @@ fn side_of(number: u32) -> Side
     Side::Taking
 }
 
-// The window that a queue's worker has seen.
+// The window that a queue's worker has seen, in an edition that has no words for its bottom and its width by its top.
 fn seen_by(g: Settings, s: Slot) -> Span
     ensures { λ r. ⌜ r ≡ seenBy g s ⌝ }
 {
+    if WINDOWED <= g.edition {
+        return Span {
+            top: s.window,
+            bottom: s.bottom,
+            width: s.width,
+        };
+    }
     span_of(s.window, size_of(g))
 }
 

@@ -1,7 +1,9 @@
 // The words of a worker.
 use rules::Phase;
+use rules::Settings;
 use rules::Side;
 use rules::Slot;
+use rules::Span;
 use rules::Worker;
 use rules::numbers::CHECK;
 use rules::numbers::COMMIT;
@@ -11,9 +13,11 @@ use rules::numbers::READ;
 use rules::numbers::SHIFT;
 use rules::numbers::TAKING;
 use rules::numbers::WINDOW;
+use rules::numbers::WINDOWED;
 ghost use mathlib.Core.Path.{_≡_};
 ghost use Prim.Native.Nat.{_≤_};
-ghost use Rattle.rules.specs.Worker.{confirmPhase, encode, fresh, numberFor, zeroSlot};
+ghost use Rattle.rules.specs.Window.{readFrom};
+ghost use Rattle.rules.specs.Worker.{confirmPhase, encode, fresh, kept, numberFor, zeroSlot};
 
 // A take's phases are a put's and `TAKING`.
 fn number_of(side: Side, phase: u32) -> u32
@@ -26,12 +30,27 @@ fn number_of(side: Side, phase: u32) -> u32
     }
 }
 
+// A window seen as the words hold it: an edition that has no words for its bottom and its width drops them.
+fn kept_window(g: Settings, window: Span) -> Span
+    ensures { λ r. ⌜ r ≡ record { top = window .top; bottom = kept g (window .bottom); width = kept g (window .width) } ⌝ }
+{
+    if WINDOWED <= g.edition {
+        return window;
+    }
+    Span {
+        top: window.top,
+        bottom: 0,
+        width: 0,
+    }
+}
+
 // The words of a worker in a phase, which has `phase` for its number in a put.
 fn words(
-    k: Worker,
+    value: u32,
+    index: u32,
     side: Side,
     phase: u32,
-    window: u32,
+    window: Span,
     extra: u32,
     scan: u32,
     seen: u32,
@@ -40,88 +59,155 @@ fn words(
     requires { ⌜ phase ≤ confirmPhase ⌝ }
     ensures { λ r. ⌜ r ≡ record {
       number = numberFor side phase;
-      value = k .value;
-      index = k .index;
-      window = window;
+      value = value;
+      index = index;
+      window = window .top;
       extra = extra;
       scan = scan;
       seen = seen;
       sum = sum;
+      bottom = window .bottom;
+      width = window .width;
     } ⌝ }
 {
     Slot {
         number: number_of(side, phase),
-        value: k.value,
-        index: k.index,
-        window,
+        value,
+        index,
+        window: window.top,
         extra,
         scan,
         seen,
         sum,
+        bottom: window.bottom,
+        width: window.width,
     }
 }
 
 // The words of a worker. What its phase holds goes before the old words, which are kept where it holds none.
-pub fn slot_of(k: Worker, old: Slot) -> Slot
-    ensures { λ r. ⌜ r ≡ encode k old ⌝ }
+pub fn slot_of(g: Settings, k: Worker, old: Slot) -> Slot
+    ensures { λ r. ⌜ r ≡ encode g k old ⌝ }
 {
-    let window = old.window;
+    let value = k.value;
+    let index = k.index;
+    let past = Span {
+        top: old.window,
+        bottom: old.bottom,
+        width: old.width,
+    };
     let extra = old.extra;
     let scan = old.scan;
     let seen = old.seen;
     let sum = old.sum;
     let phase = k.phase;
     match phase {
-        Phase::Idle => words(k, Side::Putting, IDLE, window, extra, scan, seen, sum),
-        Phase::Window(side) => words(k, side, WINDOW, window, extra, scan, seen, sum),
+        Phase::Idle => words(
+            value,
+            index,
+            Side::Putting,
+            IDLE,
+            past,
+            extra,
+            scan,
+            seen,
+            sum,
+        ),
+        Phase::Window(side) => words(value, index, side, WINDOW, past, extra, scan, seen, sum),
         Phase::QueuePutRead { window, scan } => {
-            words(k, Side::Putting, READ, window.top, extra, scan, seen, sum)
+            let span = kept_window(g, window);
+            words(
+                value,
+                index,
+                Side::Putting,
+                READ,
+                span,
+                extra,
+                scan,
+                seen,
+                sum,
+            )
         }
         Phase::QueueTakeRead {
             window,
             bare,
             scan,
             sum,
-        } => words(k, Side::Taking, READ, window.top, bare, scan, seen, sum),
+        } => {
+            let span = kept_window(g, window);
+            words(
+                value,
+                index,
+                Side::Taking,
+                READ,
+                span,
+                bare,
+                scan,
+                seen,
+                sum,
+            )
+        }
         Phase::StackRead {
             side,
             window,
             version,
             scan,
             sum,
-        } => words(k, side, READ, window, version.0, scan, seen, sum),
+        } => {
+            let span = Span {
+                top: window,
+                bottom: old.bottom,
+                width: old.width,
+            };
+            words(value, index, side, READ, span, version.0, scan, seen, sum)
+        }
         Phase::Check {
             side,
             version,
             seen,
-        } => words(k, side, CHECK, window, version.0, scan, seen.0, sum),
+        } => words(
+            value,
+            index,
+            side,
+            CHECK,
+            past,
+            version.0,
+            scan,
+            seen.0,
+            sum,
+        ),
         Phase::QueueCommit { side, window, seen } => {
-            words(k, side, COMMIT, window.top, extra, scan, seen, sum)
+            let span = kept_window(g, window);
+            words(value, index, side, COMMIT, span, extra, scan, seen, sum)
         }
         Phase::StackCommit { side, seen } => {
-            words(k, side, COMMIT, window, extra, scan, seen.0, sum)
+            words(value, index, side, COMMIT, past, extra, scan, seen.0, sum)
         }
         Phase::QueueShift { side, window } => {
-            words(k, side, SHIFT, window.top, extra, scan, seen, sum)
+            let span = kept_window(g, window);
+            words(value, index, side, SHIFT, span, extra, scan, seen, sum)
         }
         Phase::StackShift {
             side,
             version,
             scan,
             sum,
-        } => words(k, side, SHIFT, window, version.0, scan, seen, sum),
-        Phase::QueueConfirm { window, scan, sum } => words(
-            k,
-            Side::Taking,
-            CONFIRM,
-            window.top,
-            extra,
-            scan,
-            seen,
-            sum,
-        ),
+        } => words(value, index, side, SHIFT, past, version.0, scan, seen, sum),
+        Phase::QueueConfirm { window, scan, sum } => {
+            let span = kept_window(g, window);
+            words(
+                value,
+                index,
+                Side::Taking,
+                CONFIRM,
+                span,
+                extra,
+                scan,
+                seen,
+                sum,
+            )
+        }
         Phase::StackConfirm { side, scan, sum } => {
-            words(k, side, CONFIRM, window, extra, scan, seen, sum)
+            words(value, index, side, CONFIRM, past, extra, scan, seen, sum)
         }
     }
 }
@@ -138,14 +224,17 @@ pub fn zero_slot() -> Slot
         scan: 0,
         seen: 0,
         sum: 0,
+        bottom: 0,
+        width: 0,
     }
 }
 
 // The words of a worker whose other words are zero.
-pub fn fresh_slot(value: u32, index: u32, phase: Phase) -> Slot
-    ensures { λ r. ⌜ r ≡ fresh value index phase ⌝ }
+pub fn fresh_slot(g: Settings, value: u32, index: u32, phase: Phase) -> Slot
+    ensures { λ r. ⌜ r ≡ fresh g value index phase ⌝ }
 {
     slot_of(
+        g,
         Worker {
             value,
             index,
@@ -153,4 +242,12 @@ pub fn fresh_slot(value: u32, index: u32, phase: Phase) -> Slot
         },
         zero_slot(),
     )
+}
+
+// The words of a worker that has just seen a queue's window. Its phase is not made first, and then taken apart: the two sides' are of different sizes, and
+// the compiler would keep the window in memory.
+pub fn seen_slot(g: Settings, value: u32, index: u32, side: Side, window: Span) -> Slot
+    ensures { λ r. ⌜ r ≡ fresh g value index (readFrom window side) ⌝ }
+{
+    words(value, index, side, READ, kept_window(g, window), 0, 0, 0, 0)
 }

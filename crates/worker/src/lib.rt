@@ -5,7 +5,9 @@ mod windows;
 
 pub use decode::worker_of;
 pub use encode::fresh_slot;
+pub use encode::seen_slot;
 pub use encode::slot_of;
 pub use encode::zero_slot;
-pub use windows::own_sizes;
+pub use windows::level_of;
+pub use windows::size_of;
 pub use windows::span_of;

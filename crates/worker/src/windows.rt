@@ -1,11 +1,12 @@
-// A queue's windows. Every window has the pool's width and depth.
+// A queue's windows, and the row that a put or a take goes above.
+use laws::num::higher;
 use laws::num::minus;
 use rules::Settings;
 use rules::Size;
-use rules::Sizes;
 use rules::Span;
+use rules::numbers::WINDOWED;
 ghost use mathlib.Core.Path.{_≡_};
-ghost use Rattle.rules.specs.Windows.{sizeOf, ownSizes, spanOf};
+ghost use Rattle.rules.specs.Windows.{sizeOf, spanOf, levelOf};
 
 // The pool's own size.
 pub fn size_of(g: Settings) -> Size
@@ -14,19 +15,6 @@ pub fn size_of(g: Settings) -> Size
     Size {
         width: g.width,
         depth: g.depth,
-    }
-}
-
-// Every window has it.
-pub fn own_sizes(g: Settings) -> Sizes
-    ensures { λ r. ⌜ r ≡ ownSizes g ⌝ }
-{
-    let own = size_of(g);
-    Sizes {
-        put: own,
-        take: own,
-        after: own,
-        next: own,
     }
 }
 
@@ -39,4 +27,14 @@ pub fn span_of(top: u32, size: Size) -> Span
         bottom: minus(top, size.depth),
         width: size.width,
     }
+}
+
+// The higher of a sub's last row and a window's bottom. Where a sub's words are counts, the row above so many items is the next.
+pub fn level_of(g: Settings, last: u32, bottom: u32) -> u32
+    ensures { λ r. ⌜ r ≡ levelOf g last bottom ⌝ }
+{
+    if WINDOWED <= g.edition {
+        return higher(last, bottom);
+    }
+    last
 }

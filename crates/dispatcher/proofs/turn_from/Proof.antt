@@ -21,7 +21,7 @@ abbrev μ-loop : tie.MeasureT-loop
 μ-loop words g from i₀ left₀ i left = left
 
 loop-holds : tie.Need-loop-holds Inv-loop μ-loop
-loop-holds c = (c .before .pre .1, le-refl _, refl)
+loop-holds c = (c .before .pre .1 .1, le-refl _, refl)
 
 worker-at-requires : tie.Need-worker-at-requires Inv-loop μ-loop
 worker-at-requires c κs = search needs
@@ -29,7 +29,7 @@ worker-at-requires c κs = search needs
 idle-at-requires : tie.Need-idle-at-requires Inv-loop μ-loop
 idle-at-requires c κs =
     let s = c .before .before .before .before in
-    search (needs, worker-lent (s .args .g) (s .args .words .now) (c .before .before .loop .i) (c .before .before .loop .inv .0) (s .pre .0 .enough))
+    search (needs, worker-lent (s .args .g) (s .args .words .now) (c .before .before .loop .i) (c .before .before .loop .inv .0) (s .pre .1 .0))
 
 add-i : tie.Need-add-i Inv-loop μ-loop
 add-i c = search needs

@@ -7,11 +7,11 @@ use Rattle.effects.proofs.moved.Tie as tie
 slot-of-requires : tie.Need-slot-of-requires
 slot-of-requires c κs = search needs
 
-keep-requires : tie.Need-keep-requires
-keep-requires c κs = search needs
+going-requires : tie.Need-going-requires
+going-requires c κs = search needs
 
 returns : tie.Need-returns
-returns c = c .keep .ensures ∙ simp (c .before .slot-of .ensures)
+returns c = c .going .ensures ∙ simp (c .before .slot-of .ensures)
 
 pub moved-spec : {M : Type 1} → statement M
-moved-spec = tie.close (tie.spec slot-of-requires keep-requires returns)
+moved-spec = tie.close (tie.spec slot-of-requires going-requires returns)

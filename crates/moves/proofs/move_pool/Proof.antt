@@ -1,67 +1,45 @@
--- `moves::move_pool` meets its contract: at each return the test that led there picks the same branch of `moveOf`, and each call stands for what it ensures.
-use mathlib.Core.Path.{_≡_, ap, sym, _∙_}
+-- `moves::move_pool` meets its contract: at each return the tests of the two editions that led there pick the same branch of `moveOf`.
+use Prim.Native.Nat.{ℕ, _≤_, _<_}
+use mathlib.Core.Path.{_≡_, refl, _∙_}
 use mathlib.Core.List.{List}
-use Prim.Native.Nat.{ℕ}
 use native.Mathlib.Omega.{arith}
 use borrow.Author.Needs.{needs}
-use Rattle.rules.specs.Answers.{refuse, notFit, wrongEdition}
-use Rattle.rules.specs.Fit.{Checked, Fit, refusalOf, FitPool}
-use Rattle.rules.specs.Layout.{settingsOf}
-use Rattle.rules.specs.Make.{inEdition}
-use Rattle.rules.specs.Move.{sourceChecked, fitMove, checkedMove, moveOf}
-use Rattle.rules.specs.declared.Settings.{Settings}
-use Rattle.rules.proofs.Fitness.{refusal-none-by, refusal-some-by, fit-with-other, fit-pool}
+use borrow.Author.Tests.{lt-ltb, le-ltb}
+use lib.Dec.{ltb}
+use Rattle.laws.specs.Choice.{cond, both-false}
+use Rattle.rules.specs.Answers.{refuse, wrongEdition}
+use Rattle.rules.specs.Move.{sourceChecked, checkedMove, moveOf}
 use Rattle.moves.proofs.move_pool.Statement.{statement}
 use Rattle.moves.proofs.move_pool.Tie as tie
 
--- a source that is not refused is a fit pool
-source-none : (e : ℕ) (from : List ℕ) → refusalOf (sourceChecked e from) ≡ 0 → sourceChecked e from ≡ Fit (settingsOf from)
-source-none e from = refusal-none-by wrongEdition e from (omega arith)
+-- an edition that no move leads from, or to
+none-from : (a b : ℕ) (from to : List ℕ) → 2 ≤ a → refuse wrongEdition to ≡ moveOf a b from to
+unfolding moveOf cond
+none-from a b from to l = rw (le-ltb a 2 l) refl
 
-source-fit : (e : ℕ) (from : List ℕ) → refusalOf (sourceChecked e from) ≡ 0 → FitPool (settingsOf from) from
-source-fit e from z = fit-pool e from (settingsOf from) (fit-with-other wrongEdition notFit e from (settingsOf from) (source-none e from z))
+none-to : (a b : ℕ) (from to : List ℕ) → 2 ≤ b → refuse wrongEdition to ≡ moveOf a b from to
+unfolding moveOf cond
+none-to a b from to l = rw (le-ltb b 2 l, both-false (ltb a 2)) refl
 
--- and one that is refused gives its number, whatever the target is
-source-some : (e b n : ℕ) (from to : List ℕ) → n ≡ refusalOf (sourceChecked e from) → ¬ (n ≡ 0) → refuse n to ≡ moveOf e b from to
-unfolding moveOf checkedMove
-source-some e b n from to is not =
-    ap (λ (m : ℕ). refuse m to) is ∙ ap (λ (k : Checked). checkedMove b from k to) (sym (refusal-some-by (sourceChecked e from) (λ z. not (is ∙ z))))
-
-source-refusal-requires : tie.Need-source-refusal-requires
-source-refusal-requires c κs = search needs
+-- the others
+some : (a b : ℕ) (from to : List ℕ) → a < 2 → b < 2 → checkedMove b from (sourceChecked a from) to ≡ moveOf a b from to
+unfolding moveOf cond
+some a b from to k l = rw (lt-ltb a 2 k, lt-ltb b 2 l) refl
 
 returns : tie.Need-returns
-returns c = source-some _ _ _ _ _ (c .before .source-refusal .ensures) (c .if1 .taken)
+returns c = none-from _ _ _ _ (omega arith)
 
-settings-requires : tie.Need-settings-requires
-settings-requires c κs =
-    let a = c .before .before .before .before .args in
-    omega (arith, source-fit (a .old) (a .from .now) (sym (c .before .source-refusal .ensures) ∙ c .if1 .left) .enough)
+returns-2 : tie.Need-returns-2
+returns-2 c = none-to _ _ _ _ (omega arith)
 
-fit-move-requires : tie.Need-fit-move-requires
-fit-move-requires c κs =
-    let a = c .before .before .before .before .before .before .args in
-    rw (c .before .settings .ensures) (source-fit (a .old) (a .from .now) (sym (c .before .before .before .source-refusal .ensures) ∙ c .before .before .if1 .left))
+checked-move-requires : tie.Need-checked-move-requires
+checked-move-requires c κs = search needs
 
 same-length : tie.Need-same-length
 same-length c = search needs
 
-returns-2 : tie.Need-returns-2
-unfolding moveOf checkedMove
-returns-2 c =
-    let a = c .before .before .before .before .before .before .before .before .before .args in
-    let fit = source-none (a .old) (a .from .now) (sym (c .before .before .before .before .before .before .source-refusal .ensures) ∙ c .before .before .before .before .before .if1 .left) in
-    c .before .before .fit-move .ensures
-    ∙ ap (λ (g : Settings). fitMove (a .from .now) g (a .to .now) (inEdition (a .new) g)) (c .before .before .before .before .settings .ensures)
-    ∙ ap (λ (k : Checked). checkedMove (a .new) (a .from .now) k (a .to .now)) (sym fit)
+returns-3 : tie.Need-returns-3
+returns-3 c = c .before .before .checked-move .ensures ∙ some _ _ _ _ (omega arith) (omega arith)
 
 pub move-pool-spec : {M : Type 1} → statement M
-move-pool-spec =
-    tie.close
-    (tie.spec
-    source-refusal-requires
-    returns
-    settings-requires
-    fit-move-requires
-    same-length
-    returns-2)
+move-pool-spec = tie.close (tie.spec returns returns-2 checked-move-requires same-length returns-3)

@@ -1,10 +1,11 @@
 -- Where the count runs out, a dispatch from the worker named then goes on as one with a greater count would have: each turn so far answered 0 and left the
--- pool fit, and the turns to come start from there.
+-- settings as they were, and the turns to come start from there. Where the last of them left the pool unfit, both are refused: the one at its next step,
+-- the other at once.
 use mathlib.Core.Path.{_≡_, refl, sym, ap, _∙_, subst}
 use mathlib.Core.Logic.{_≢_}
 use mathlib.Core.Bool.{Bool}
 use mathlib.Core.List.{List}
-use Prim.Native.Nat.{ℕ, zero, suc, _+_, _-_, _<_}
+use Prim.Native.Nat.{ℕ, zero, suc, _+_, _-_, _≤_, _<_}
 use native.Mathlib.Decide.{ℕ-discrete}
 use native.Mathlib.Nat.{mod-lt, zero-add}
 use native.Mathlib.Decide.{decLt}
@@ -13,17 +14,18 @@ use lib.Dec.{leb}
 use borrow.Author.Tests.{le-leb}
 use Rattle.laws.specs.Choice.{cond, cases}
 use Rattle.rules.specs.Answers.{numberOf, noSuchWorker}
+use Rattle.rules.specs.Layout.{settingsOf}
 use Rattle.rules.specs.Fit.{Checked, Unfit, Fit, checkedOf}
 use Rattle.rules.specs.Step.{stepOf}
 use Rattle.rules.specs.Dispatch.{DispatchOut, dispatched, workerAfter, turnFrom, endedBy, turnsOf, fitDispatch, checkedDispatch, dispatchOf}
 use Rattle.rules.specs.DispatchSteps.{DispatchGoesOn}
-use Rattle.rules.proofs.Fitness.{fit-head, fit-own}
+use Rattle.rules.proofs.Fitness.{fit-pool, fit-head, fit-own}
 use Rattle.rules.proofs.Types.{Settings, Answer}
 use Rattle.rules.specs.declared.Turn.{Turn}
 use Rattle.rules.specs.declared.Turn.the-variants.{NoneBusy as Nobody, Worker}
 use Rattle.rules.specs.declared.Dispatched.{Dispatched}
 use Rattle.rules.specs.declared.Dispatched.the-variants.{RanOut, Refused}
-use Rattle.rules.proofs.dispatch.Turns.{turns-none, turns-out, turns-on, turns-end, turn-stays, fit-turns}
+use Rattle.rules.proofs.dispatch.Turns.{Found, turns-none, turns-out, turns-on, turns-end, turns-refused, turn-settings, fit-turns}
 
 -- a result that is not "the count ran out"
 abbrev Other : Dispatched → Type 0
@@ -37,10 +39,11 @@ ended-other j a =
     (λ l next e. let z : _≡_ {A = ℕ} 0 1 = cc in omega arith)
 
 module _ (g : Settings) where
-  -- so far: the words are fit, the worker is one of the pool's, and from there it goes on
+  -- so far: the settings are the same, the worker is one of the pool's, it is someone's turn, and from there it goes on
   record On (ws : List ℕ) (i k : ℕ) (vs : List ℕ) (next : ℕ) : Type 0 where
-    fit : checkedOf (g .edition) vs ≡ Fit g
+    settings : settingsOf vs ≡ g
     among : next < g .workers
+    found : Found vs g (turnFrom vs g next)
     more : (b : ℕ) → turnsOf ws g i (k + b) ≡ turnsOf vs g next b
 
   -- one turn more before it
@@ -48,17 +51,18 @@ module _ (g : Settings) where
       → On (stepOf (g .edition) ws j .words) (workerAfter g j) k vs next → On ws i (suc k) vs next
   on-more ws i j k turn z vs next x =
       record {
-        fit = x .fit;
+        settings = x .settings;
         among = x .among;
+        found = x .found;
         more = λ b.
             let first : suc k + b ≡ suc (k + b) = omega arith in
             let less : suc (k + b) - 1 ≡ k + b = omega arith in
             rw first ((rw less at (turns-on ws g i j (suc (k + b)) (omega arith) turn (stepOf (g .edition) ws j) refl z)) ∙ x .more b);
       }
 
-  turns-go-on : (k : ℕ) (ws : List ℕ) (i next : ℕ) → checkedOf (g .edition) ws ≡ Fit g → i < g .workers → turnsOf ws g i k .result ≡ RanOut next
+  turns-go-on : (k : ℕ) (ws : List ℕ) (i next : ℕ) → settingsOf ws ≡ g → i < g .workers → turnsOf ws g i k .result ≡ RanOut next
       → On ws i k (turnsOf ws g i k .words) next
-  turns-go-on zero ws i next fit l e = by (turnFrom ws g i) refl
+  turns-go-on zero ws i next own l e = by (turnFrom ws g i) refl
     where
       by : (t : Turn) → turnFrom ws g i ≡ t → On ws i 0 (turnsOf ws g i 0 .words) next
       by Nobody u =
@@ -69,9 +73,9 @@ module _ (g : Settings) where
           let out = turns-out ws g i j 0 refl u in
           let result = ap (λ (o : DispatchOut). o .result) out in
           let same : i ≡ next = cc in
-          rw out (subst (On ws i 0 ws) same (record { fit = fit; among = l; more = λ b. rw (zero-add b) refl }))
-  turns-go-on (suc k) ws i next fit l e =
-      by (turnFrom ws g i) refl (λ j z. turns-go-on k (stepOf (g .edition) ws j .words) (workerAfter g j) next (turn-stays ws g fit j z .fit) (mod-lt _ (omega arith)))
+          rw out (subst (On ws i 0 ws) same (record { settings = own; among = l; found = (j, u); more = λ b. rw (zero-add b) refl }))
+  turns-go-on (suc k) ws i next own l e =
+      by (turnFrom ws g i) refl (λ j z. turns-go-on k (stepOf (g .edition) ws j .words) (workerAfter g j) next (turn-settings ws g j own z) (mod-lt _ (omega arith)))
     where
       Rest : Type 0
       Rest =
@@ -117,11 +121,22 @@ module _ (ed : ℕ) (ws : List ℕ) (i steps next : ℕ) (e : dispatchOf ed ws i
         | no l ↦ absurd (not-refused noSuchWorker ((ap (λ (b : Bool). cond b (dispatched (Refused noSuchWorker) ws) (turnsOf ws g i steps) .result) (sym (le-leb (g .workers) i (omega arith)))) ∙ u))
       ]
 
+-- turns of a pool of its edition are a dispatch's, or both are refused
+turns-called : (g : Settings) (vs : List ℕ) (next more : ℕ) → 1 ≤ more → settingsOf vs ≡ g → next < g .workers → Found vs g (turnFrom vs g next)
+    → turnsOf vs g next more ≡ dispatchOf (g .edition) vs next more
+unfolding dispatchOf checkedDispatch
+turns-called g vs next more some own among found = by (checkedOf (g .edition) vs) refl
+  where
+    by : (c : Checked) → checkedOf (g .edition) vs ≡ c → turnsOf vs g next more ≡ dispatchOf (g .edition) vs next more
+    by (Unfit n) e = turns-refused vs g next (found .0) more n some (found .1) e ∙ (rw e refl)
+    by (Fit h) e = sym (fit-turns vs g (e ∙ ap Fit (sym (fit-pool (g .edition) vs h e .settings) ∙ own)) next more among)
+
 pub dispatch-goes-on : DispatchGoesOn
-dispatch-goes-on ed ws i steps more next e =
+dispatch-goes-on ed ws i steps more next some e =
     let b = begins ed ws i steps next e in
     let g : Settings = b .settings in
     let e′ : dispatchOf (g .edition) ws i steps .result ≡ RanOut next = rw (b .edition) e in
     let here = fit-turns ws g (b .fit) i in
-    let on = turns-go-on g steps ws i next (b .fit) (b .among) (sym (ap (λ (o : DispatchOut). o .result) (here steps (b .among))) ∙ e′) in
-    rw (sym (b .edition), here (steps + more) (b .among), here steps (b .among)) (on .more more ∙ sym (fit-turns (turnsOf ws g i steps .words) g (on .fit) next more (on .among)))
+    let on = turns-go-on g steps ws i next (fit-pool (g .edition) ws g (b .fit) .settings) (b .among) (sym (ap (λ (o : DispatchOut). o .result) (here steps (b .among))) ∙ e′) in
+    rw (sym (b .edition), here (steps + more) (b .among), here steps (b .among))
+    (on .more more ∙ turns-called g (turnsOf ws g i steps .words) next more some (on .settings) (on .among) (on .found))

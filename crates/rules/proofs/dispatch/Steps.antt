@@ -21,7 +21,7 @@ use Rattle.rules.specs.Dispatch.{DispatchOut, dispatched, workerAfter, t
 use Rattle.rules.specs.DispatchSteps.{Made, nobody, ran-out, refused, finished, moved, DispatchBySteps, call, dispatch, wordsAsked, end, called, dispatched-to, AskedByCalls}
 use Rattle.rules.proofs.Fitness.{fit-head}
 use Rattle.rules.proofs.Types.{Settings, Effect, Outcome}
-use Rattle.rules.specs.declared.Outcome.the-variants.{Refused as Stopped, Moving, Lost, Shifted, Landed, Removed, Empty, Full}
+use Rattle.rules.specs.declared.Outcome.the-variants.{Refused as Stopped, Moving, Lost, Shifted, Raised, Dropped, Landed, Removed, Empty, Full}
 use Rattle.rules.specs.declared.Turn.{Turn}
 use Rattle.rules.specs.declared.Turn.the-variants.{NoneBusy as Nobody, Worker}
 use Rattle.rules.specs.declared.Dispatched.{Dispatched}
@@ -38,6 +38,8 @@ module _ (ws : List ℕ) where
   applied-kept g at j e Moving l = absurd (omega arith)
   applied-kept g at j e Lost l = absurd (omega arith)
   applied-kept g at j e Shifted l = absurd (omega arith)
+  applied-kept g at j e Raised l = absurd (omega arith)
+  applied-kept g at j e Dropped l = absurd (omega arith)
   applied-kept g at j e (Landed value row stamp) l = absurd (omega arith)
   applied-kept g at j e (Removed row) l = absurd (omega arith)
   applied-kept g at j e Empty l = absurd (omega arith)

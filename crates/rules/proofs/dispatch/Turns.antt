@@ -1,27 +1,49 @@
 -- The dispatcher's turns, as its code's proofs take them: the first busy worker found by looking at one after the other, and a turn by what its
 -- step answers.
-use mathlib.Core.Path.{_≡_, refl, subst}
+use mathlib.Core.Path.{_≡_, refl, sym, ap, _∙_, subst}
 use mathlib.Core.Logic.{_≢_, _⊎_, inl, inr}
 use mathlib.Core.List.{List}
 use Prim.Native.Nat.{ℕ, zero, suc, _+_, _-_, _<_}
 use native.Mathlib.Nat.{mod-lt, mod-eq-of-lt, mod-self}
 use native.Mathlib.Decide.{decLe, decLt}
 use native.Mathlib.Omega.{arith}
-use lib.ListN.{getD}
-use lib.Dec.{eqb}
+use lib.ListN.{length, getD}
+use lib.Dec.{ltb, eqb}
 use borrow.Author.Tests.{lt-leb, eq-eqb, ne-eqb, eqb-true, eqb-false}
-use Rattle.laws.specs.Choice.{cond, cases}
-use Rattle.rules.specs.Answers.{Out, numberOf}
-use Rattle.rules.specs.Layout.{workerAt}
-use Rattle.rules.specs.Fit.{Fit, checkedOf}
+use Rattle.laws.specs.Choice.{cond, cases, all}
+use Rattle.rules.specs.Answers.{Out, refuse, numberOf}
+use Rattle.rules.specs.Layout.{headWords, workerAt, needed, settingsOf}
+use Rattle.rules.specs.Make.{inEdition}
+use Rattle.rules.specs.Limits.{settingsFit}
+use Rattle.rules.specs.Fit.{Checked, Unfit, Fit, bodyFit, bodyChecked, headChecked, checkedBy, checkedOf}
 use Rattle.rules.specs.Step.{fitStep, checkedStep, stepOf}
 use Rattle.rules.specs.Dispatch.{dispatched, workerAfter, busyFrom, turnFrom, endedBy, afterStep, turnsOf, fitDispatch, checkedDispatch, dispatchOf}
 use Rattle.rules.specs.DispatchSteps.{NamedFirst}
 use Rattle.rules.specs.declared.Settings.{Settings}
 use Rattle.rules.specs.declared.Turn.{Turn}
 use Rattle.rules.specs.declared.Turn.the-variants.{NoneBusy as Nobody, Worker}
-use Rattle.rules.specs.declared.Dispatched.the-variants.{NoneBusy, RanOut}
-use Rattle.rules.proofs.words.Stays.{Stays, step-stays}
+use Rattle.rules.specs.declared.Dispatched.the-variants.{NoneBusy, RanOut, Refused}
+use Rattle.rules.proofs.Fitness.{fit-pool}
+use Rattle.rules.proofs.words.Stays.{Standing, step-stays, step-busy, step-settings}
+
+-- ---- the number of an unfit pool is none of an answer's
+High : Checked → Type 0
+High (Unfit n) = 4 < n
+High (Fit g) = Unit {0}
+
+high : (ed : ℕ) (ws : List ℕ) → High (checkedOf ed ws)
+unfolding High checkedBy headChecked bodyChecked
+high ed ws =
+    cases High (ltb (length ws) headWords) _ _ (λ e. omega arith)
+    (λ e. cases High (settingsFit (inEdition ed (settingsOf ws))) _ _
+    (λ f. cases High (eqb (settingsOf ws .edition) ed) _ _
+    (λ h. cases High (ltb (length ws) (needed (settingsOf ws))) _ _ (λ a. omega arith) (λ a. cases High (all (bodyFit ws (settingsOf ws))) _ _ (λ b. tt) (λ b. omega arith)))
+    (λ h. omega arith))
+    (λ f. omega arith))
+
+pub unfit-high : (ed : ℕ) (ws : List ℕ) (n : ℕ) → checkedOf ed ws ≡ Unfit n → 4 < n
+unfolding High
+unfit-high ed ws n e = subst High e (high ed ws)
 
 -- ---- whose turn it is
 abbrev phase : List ℕ → Settings → ℕ → ℕ
@@ -142,8 +164,43 @@ module _ (ws : List ℕ) (g : Settings) where
   unfolding stepOf checkedStep
   fit-step e j = rw e refl
 
-  pub turn-stays : checkedOf (g .edition) ws ≡ Fit g → (j : ℕ) → numberOf (stepOf (g .edition) ws j .answer) ≡ 0 → Stays g (stepOf (g .edition) ws j .words) j
+  pub turn-stays : checkedOf (g .edition) ws ≡ Fit g → (j : ℕ) → numberOf (stepOf (g .edition) ws j .answer) ≡ 0
+      → Standing g ws (stepOf (g .edition) ws j .words) → checkedOf (g .edition) (stepOf (g .edition) ws j .words) ≡ Fit g
   turn-stays e j = rw (fit-step e j) (step-stays ws g e j)
+
+  -- on an unfit one: it is refused
+  pub unfit-step : (n j : ℕ) → checkedOf (g .edition) ws ≡ Unfit n → stepOf (g .edition) ws j ≡ refuse n ws
+  unfolding stepOf checkedStep
+  unfit-step n j e = rw e refl
+
+  pub turns-refused : (i j k n : ℕ) → 0 < k → turnFrom ws g i ≡ Worker j → checkedOf (g .edition) ws ≡ Unfit n → turnsOf ws g i k ≡ dispatched (Refused n) ws
+  unfolding endedBy cond
+  turns-refused i j k n some turn e =
+      let high = unfit-high (g .edition) ws n e in
+      turns-end i j k some turn (refuse n ws) (unfit-step n j e) (λ z. omega arith) ∙ (rw (lt-leb n 4 high) refl)
+
+  -- a step that answered 0 was on a fit one
+  pub moved-fit : (j : ℕ) → settingsOf ws ≡ g → numberOf (stepOf (g .edition) ws j .answer) ≡ 0 → checkedOf (g .edition) ws ≡ Fit g
+  moved-fit j own z = by (checkedOf (g .edition) ws) refl
+    where
+      by : (c : Checked) → checkedOf (g .edition) ws ≡ c → checkedOf (g .edition) ws ≡ Fit g
+      by (Unfit n) e =
+          let number : n ≡ 0 = sym (ap (λ (o : Out). numberOf (o .answer)) (unfit-step n j e)) ∙ z in
+          absurd (omega (arith, unfit-high (g .edition) ws n e))
+      by (Fit h) e = e ∙ ap Fit (sym (fit-pool (g .edition) ws h e .settings) ∙ own)
+
+  -- and leaves its worker busy and the settings as they were, fit or not
+  fit-busy : checkedOf (g .edition) ws ≡ Fit g → (j : ℕ) → numberOf (stepOf (g .edition) ws j .answer) ≡ 0 → phase (stepOf (g .edition) ws j .words) g j ≢ 0
+  fit-busy e j = rw (fit-step e j) (step-busy ws g e j)
+
+  fit-settings : checkedOf (g .edition) ws ≡ Fit g → (j : ℕ) → numberOf (stepOf (g .edition) ws j .answer) ≡ 0 → settingsOf (stepOf (g .edition) ws j .words) ≡ g
+  fit-settings e j = rw (fit-step e j) (step-settings ws g e j)
+
+  pub turn-busy : (j : ℕ) → settingsOf ws ≡ g → numberOf (stepOf (g .edition) ws j .answer) ≡ 0 → phase (stepOf (g .edition) ws j .words) g j ≢ 0
+  turn-busy j own z = fit-busy (moved-fit j own z) j z
+
+  pub turn-settings : (j : ℕ) → settingsOf ws ≡ g → numberOf (stepOf (g .edition) ws j .answer) ≡ 0 → settingsOf (stepOf (g .edition) ws j .words) ≡ g
+  turn-settings j own z = fit-settings (moved-fit j own z) j z
 
   pub fit-turns : checkedOf (g .edition) ws ≡ Fit g → (i steps : ℕ) → i < g .workers → dispatchOf (g .edition) ws i steps ≡ turnsOf ws g i steps
   unfolding dispatchOf checkedDispatch fitDispatch cond

@@ -27,8 +27,8 @@ able-does a (refuses n l unable e) = absurd (unable a)
 able-does a (does b e) = e
 
 -- worker i has begun
-abbrev pub begun : State → ℕ → Side → ℕ → State
-begun s i side v = withSlot s i (fresh v (subIn s i) (Window side))
+abbrev pub begun : Settings → State → ℕ → Side → ℕ → State
+begun g s i side v = withSlot s i (fresh g v (subIn s i) (Window side))
 
 module _ (g : Settings) (s : State) (i : ℕ) where
   -- a step is made of a busy worker, and a begin of an idle one, while the step count has steps left
@@ -53,7 +53,7 @@ module _ (g : Settings) (s : State) (i : ℕ) where
       Of : Next State → Type 0
       Of o = Called s Steps (applyIn g s i (ruleOf g (viewIn g s i))) o
 
-  pub begin-called : (side : Side) (v : ℕ) → Called s Begins (next Moving (begun s i side v)) (beginIn g s i side v)
+  pub begin-called : (side : Side) (v : ℕ) → Called s Begins (next Moving (begun g s i side v)) (beginIn g s i side v)
   unfolding beginIn
   begin-called side v =
       cases Of (leb (g .workers) i) _ _ (λ a. refuses noSuchWorker (omega arith) (λ able. omega (arith, able .worker, leb-true (g .workers) i a)) refl)
@@ -63,4 +63,4 @@ module _ (g : Settings) (s : State) (i : ℕ) where
       (λ b. refuses workerBusy (omega arith) (λ able. eqb-false _ _ b (able .idle)) refl))
     where
       Of : Next State → Type 0
-      Of o = Called s Begins (next Moving (begun s i side v)) o
+      Of o = Called s Begins (next Moving (begun g s i side v)) o

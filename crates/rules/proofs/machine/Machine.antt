@@ -6,22 +6,22 @@
 use mathlib.Core.Path.{_≡_, refl, ap}
 use mathlib.Core.Logic.{_≢_}
 use mathlib.Core.Bool.{Bool}
-use Prim.Native.Nat.{ℕ, suc, _-_, _*_, _%_}
-use lib.Dec.{leb, eqb}
-use Rattle.laws.specs.Choice.{cond}
-use Rattle.rules.specs.Answers.{noSuchWorker, workerBusy, workerIdle, stepsSpent}
-use Rattle.rules.specs.Limits.{stepLimit}
+use Prim.Native.Nat.{ℕ, suc, _+_, _-_, _*_, _%_}
+use lib.Dec.{ltb, leb, eqb}
+use Rattle.laws.specs.Choice.{cond, both}
+use Rattle.rules.specs.Answers.{noSuchWorker, workerBusy, workerIdle, stepsSpent, notFit, offSize}
+use Rattle.rules.specs.Limits.{stepLimit, windowed, sizeFit}
 use Rattle.rules.specs.Held.{Item, rowsBelow, reported}
-use Rattle.rules.specs.Measures.{noMeasures, measured}
+use Rattle.rules.specs.Measures.{noMeasures, measured, seenSize}
 use Rattle.rules.specs.Make.{newMark}
-use Rattle.rules.specs.Windows.{sizeOf, ownSizes}
+use Rattle.rules.specs.Windows.{hasWindows, sizeOf, noSize, ownSizes}
 use Rattle.rules.specs.Worker.{fresh, idlePhase, phaseOf, decode, encode}
 use Rattle.rules.specs.Effects.{hopOf, movedOf, restartOf, finishedOf}
 use Rattle.rules.specs.Commit.{lostOf}
 use Rattle.rules.specs.Shift.{shiftedOf}
 use Rattle.rules.specs.Step.{ruleOf}
-use Rattle.rules.specs.Run.{Call, beginPut, beginTake, step}
-use Rattle.rules.proofs.Types.{Settings, Size, Side, Putting, Taking, Phase, Idle, Window, Slot, View, Effect, Outcome, Answer}
+use Rattle.rules.specs.Run.{Call, beginPut, beginTake, step, setSize}
+use Rattle.rules.proofs.Types.{Settings, Size, Sizes, Side, Putting, Taking, Phase, Idle, Window, Slot, View, Effect, Outcome, Answer}
 use Rattle.rules.specs.declared.Outcome.the-variants.{Refused as Stays, Moving as Moves, Lost, Shifted, Raised, Dropped, Landed, Removed, Empty as NoItem, Full as NoRoom}
 use Rattle.rules.specs.declared.Answer.the-variants.{Moving, Put, Taken, Empty, Full, Refused}
 use Rattle.rules.proofs.counts.Sums.{upd, upd-other, upd-self, sumN}
@@ -69,13 +69,42 @@ pub record State : Type 0 where
 abbrev pub next : Answer → State → Next State
 next a s = record { answer = a; measures = noMeasures; state = s }
 
--- the places in the windows after the take window
-unfoldable pub placesIn : Settings → State → ℕ
-placesIn g s = g .width * (s .top - s .mark)
+-- ---- the windows' sizes
+-- of window k
+abbrev pub sizeAt : Frame → ℕ → Size
+sizeAt f k = record { width = f .wide k; depth = f .base (suc k) - f .base k }
 
--- an answer of a step in state s, with what it is held to
-abbrev pub answered : Settings → State → Answer → State → Next State
-answered g s a t = record { answer = a; measures = measured (sizeOf g) (placesIn g s) a; state = t }
+-- what a worker reads of them
+abbrev pub sizesAt : State → Sizes
+sizesAt s =
+    record {
+      put = sizeAt (s .frame) (s .frame .tail);
+      take = sizeAt (s .frame) (s .frame .head);
+      after = cond (ltb (s .frame .head) (s .frame .tail)) (sizeAt (s .frame) (suc (s .frame .head))) noSize;
+      next = s .next;
+      live = suc (s .frame .tail) - s .frame .head;
+    }
+
+unfoldable pub sizesIn : Settings → State → Sizes
+sizesIn g s = cond (hasWindows g) (sizesAt s) (ownSizes g)
+
+-- ---- the places of window k, and how many are in the n windows from k on
+abbrev pub placesAt : Frame → ℕ → ℕ
+placesAt f k = f .wide k * (f .base (suc k) - f .base k)
+
+unfoldable pub placesFrom : Frame → ℕ → ℕ → ℕ
+placesFrom f k n = sumN (λ m. placesAt f (k + m)) n
+
+-- the places in the windows after the take window
+abbrev pub placesAfter : Frame → ℕ
+placesAfter f = placesFrom f (suc (f .head)) (f .tail - f .head)
+
+unfoldable pub placesIn : Settings → State → ℕ
+placesIn g s = cond (hasWindows g) (placesAfter (s .frame)) (g .width * (s .top - s .mark))
+
+-- an answer of worker i's step in state s, with what it is held to
+abbrev pub answered : Settings → State → ℕ → Answer → State → Next State
+answered g s i a t = record { answer = a; measures = measured (seenSize g (s .slot i)) (placesIn g s) a; state = t }
 
 -- the sub that worker i is at
 abbrev pub subIn : State → ℕ → ℕ
@@ -86,7 +115,7 @@ viewIn g s i =
     record {
       top = s .top;
       mark = s .mark;
-      sizes = ownSizes g;
+      sizes = sizesIn g s;
       puts = s .puts;
       first = s .first (subIn s i);
       second = s .second (subIn s i);
@@ -160,9 +189,9 @@ applyInBy g s i e Raised = next Moving (framedIn s i e (raisedOf (s .frame) (s .
 applyInBy g s i e Dropped = next Moving (framedIn s i e (droppedOf (s .frame)))
 applyInBy g s i e (Landed value row stamp) =
     next (Put value (subIn s i) row stamp) (afterIn (withItem s (subIn s i) (row .0) (record { value = value; stamp = stamp .0 })) i e)
-applyInBy g s i e (Removed row) = answered g s (takenIn g s (subIn s i) (row .0)) (afterIn s i e)
+applyInBy g s i e (Removed row) = answered g s i (takenIn g s (subIn s i) (row .0)) (afterIn s i e)
 applyInBy g s i e NoItem = next Empty (afterIn s i e)
-applyInBy g s i e NoRoom = answered g s Full (afterIn s i e)
+applyInBy g s i e NoRoom = answered g s i Full (afterIn s i e)
 
 unfoldable pub applyIn : Settings → State → ℕ → Effect → Next State
 applyIn g s i e = applyInBy g s i e (e .outcome)
@@ -200,13 +229,35 @@ beginIn g s i side value =
     cond (leb (g .workers) i) (next (Refused noSuchWorker) s)
     (cond (eqb (s .slot i .number) idlePhase)
     (cond (leb stepLimit (s .steps)) (next (Refused stepsSpent) s)
-    (next Moving (withSlot s i (fresh value (subIn s i) (Window side)))))
+    (next Moving (withSlot s i (fresh g value (subIn s i) (Window side)))))
     (next (Refused workerBusy) s))
+
+-- another size of the next put window
+abbrev pub withSize : State → Size → State
+withSize s size =
+    record {
+      steps = s .steps;
+      puts = s .puts;
+      top = s .top;
+      mark = s .mark;
+      next = size;
+      set = 1;
+      frame = s .frame;
+      first = s .first;
+      second = s .second;
+      item = s .item;
+      slot = s .slot;
+    }
+
+unfoldable pub setSizeIn : Settings → State → Size → Next State
+setSizeIn g s size =
+    cond (windowed g) (cond (both (eqb (g .kind) 0) (sizeFit g size)) (next Moving (withSize s size)) (next (Refused offSize) s)) (next (Refused notFit) s)
 
 unfoldable pub nextIn : Settings → State → Call → Next State
 nextIn g s (beginPut i v) = beginIn g s i Putting v
 nextIn g s (beginTake i) = beginIn g s i Taking 0
 nextIn g s (step i) = stepIn g s i
+nextIn g s (setSize width depth) = setSizeIn g s (record { width = width; depth = depth })
 
 -- a new pool
 unfoldable pub madeIn : Settings → State
@@ -222,7 +273,7 @@ madeIn g =
       first = λ j. 0;
       second = λ j. 0;
       item = λ j r. record { value = 0; stamp = 0 };
-      slot = λ i. record { number = 0; value = 0; index = i % g .width; window = 0; extra = 0; scan = 0; seen = 0; sum = 0 };
+      slot = λ i. record { number = 0; value = 0; index = i % g .width; window = 0; extra = 0; scan = 0; seen = 0; sum = 0; bottom = 0; width = 0 };
     }
 
 -- ---- steps that change no sub: the window words, the frame and the worker's slot alone
@@ -248,45 +299,45 @@ after-turned s i top mark f x = rw (upd-self (s .first) (subIn s i), upd-self (s
 
 module _ (g : Settings) (s : State) (i : ℕ) where
   pub apply-moved : (index : ℕ) (p : Phase) (kept : Slot)
-      → applyIn g s i (movedOf (viewIn g s i) index p kept)
-      ≡ next Moving (turnedIn s i (s .top) (s .mark) (s .frame) (encode (record { value = s .slot i .value; index = index; phase = p }) kept))
+      → applyIn g s i (movedOf g (viewIn g s i) index p kept)
+      ≡ next Moving (turnedIn s i (s .top) (s .mark) (s .frame) (encode g (record { value = s .slot i .value; index = index; phase = p }) kept))
   unfolding applyIn applyInBy
   apply-moved index p kept = ap (next Moving) (after-turned s i (s .top) (s .mark) (s .frame) _)
 
   -- a commit that failed is a restart: that it is counted is not seen here
-  pub lost-restarts : (side : Side) → applyIn g s i (lostOf g (viewIn g s i) side) ≡ applyIn g s i (restartOf (viewIn g s i) (hopOf g (subIn s i)) side)
+  pub lost-restarts : (side : Side) → applyIn g s i (lostOf g (viewIn g s i) side) ≡ applyIn g s i (restartOf g (viewIn g s i) (hopOf g (subIn s i)) side)
   unfolding applyIn applyInBy
   lost-restarts side = refl
 
   abbrev restarted : Side → Slot
-  restarted side = encode (record { value = s .slot i .value; index = subIn s i; phase = Window side }) (s .slot i)
+  restarted side = encode g (record { value = s .slot i .value; index = subIn s i; phase = Window side }) (s .slot i)
 
   pub apply-shifted : (side : Side) (top mark : ℕ)
-      → applyIn g s i (shiftedOf (viewIn g s i) Shifted side top mark) ≡ next Moving (turnedIn s i top mark (s .frame) (restarted side))
+      → applyIn g s i (shiftedOf g (viewIn g s i) Shifted side top mark) ≡ next Moving (turnedIn s i top mark (s .frame) (restarted side))
   unfolding applyIn applyInBy
   apply-shifted side top mark = ap (next Moving) (after-turned s i top mark (s .frame) _)
 
   pub apply-raised : (top : ℕ)
-      → applyIn g s i (shiftedOf (viewIn g s i) Raised Putting top (s .mark))
+      → applyIn g s i (shiftedOf g (viewIn g s i) Raised Putting top (s .mark))
       ≡ next Moving (turnedIn s i top (s .mark) (raisedOf (s .frame) (s .next .width) top) (restarted Putting))
   unfolding applyIn applyInBy
   apply-raised top = ap (next Moving) (after-turned s i top (s .mark) (raisedOf (s .frame) (s .next .width) top) _)
 
   pub apply-dropped : (mark : ℕ)
-      → applyIn g s i (shiftedOf (viewIn g s i) Dropped Taking (s .top) mark)
+      → applyIn g s i (shiftedOf g (viewIn g s i) Dropped Taking (s .top) mark)
       ≡ next Moving (turnedIn s i (s .top) mark (droppedOf (s .frame)) (restarted Taking))
   unfolding applyIn applyInBy
   apply-dropped mark = ap (next Moving) (after-turned s i (s .top) mark (droppedOf (s .frame)) _)
 
   pub apply-empty : (index : ℕ)
-      → applyIn g s i (finishedOf (viewIn g s i) NoItem index) ≡ next Empty (turnedIn s i (s .top) (s .mark) (s .frame) (fresh 0 index Idle))
+      → applyIn g s i (finishedOf g (viewIn g s i) NoItem index) ≡ next Empty (turnedIn s i (s .top) (s .mark) (s .frame) (fresh g 0 index Idle))
   unfolding applyIn applyInBy
   apply-empty index = ap (next Empty) (after-turned s i (s .top) (s .mark) (s .frame) _)
 
   pub apply-full : (index : ℕ)
-      → applyIn g s i (finishedOf (viewIn g s i) NoRoom index) ≡ answered g s Full (turnedIn s i (s .top) (s .mark) (s .frame) (fresh 0 index Idle))
+      → applyIn g s i (finishedOf g (viewIn g s i) NoRoom index) ≡ answered g s i Full (turnedIn s i (s .top) (s .mark) (s .frame) (fresh g 0 index Idle))
   unfolding applyIn applyInBy
-  apply-full index = ap (answered g s Full) (after-turned s i (s .top) (s .mark) (s .frame) _)
+  apply-full index = ap (answered g s i Full) (after-turned s i (s .top) (s .mark) (s .frame) _)
 
   -- ---- any step leaves the other workers' slots
   apply-other-by : (e : Effect) (j : ℕ) → j ≢ i → (o : Outcome) → applyInBy g s i e o .state .slot j ≡ s .slot j

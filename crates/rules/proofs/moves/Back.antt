@@ -20,7 +20,7 @@ use Rattle.rules.specs.Untouched.{Beyond}
 use Rattle.rules.specs.Turnaround.{withoutCards, OldToNewToOld, NewToOldToNew}
 use Rattle.rules.specs.declared.Answer.the-variants.{Moving}
 use Rattle.rules.proofs.Types.{Settings}
-use Rattle.rules.proofs.Workers.{word-lt, words-none, words-lost, worker-within, same-worker, lost-apart}
+use Rattle.rules.proofs.Workers.{word-lt, words-none, words-one, windows-none, read-low, worker-within, same-worker, lost-apart}
 use Rattle.rules.proofs.Fitness.{fit-pool, fit-head, fit-own}
 use Rattle.rules.proofs.moves.Moved.{copy-only, copied, head-word, edition-word, moved-word, cell-word, moved-beyond, moved-is, move-accepted, move-accepts}
 
@@ -38,17 +38,18 @@ row-of c (suc n) q l = elim (decLt q (c * n)) [
   | no z ↦ (n, q - c * n, omega arith, omega (arith, mul-suc c n), omega arith)
 ]
 
-part : (g : Settings) (m : ℕ) → m < needed g → Part g m
-part g m l = elim (decLt m (workersAt g)) [
+part : (g : Settings) (m : ℕ) → g .edition < 2 → m < needed g → Part g m
+part g m old l = elim (decLt m (workersAt g)) [
   | yes y ↦ in-head y
   | no z ↦ elim (decLt m (cellsAt g)) [
     | yes y ↦ let r = row-of (workerWords (g .edition)) (g .workers) (m - workersAt g) (omega arith) in in-worker (r .0) (r .1) (r .2) (r .3) (omega (arith, r .4))
-    | no x ↦ in-cells (m - cellsAt g) (omega arith) (omega arith)
+    | no x ↦ in-cells (m - cellsAt g) (omega (arith, windows-none (g .edition) old)) (omega arith)
   ]
 ]
 
 -- ---- a pool moved on, and back again
 module _ (b : ℕ) (from : List ℕ) (g : Settings) (middle to : List ℕ)
+    (old : g .edition < 2) (new : b < 2)
     (fit : checkedOf (g .edition) from ≡ Fit g) (on : needed (inEdition b g) ≤ length middle) (back : needed g ≤ length to) where
   abbrev h : Settings
   h = inEdition b g
@@ -63,10 +64,10 @@ module _ (b : ℕ) (from : List ℕ) (g : Settings) (middle to : List ℕ)
   enough = fit-pool (g .edition) from g fit .enough
 
   enough-there : needed h ≤ length there
-  enough-there = moved-is b from g middle fit on .pool .enough-two
+  enough-there = moved-is b from g middle old new fit on .pool .enough-two
 
   goes-back : moveOf b (g .edition) there to ≡ out Moving again
-  goes-back = move-accepts b (g .edition) there to h (moved-is b from g middle fit on .fit-after) back
+  goes-back = move-accepts b (g .edition) there to h new old (moved-is b from g middle old new fit on .fit-after) back
 
   -- the words of a list that has at each place what is there after both moves
   module _ (ws : List ℕ) (long : needed g ≤ length ws)
@@ -89,7 +90,7 @@ module _ (b : ℕ) (from : List ℕ) (g : Settings) (middle to : List ℕ)
     again-is : again ≡ paste to 0 ws (needed g)
     again-is =
         ext-getD 0 again (paste to 0 ws (needed g)) (beyond .length-same ∙ sym (length-paste to 0 ws (needed g) (omega arith) long)) (λ m l. elim (decLt m (needed g)) [
-          | yes y ↦ at-part m (part g m y) ∙ sym (rw (zero-add m) at (copied to 0 ws (needed g) m y (omega arith) long))
+          | yes y ↦ at-part m (part g m old y) ∙ sym (rw (zero-add m) at (copied to 0 ws (needed g) m y (omega arith) long))
           | no z ↦ beyond .same m (omega arith) ∙ sym (copy-only to 0 ws (needed g) (needed g) (omega arith) (omega arith) long .off m (inr (omega arith)))
         ])
       where
@@ -100,11 +101,12 @@ module _ (b : ℕ) (from : List ℕ) (g : Settings) (middle to : List ℕ)
     there-and-back = goes-back ∙ ap (out Moving) again-is
 
 -- what the pool that was moved on has of a worker, where the editions have it
-word-kept : (b : ℕ) (from : List ℕ) (g : Settings) (middle : List ℕ) (fit : checkedOf (g .edition) from ≡ Fit g) → needed (inEdition b g) ≤ length middle
+word-kept : (b : ℕ) (from : List ℕ) (g : Settings) (middle : List ℕ) (old : g .edition < 2) (new : b < 2)
+    (fit : checkedOf (g .edition) from ≡ Fit g) → needed (inEdition b g) ≤ length middle
     → (i k : ℕ) → i < g .workers → k < workerWords (g .edition) → k < workerWords b
     → wordIn (movedWords from g middle (inEdition b g)) (inEdition b g) i k ≡ getD from (workerAt g i + k) 0
 unfolding cond
-word-kept b from g middle fit on i k l a z = rw (lt-ltb k (workerWords b) z) (moved-is b from g middle fit on .kept i k l a z)
+word-kept b from g middle old new fit on i k l a z = rw (lt-ltb k (workerWords b) z) (moved-is b from g middle old new fit on .kept i k l a z)
 
 -- and where the one between has not
 word-dropped : (from : List ℕ) (h : Settings) (i k : ℕ) → workerWords (h .edition) ≤ k → wordIn from h i k ≡ 0
@@ -118,8 +120,9 @@ old-to-new-to-old from middle to none long =
     let fit = fit-own 0 from g (w .fit) in
     let zero : g .edition ≡ 0 = fit-head 0 from g (w .fit) .1 in
     let few = words-none (g .edition) zero in
-    let same = there-and-back 1 from g middle to fit (w .long) long from (fit-pool 0 from g (w .fit) .enough) (λ m l. refl)
-    (λ i k l a. sym (word-kept 1 from g middle fit (w .long) i k l a (word-lt 1 k (omega arith)))) (λ m l. refl) in
+    let old : g .edition < 2 = omega arith in
+    let same = there-and-back 1 from g middle to old (omega arith) fit (w .long) long from (fit-pool 0 from g (w .fit) .enough) (λ m l. refl)
+    (λ i k l a. sym (word-kept 1 from g middle old (omega arith) fit (w .long) i k l a (word-lt 1 k (omega arith)))) (λ m l. refl) in
     rw (w .is) (subst (λ (a : ℕ). moveOf 1 a (movedWords from g middle (inEdition 1 g)) to ≡ out Moving (paste to 0 from (needed g))) zero same)
 
 -- ---- without cards
@@ -152,7 +155,8 @@ new-to-old-to-new from middle to none long =
     let g = settingsOf from in
     let fit = fit-own 1 from g (w .fit) in
     let one : g .edition ≡ 1 = fit-head 1 from g (w .fit) .1 in
-    let nine = words-lost (g .edition) (λ z. omega arith) in
+    let old : g .edition < 2 = omega arith in
+    let nine = words-one (g .edition) one in
     let eight = words-none 0 refl in
     let enough = fit-pool 1 from g (w .fit) .enough in
     let cards : lostWord < workerWords (g .edition) = omega arith in
@@ -161,13 +165,13 @@ new-to-old-to-new from middle to none long =
     let word : (i k : ℕ) → i < g .workers → k < workerWords (g .edition) → getD ws (workerAt g i + k) 0 ≡ wordIn there (inEdition 0 g) i k =
     λ i k l a. elim (decLt k slotWords) [
       | yes y ↦
-          without-off from g cards (g .workers) _ (λ j m. lost-apart g j i k cards y)
-          ∙ sym (word-kept 0 from g middle fit (w .long) i k l a (omega arith))
+          without-off from g cards (g .workers) _ (λ j m. lost-apart g j i k cards (read-low (g .edition) k y))
+          ∙ sym (word-kept 0 from g middle old (omega arith) fit (w .long) i k l a (omega arith))
       | no z ↦
           let last : k ≡ lostWord = omega arith in
           rw last (without-on from g cards (g .workers) i (omega arith) l (omega arith) ∙ sym (word-dropped there (inEdition 0 g) i lostWord (omega arith)))
     ] in
-    let same = there-and-back 0 from g middle to fit (w .long) long ws (rw (without-long from g cards (g .workers)) enough)
+    let same = there-and-back 0 from g middle to old (omega arith) fit (w .long) long ws (rw (without-long from g cards (g .workers)) enough)
     (λ m l. without-off from g cards (g .workers) m (λ i a u. omega arith)) word
     (λ m l. without-off from g cards (g .workers) _ (λ i a u. omega (arith, worker-within g i a))) in
     rw (w .is) (subst (λ (a : ℕ). moveOf 0 a there to ≡ out Moving (paste to 0 ws (needed g))) one same)

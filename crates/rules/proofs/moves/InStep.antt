@@ -2,6 +2,7 @@
 -- the same effect, and stores at the same places. So the answers of a list of calls are the same one by one.
 use Prim.Native.Nat.{ℕ, _+_, _*_, _<_}
 use mathlib.Core.Path.{_≡_, refl, sym, subst, _∙_, ap}
+use mathlib.Core.Bool.{false≢true}
 use mathlib.Core.List.{List, [], _∷_}
 use native.Mathlib.Omega.{arith}
 use lib.ListN.{getD, length}
@@ -11,24 +12,27 @@ use Rattle.laws.specs.Choice.{cond, cond-true, cond-both, cond-under}
 use Rattle.laws.specs.Wrap.{sub32}
 use Rattle.rules.specs.Answers.{Out, notFit, refuse}
 use Rattle.rules.specs.Layout.{headWords, stepsAt, putsAt, topAt, markAt, firstAt, secondAt, workerAt, indexAt, phaseWord, indexWord, cellWords, cellOf, cellsAt, needed}
-use Rattle.rules.specs.Limits.{Bounds, settingsFit}
+use Rattle.rules.specs.Limits.{windowed, Bounds, settingsFit}
 use Rattle.rules.specs.Fit.{Checked, Unfit, Fit, bodyChecked, headChecked, checkedBy, checkedOf, FitPool}
 use Rattle.rules.specs.Begin.{idleAt, outOfSteps, slotBegin, fitBegin, checkedBegin}
+use Rattle.rules.specs.Worker.{encode, encodePhase}
+use Rattle.rules.specs.Resize.{fitSetSize, checkedSetSize}
 use Rattle.rules.specs.Effects.{hopOf}
 use Rattle.rules.specs.Held.{itemAt, heldItems}
 use Rattle.rules.specs.Apply.{applyBy, applyOf}
 use Rattle.rules.specs.Step.{ruleOf, slotStep, fitStep, checkedStep}
-use Rattle.rules.specs.Run.{Call, beginPut, beginTake, step, callOf, measuresAt, eventOf, run}
+use Rattle.rules.specs.Run.{Call, beginPut, beginTake, step, setSize, callOf, measuresAt, eventOf, run}
 use Rattle.rules.specs.Consequences.{wordsAfter}
 use Rattle.rules.specs.Make.{inEdition}
 use Rattle.rules.specs.Turnaround.{SamePool, SameItems, InStep, Lockstep}
 use Rattle.rules.specs.declared.Outcome.the-variants.{Refused, Moving, Lost, Shifted, Raised, Dropped, Landed, Removed, Empty, Full}
 use Rattle.rules.proofs.Types.{Settings, Side, Putting, Taking, Effect, Outcome}
+use Rattle.rules.proofs.Workers.{low-read}
 use Rattle.rules.proofs.Cells.{cell-lt}
 use Rattle.rules.proofs.Fitness.{settings-bounds, fit-pool}
 use Rattle.rules.proofs.Alike.{Alike, inOther, measures-alike, rule-same, view-same, held-same, taken-same, body-same}
 use Rattle.rules.proofs.Checked.{checkedCall, call-is, unfit-call}
-use Rattle.rules.proofs.moves.Stores.{shared, reads, sub-stored, shifted-stored, raised-stored, dropped-stored, slot-stored, worker-stored, landed-stored, counted-stored}
+use Rattle.rules.proofs.moves.Stores.{windowed-old, shared, reads, sub-stored, shifted-stored, raised-stored, dropped-stored, slot-stored, worker-stored, landed-stored, counted-stored}
 
 -- ---- what is read
 -- the index of a worker that lost a commit moves on by the stride, whatever the edition
@@ -40,15 +44,21 @@ module _ (g : Settings) (e : ℕ) (ws vs : List ℕ) (pool : SamePool g ws (inEd
   abbrev h : Settings
   h = inEdition e g
 
+  -- neither has windows with sizes of their own
+  none-sized : windowed h ≡ windowed g
+  none-sized = windowed-old h (pool .old-two) ∙ sym (windowed-old g (pool .old-one))
+
   reads-alike : Alike g (g .stride) e ws vs
   reads-alike =
       record {
+        sized = none-sized;
+        behind = λ w. absurd (false≢true (sym (windowed-old g (pool .old-one)) ∙ w));
         puts = reads g e ws vs pool (shared putsAt) (omega arith, λ p s. s .puts);
         top = reads g e ws vs pool (shared topAt) (omega arith, λ p s. s .top);
         mark = reads g e ws vs pool (shared markAt) (omega arith, λ p s. s .mark);
         first = λ j l. reads g e ws vs pool (shared (firstAt j)) (omega arith, λ p s u. omega (arith, s .below));
         second = λ j l. reads g e ws vs pool (shared (secondAt j)) (omega arith, λ p s u. omega (arith, s .below));
-        word = pool .worker;
+        word = λ i k l r. pool .worker i k l (low-read (g .edition) k (pool .old-one) r);
       }
 
   item-same : Bounds g → (j r : ℕ) → j < g .width → itemAt vs h j r ≡ itemAt ws g j r
@@ -111,11 +121,11 @@ module _ (g : Settings) (e : ℕ) (ws vs : List ℕ) (pool : SamePool g ws (inEd
     unfolding slotStep applyOf ruleOf
     step-both =
         let low = fit .index i li in
-        rw (number-same i li, steps-same, index-same, view-same g (g .stride) e ws vs reads-alike i li low, rule-same g (g .stride) e (hops-same g e) _ _)
+        rw (number-same i li, steps-same, index-same, view-same g (g .stride) e ws vs reads-alike i li low, rule-same g (g .stride) e none-sized (hops-same g e) _ _)
         (cond-both Both (idleAt ws at) (λ idle. refused-both _) (λ busy. cond-both Both (outOfSteps ws) (λ spent. refused-both _) (λ left. apply-both _ _ _ low)))
 
-    begin-both : (side : Side) (value : ℕ) → Both (slotBegin ws at side value) (slotBegin vs to side value)
-    unfolding slotBegin
+    begin-both : (side : Side) (value : ℕ) → Both (slotBegin ws g at side value) (slotBegin vs h to side value)
+    unfolding slotBegin encode encodePhase
     begin-both side value =
         rw (number-same i li, steps-same, index-same)
         (cond-both Both (idleAt ws at)
@@ -130,11 +140,17 @@ module _ (g : Settings) (e : ℕ) (ws vs : List ℕ) (pool : SamePool g ws (inEd
   unfolding fitBegin
   begin-fit fit i side value = cond-both Both (leb (g .workers) i) (λ many. refused-both _) (λ few. begin-both fit i (leb-false _ _ few) side value)
 
+  -- a size is refused in both
+  size-fit : (width depth : ℕ) → Both (fitSetSize ws g (record { width = width; depth = depth })) (fitSetSize vs h (record { width = width; depth = depth }))
+  unfolding fitSetSize cond
+  size-fit width depth = rw (windowed-old h (pool .old-two), windowed-old g (pool .old-one)) (refused-both notFit)
+
   fit-both : FitPool g ws → (c : Call) → Both (checkedCall ws (Fit g) c) (checkedCall vs (Fit h) c)
-  unfolding checkedBegin checkedStep
+  unfolding checkedBegin checkedStep checkedSetSize
   fit-both fit (beginPut i v) = begin-fit fit i Putting v
   fit-both fit (beginTake i) = begin-fit fit i Taking 0
   fit-both fit (step i) = step-fit fit i
+  fit-both fit (setSize width depth) = size-fit width depth
 
   -- ---- the check: it finds in both what it finds in the one
   abbrev pub found : Checked → Checked
@@ -144,14 +160,19 @@ module _ (g : Settings) (e : ℕ) (ws vs : List ℕ) (pool : SamePool g ws (inEd
   body-both =
       body-same g (g .stride) e ws vs reads-alike (rw (le-ltb (length vs) (needed h) (pool .enough-two), le-ltb (length ws) (needed g) (pool .enough-one)) refl)
 
+  limits-both : settingsFit (inEdition e h) ≡ settingsFit (inEdition (g .edition) g)
+  unfolding settingsFit
+  limits-both = rw none-sized refl
+
   head-both : headChecked notFit e vs h ≡ found (headChecked notFit (g .edition) ws g)
-  unfolding headChecked settingsFit
+  unfolding headChecked
   head-both =
       rw (
+        limits-both,
         body-both,
         eq-eqb e e refl,
         eq-eqb (g .edition) (g .edition) refl,
-        cond-under found (settingsFit g) _ _,
+        cond-under found (settingsFit (inEdition (g .edition) g)) _ _,
         cond-true (found (bodyChecked ws g)) (Unfit notFit),
         cond-true (bodyChecked ws g) (Unfit notFit),
       )
@@ -183,7 +204,7 @@ pub event-both : (g : Settings) (e : ℕ) (ws vs : List ℕ) (pool : SamePool g 
     → eventOf vs c (callOf e vs c .answer) ≡ eventOf ws c (callOf (g .edition) ws c .answer)
 event-both g e ws vs pool c =
     let b = call-both g e ws vs pool c in
-    let told = measures-alike ws vs (λ m l. pool .head m (omega arith) (λ u. omega arith)) c in
+    let told = measures-alike g (g .stride) e ws vs (reads-alike g e ws vs pool) (pool .settings-one) (pool .settings-two) c in
     λ u. record { call = c; answer = b .answer u; measures = (ap (measuresAt vs c) (b .answer) ∙ told (callOf (g .edition) ws c .answer)) u }
 
 -- ---- a list of calls

@@ -11,8 +11,8 @@ use native.Mathlib.Omega.{arith}
 use lib.ListN.{getD, set, drop, length, length-set, length-drop}
 use lib.Seq.{getD-set-same, getD-set-other, getD-drop, paste, paste-zero, paste-suc, length-paste}
 use lib.Dec.{ltb}
-use borrow.Author.Tests.{lt-ltb, le-ltb, ltb-false}
-use Rattle.laws.specs.Choice.{cond, cases}
+use borrow.Author.Tests.{lt-ltb, le-ltb, ltb-true, ltb-false}
+use Rattle.laws.specs.Choice.{cond, cases, both, both-true}
 use Rattle.rules.specs.Answers.{Out, out, refuse, numberOf, tooFewWords, wrongEdition, notFit}
 use Rattle.rules.specs.Layout.{strideAt, editionAt, settingsOf, workerWords, workersAt, workerAt, cellWords, cellsAt, needed}
 use Rattle.rules.specs.Fit.{Checked, Unfit, Fit, checkedOf, refusalOf}
@@ -129,7 +129,7 @@ module _ (from : List ℕ) (g : Settings) (to : List ℕ) (b : ℕ) (source : ne
   cells-only : Only (cellsAt h) (needed h) withWorkers moved
   unfolding movedWords cellsMoved
   cells-only =
-      copy-only withWorkers (cellsAt h) (drop (cellsAt g) from) (needed h) (cellWords * (g .width * g .rows)) (omega arith) (rw with-workers-long target)
+      copy-only withWorkers (cellsAt h) (drop (cellsAt g) from) (needed h) (cellWords * (g .width * g .rows)) (omega arith) (rw with-workers-long (omega arith))
       (rw (length-drop (cellsAt g) from) (omega arith))
 
   -- each word
@@ -156,7 +156,7 @@ module _ (from : List ℕ) (g : Settings) (to : List ℕ) (b : ℕ) (source : ne
   pub cell-word : (m : ℕ) → m < cellWords * (g .width * g .rows) → getD moved (cellsAt h + m) 0 ≡ getD from (cellsAt g + m) 0
   unfolding movedWords cellsMoved
   cell-word m l =
-      copied withWorkers (cellsAt h) (drop (cellsAt g) from) (cellWords * (g .width * g .rows)) m l (rw with-workers-long target) (rw (length-drop (cellsAt g) from) (omega arith))
+      copied withWorkers (cellsAt h) (drop (cellsAt g) from) (cellWords * (g .width * g .rows)) m l (rw with-workers-long (omega arith)) (rw (length-drop (cellsAt g) from) (omega arith))
       ∙ getD-drop (cellsAt g) from m 0
 
   pub moved-beyond : Beyond (needed h) to moved
@@ -179,10 +179,12 @@ module _ (from : List ℕ) (g : Settings) (to : List ℕ) (b : ℕ) (source : ne
       let low : (m : ℕ) → m < editionAt → getD moved m 0 ≡ getD from m 0 = λ m l. head-word m (omega arith) (λ u. omega arith) in
       settings-alike from moved _ b (λ m l. low m (omega arith)) (low strideAt (omega arith)) edition-word ∙ ap (inEdition b) is
 
-  same-pool : settingsOf from ≡ g → SamePool g from h moved
-  same-pool is =
+  same-pool : g .edition < 2 → b < 2 → settingsOf from ≡ g → SamePool g from h moved
+  same-pool old new is =
       record {
         same = refl;
+        old-one = old;
+        old-two = new;
         settings-one = is;
         settings-two = moved-settings is;
         enough-one = source;
@@ -194,6 +196,8 @@ module _ (from : List ℕ) (g : Settings) (to : List ℕ) (b : ℕ) (source : ne
 
 -- ---- a move that answers 0
 pub record MoveAccepted (a b : ℕ) (from to : List ℕ) : Type 0 where
+  pub old : a < 2
+  pub new : b < 2
   pub fit : checkedOf a from ≡ Fit (settingsOf from)
   pub long : needed (inEdition b (settingsOf from)) ≤ length to
   pub is : moveOf a b from to ≡ out Moving (movedWords from (settingsOf from) to (inEdition b (settingsOf from)))
@@ -215,25 +219,50 @@ unfolding checkedMove
 refusal-of b from to (Unfit n) e = e
 refusal-of b from to (Fit g) e = refl
 
+-- its editions are 0 and 1, in either order, or one of them
+between : (a b : ℕ) (from to : List ℕ) → numberOf (moveOf a b from to .answer) ≡ 0 → both (ltb a 2) (ltb b 2) ≡ true
+unfolding moveOf cond
+between a b from to none = by (both (ltb a 2) (ltb b 2)) none
+  where
+    by : (t : Bool) → numberOf (cond t (checkedMove b from (sourceChecked a from) to) (refuse wrongEdition to) .answer) ≡ 0 → t ≡ true
+    by true z = refl
+    by false z = absurd (omega arith)
+
+move-between : (a b : ℕ) (from to : List ℕ) → both (ltb a 2) (ltb b 2) ≡ true → moveOf a b from to ≡ checkedMove b from (sourceChecked a from) to
+unfolding moveOf cond
+move-between a b from to t = rw t refl
+
 pub move-accepted : (a b : ℕ) (from to : List ℕ) → numberOf (moveOf a b from to .answer) ≡ 0 → MoveAccepted a b from to
-unfolding moveOf checkedMove
+unfolding checkedMove
 move-accepted a b from to none =
-    let fit : sourceChecked a from ≡ Fit (settingsOf from) = refusal-none-by wrongEdition a from (omega arith) (refusal-of b from to (sourceChecked a from) none) in
-    let moves = fit-accepted from (settingsOf from) to (inEdition b (settingsOf from)) (rw fit at none) in
-    record { fit = fit-with-other wrongEdition notFit a from (settingsOf from) fit; long = moves .0; is = rw fit (moves .1) }
+    let t = between a b from to none in
+    let editions = both-true (ltb a 2) (ltb b 2) t in
+    let is = move-between a b from to t in
+    let zero : numberOf (checkedMove b from (sourceChecked a from) to .answer) ≡ 0 = rw is at none in
+    let fit : sourceChecked a from ≡ Fit (settingsOf from) = refusal-none-by wrongEdition a from (omega arith) (refusal-of b from to (sourceChecked a from) zero) in
+    let moves = fit-accepted from (settingsOf from) to (inEdition b (settingsOf from)) (rw fit at zero) in
+    record {
+      old = ltb-true _ _ (editions .0);
+      new = ltb-true _ _ (editions .1);
+      fit = fit-with-other wrongEdition notFit a from (settingsOf from) fit;
+      long = moves .0;
+      is = is ∙ (rw fit (moves .1));
+    }
 
 -- and the other way round
-pub move-accepts : (a b : ℕ) (from to : List ℕ) (g : Settings) → checkedOf a from ≡ Fit g → needed (inEdition b g) ≤ length to
+pub move-accepts : (a b : ℕ) (from to : List ℕ) (g : Settings) → a < 2 → b < 2 → checkedOf a from ≡ Fit g → needed (inEdition b g) ≤ length to
     → moveOf a b from to ≡ out Moving (movedWords from g to (inEdition b g))
-unfolding moveOf checkedMove fitMove cond
-move-accepts a b from to g fit long = rw (fit-with-other notFit wrongEdition a from g fit, le-ltb (length to) (needed (inEdition b g)) long) refl
+unfolding checkedMove fitMove cond
+move-accepts a b from to g old new fit long =
+    move-between a b from to (rw (lt-ltb a 2 old, lt-ltb b 2 new) refl)
+    ∙ (rw (fit-with-other notFit wrongEdition a from g fit, le-ltb (length to) (needed (inEdition b g)) long) refl)
 
-pub moved-is : (b : ℕ) (from : List ℕ) (g : Settings) (to : List ℕ) → checkedOf (g .edition) from ≡ Fit g → needed (inEdition b g) ≤ length to
+pub moved-is : (b : ℕ) (from : List ℕ) (g : Settings) (to : List ℕ) → g .edition < 2 → b < 2 → checkedOf (g .edition) from ≡ Fit g → needed (inEdition b g) ≤ length to
     → Moved (g .edition) b from g to (movedWords from g to (inEdition b g))
-moved-is b from g to fit long =
+moved-is b from g to old new fit long =
     let pool = fit-pool (g .edition) from g fit in
     let enough = pool .enough in
-    let same = same-pool from g to b enough long (pool .settings) in
+    let same = same-pool from g to b enough long old new (pool .settings) in
     record {
       fit-before = fit;
       fit-after = checked-both g b from _ same ∙ ap (inOther g (g .stride) b) fit;
@@ -247,7 +276,10 @@ pub move-does : MoveDoes
 move-does a b from to none =
     let w = move-accepted a b from to none in
     let g = settingsOf from in
-    rw (w .is) (subst (λ (x : ℕ). Moved x b from g to (movedWords from g to (inEdition b g))) (fit-head a from g (w .fit) .1) (moved-is b from g to (fit-own a from g (w .fit)) (w .long)))
+    let own = fit-head a from g (w .fit) .1 in
+    rw (w .is)
+    (subst (λ (x : ℕ). Moved x b from g to (movedWords from g to (inEdition b g))) own
+    (moved-is b from g to (omega (arith, w .old)) (w .new) (fit-own a from g (w .fit)) (w .long)))
 
 -- ---- any move
 fit-keeps : (b : ℕ) (from : List ℕ) (g : Settings) (to : List ℕ) → needed g ≤ length from
@@ -259,7 +291,8 @@ fit-keeps b from g to enough =
 
 pub move-keeps : MoveKeeps
 unfolding moveOf checkedMove
-move-keeps a b from to = go (sourceChecked a from) refl
+move-keeps a b from to =
+    cases (λ (o : Out). Beyond (needed (inEdition b (settingsOf from))) to (o .words)) (both (ltb a 2) (ltb b 2)) _ _ (λ t. go (sourceChecked a from) refl) (λ t. unchanged _ to)
   where
     go : (k : Checked) → sourceChecked a from ≡ k → Beyond (needed (inEdition b (settingsOf from))) to (checkedMove b from k to .words)
     go (Unfit n) e = unchanged _ to

@@ -1,6 +1,6 @@
 -- Over any number of moves: after each the pool is the one that never moved, in another area, so that it stays in step with it. The run is then that
 -- pool's, and demand 3 of the one is demand 3 of the other.
-use Prim.Native.Nat.{ℕ}
+use Prim.Native.Nat.{ℕ, _<_}
 use mathlib.Core.Path.{_≡_, refl, sym, subst}
 use mathlib.Core.List.{List, [], _∷_}
 use native.Mathlib.Omega.{arith}
@@ -52,30 +52,30 @@ follows g ws p (move a b area ∷ xs) pool =
     record { answers = rest .answers; ends = rest .ends }
 
 pub moves-unseen : MovesUnseen
-moves-unseen g ws xs fit = let pool = fit-pool (g .edition) ws g fit in follows g ws (here g ws) xs (itself g (pool .settings) (pool .enough))
+moves-unseen g ws xs old fit = let pool = fit-pool (g .edition) ws g fit in follows g ws (here g ws) xs (itself g old (pool .settings) (pool .enough))
 
 -- ---- from make on
-pub from-make : (ws : List ℕ) (g : Settings) (xs : List Act) → numberOf (makeOf ws g .answer) ≡ 0 → Unseen g (makeOf ws g .words) (here g (makeOf ws g .words)) xs
-from-make ws g xs made =
+pub from-make : (ws : List ℕ) (g : Settings) (xs : List Act) → g .edition < 2 → numberOf (makeOf ws g .answer) ≡ 0 → Unseen g (makeOf ws g .words) (here g (makeOf ws g .words)) xs
+from-make ws g xs old made =
     let a = accepted ws g made in
     let says = made-says ws g (a .enough) in
-    follows g _ (here g (makeOf ws g .words)) xs (itself g (rw (a .words) (says .settings)) (rw (a .words) (says .long)))
+    follows g _ (here g (makeOf ws g .words)) xs (itself g old (rw (a .words) (says .settings)) (rw (a .words) (says .long)))
 
 pub runs-over-moves : RunsOverMoves
-runs-over-moves P holds ws g xs made = subst (P g) (sym (from-make ws g xs made .answers)) (holds ws g (callsIn xs) made)
+runs-over-moves P holds ws g xs old made = subst (P g) (sym (from-make ws g xs old made .answers)) (holds ws g (callsIn xs) made)
 
 pub demand3-over-moves : Demand3OverMoves
 demand3-over-moves = runs-over-moves (λ g. OneAtATimeWithin (demand3Rows g) g) demand3
 
 pub nothing-lost-over-moves : NothingLostOverMoves
-nothing-lost-over-moves ws g xs made p =
-    let f = from-make ws g xs made in
+nothing-lost-over-moves ws g xs old made p =
+    let f = from-make ws g xs old made in
     rw (f .answers, same-items g _ _ _ (f .ends) (accepted ws g made .limits)) (nothing-lost ws g (callsIn xs) made p)
 
 -- after the begin it is the pool that never moved, after the same begin
 solo-over-moves : (most : Settings → Operation → ℕ) → SoloWithin most → SoloOverMoves most
-solo-over-moves most within ws g xs made i o ys begun solo =
-    let f = from-make ws g xs made in
+solo-over-moves most within ws g xs old made i o ys begun solo =
+    let f = from-make ws g xs old made in
     let p = placeOver (here g (makeOf ws g .words)) xs in
     let vs = wordsAfter (g .edition) (makeOf ws g .words) (callsIn xs) in
     let b = call-both g (p .edition) vs (p .words) (f .ends) (begin i o) in

@@ -1,8 +1,9 @@
--- One pool in two areas, of two editions or of one: a store at the same place in both leaves one pool, for two places that are the same in one are
+-- One pool in two areas, of editions 0 and 1 or of one of them: a store at the same place in both leaves one pool, for two places that are the same in one are
 -- the same in the other; and so does a store to a worker's card in either.
 use Prim.Native.Nat.{ℕ, suc, _+_, _*_, _≤_, _<_}
 use mathlib.Core.Path.{_≡_, refl, sym, ap, _∙_}
 use mathlib.Core.Logic.{_≢_}
+use mathlib.Core.Bool.{false}
 use mathlib.Core.List.{List, [], _∷_}
 use native.Mathlib.Nat.{add-zero, add-suc}
 use native.Mathlib.Decide.{ℕ-discrete}
@@ -10,19 +11,24 @@ use native.Mathlib.Omega.{arith}
 use lib.ListN.{getD, set, length, length-set}
 use lib.Seq.{getD-set-same, getD-set-other, sets}
 use lib.Dec.{ltb}
-use borrow.Author.Tests.{ltb-true}
-use Rattle.laws.specs.Choice.{cases}
+use borrow.Author.Tests.{ltb-true, lt-leb}
+use Rattle.laws.specs.Choice.{cond, cases}
 use Rattle.laws.specs.Wrap.{add32, sub32}
 use Rattle.rules.specs.Layout.{stepsAt, putsAt, topAt, markAt, editionAt, settingsOf, workerWords, slotWords, lostWord, workersAt, workerAt, lostAt, cellWords, cellOf, cellsAt, needed, firstAt, secondAt}
-use Rattle.rules.specs.Limits.{Bounds}
+use Rattle.rules.specs.Limits.{windowed, Bounds}
 use Rattle.rules.specs.Worker.{wordsOf, putSlot}
 use Rattle.rules.specs.Apply.{putItem, putSub, putLanded, putShifted, putRaised, putDropped, putWorker, countLost}
 use Rattle.rules.specs.Make.{inEdition}
 use Rattle.rules.specs.Turnaround.{SamePool}
 use Rattle.rules.proofs.Types.{Settings, Slot, Row, Stamp, Effect}
-use Rattle.rules.proofs.Workers.{slot-within, worker-within, same-worker, lost-apart}
+use Rattle.rules.proofs.Workers.{slot-within, worker-within, same-worker, read-low, lost-apart}
 use Rattle.rules.proofs.Cells.{cell-lt}
 use Rattle.rules.proofs.words.Writes.{Still, still-high, settings-kept}
+
+-- in these editions no window has a size of its own
+pub windowed-old : (g : Settings) → g .edition < 2 → windowed g ≡ false
+unfolding windowed
+windowed-old g l = lt-leb _ _ l
 
 -- ---- places
 -- of the head and the subs, of a worker, of the cells
@@ -127,6 +133,8 @@ module _ (g : Settings) (e : ℕ) (ws vs : List ℕ) (pool : SamePool g ws (inEd
     pub stored : SamePool g one other two
     stored = record {
       same = refl;
+      old-one = pool .old-one;
+      old-two = pool .old-two;
       settings-one = settings-kept ws one (still-kept (g .edition) ws) ∙ pool .settings-one;
       settings-two = settings-kept vs two (still-kept e vs) ∙ pool .settings-two;
       enough-one = rw (length-set ws (spotIn g p) x) (pool .enough-one);
@@ -156,13 +164,15 @@ module _ (g : Settings) (e : ℕ) where
   shifted-stored f pool =
       one-stored markAt _ _ (omega arith) (λ p s. s .mark) refl (one-stored topAt _ _ (omega arith) (λ p s. s .top) refl pool)
 
-  pub raised-stored : (f : Effect) {ws vs : List ℕ} → OnePool ws vs → OnePool (putRaised ws f) (putRaised vs f)
-  unfolding putRaised
-  raised-stored f pool = one-stored topAt _ _ (omega arith) (λ p s. s .top) refl pool
+  pub raised-stored : (f : Effect) {ws vs : List ℕ} → OnePool ws vs → OnePool (putRaised ws g f) (putRaised vs (inEdition e g) f)
+  unfolding putRaised cond
+  raised-stored f pool =
+      rw (windowed-old g (pool .old-one), windowed-old (inEdition e g) (pool .old-two)) (one-stored topAt _ _ (omega arith) (λ p s. s .top) refl pool)
 
-  pub dropped-stored : (f : Effect) {ws vs : List ℕ} → OnePool ws vs → OnePool (putDropped ws f) (putDropped vs f)
-  unfolding putDropped
-  dropped-stored f pool = one-stored markAt _ _ (omega arith) (λ p s. s .mark) refl pool
+  pub dropped-stored : (f : Effect) {ws vs : List ℕ} → OnePool ws vs → OnePool (putDropped ws g f) (putDropped vs (inEdition e g) f)
+  unfolding putDropped cond
+  dropped-stored f pool =
+      rw (windowed-old g (pool .old-one), windowed-old (inEdition e g) (pool .old-two)) (one-stored markAt _ _ (omega arith) (λ p s. s .mark) refl pool)
 
   module _ (i : ℕ) (li : i < g .workers) where
     abbrev at : ℕ
@@ -176,11 +186,13 @@ module _ (g : Settings) (e : ℕ) where
     words-stored (x ∷ xs) k {ws} {vs} l pool =
         rw (← add-suc at k, ← add-suc to k) (words-stored xs (suc k) (omega arith) (stored g e ws vs pool (own i k) (li, omega arith) x))
 
-    pub slot-stored : (x : Slot) {ws vs : List ℕ} → OnePool ws vs → OnePool (putSlot ws at x) (putSlot vs to x)
-    unfolding putSlot
-    slot-stored x pool = rw (add-zero at, add-zero to) at (words-stored (wordsOf x) 0 (omega arith) pool)
+    pub slot-stored : (x : Slot) {ws vs : List ℕ} → OnePool ws vs → OnePool (putSlot g ws at x) (putSlot (inEdition e g) vs to x)
+    unfolding putSlot cond
+    slot-stored x pool =
+        rw (windowed-old g (pool .old-one), windowed-old (inEdition e g) (pool .old-two))
+        (rw (add-zero at, add-zero to) at (words-stored (wordsOf x) 0 (omega arith) pool))
 
-    pub worker-stored : (f : Effect) {ws vs : List ℕ} → OnePool ws vs → OnePool (putWorker ws at f) (putWorker vs to f)
+    pub worker-stored : (f : Effect) {ws vs : List ℕ} → OnePool ws vs → OnePool (putWorker ws g at f) (putWorker vs (inEdition e g) to f)
     unfolding putWorker
     worker-stored f {ws} {vs} pool =
         let steps = ap (λ (n : ℕ). add32 n 1) (reads g e ws vs pool (shared stepsAt) (omega arith, λ p s. s .steps)) in
@@ -203,6 +215,8 @@ pub turned : (g : Settings) (e : ℕ) {ws vs : List ℕ} → SamePool g ws (inEd
 turned g e pool =
     record {
       same = refl;
+      old-one = pool .old-two;
+      old-two = pool .old-one;
       settings-one = pool .settings-two;
       settings-two = pool .settings-one;
       enough-one = pool .enough-two;
@@ -217,6 +231,8 @@ pub joined : (g : Settings) (e f : ℕ) {ws vs us : List ℕ} → SamePool g ws 
 joined g e f one two =
     record {
       same = refl;
+      old-one = one .old-one;
+      old-two = two .old-two;
       settings-one = one .settings-one;
       settings-two = two .settings-two;
       enough-one = one .enough-one;
@@ -235,12 +251,14 @@ module _ (g : Settings) (e i : ℕ) (li : i < g .workers) where
       let off : (m : ℕ) → m ≢ card → getD (set ws card x) m 0 ≡ getD ws m 0 = λ m n. getD-set-other ws card m x 0 n in
       record {
         same = refl;
+        old-one = pool .old-one;
+        old-two = pool .old-two;
         settings-one = settings-kept ws (set ws card x) (λ m s. off m (λ u. omega (arith, s .below))) ∙ pool .settings-one;
         settings-two = pool .settings-two;
         enough-one = rw (length-set ws card x) (pool .enough-one);
         enough-two = pool .enough-two;
         head = λ m l n. pool .head m l n ∙ sym (off m (λ u. omega arith));
-        worker = λ k m l n. pool .worker k m l n ∙ sym (off _ (lost-apart g i k m cards n));
+        worker = λ k m l n. pool .worker k m l n ∙ sym (off _ (lost-apart g i k m cards (read-low (g .edition) m n)));
         cell = λ m l. pool .cell m l ∙ sym (off _ (λ u. omega (arith, worker-within g i li)));
       }
 
@@ -256,10 +274,12 @@ counted-stored g e i li pool =
     turned (inEdition e g) (g .edition) (counted-one (inEdition e g) (g .edition) i li (turned g e (counted-one g e i li pool)))
 
 -- ---- a pool is itself
-pub itself : (g : Settings) {ws : List ℕ} → settingsOf ws ≡ g → needed g ≤ length ws → SamePool g ws g ws
-itself g is long =
+pub itself : (g : Settings) {ws : List ℕ} → g .edition < 2 → settingsOf ws ≡ g → needed g ≤ length ws → SamePool g ws g ws
+itself g old is long =
     record {
       same = refl;
+      old-one = old;
+      old-two = old;
       settings-one = is;
       settings-two = is;
       enough-one = long;

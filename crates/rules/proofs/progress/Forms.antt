@@ -10,7 +10,7 @@ use lib.Dec.{eqb}
 use borrow.Author.Tests.{eqb-true, eqb-false}
 use Rattle.laws.specs.Choice.{cases}
 use Rattle.rules.specs.Answers.{numberOf}
-use Rattle.rules.specs.Run.{Call, beginPut, beginTake, step, callOf, Event, run, at, Final}
+use Rattle.rules.specs.Run.{Call, beginPut, beginTake, step, setSize, callOf, Event, run, at, Final}
 use Rattle.rules.specs.Solo.{Solo, stepOfWorker, stepsBefore, InTime, EndsWithin, Ends}
 use Rattle.rules.proofs.progress.Solo.{Ending, no-more, between, moving, final}
 
@@ -18,6 +18,7 @@ use Rattle.rules.proofs.progress.Solo.{Ending, no-more, between, moving
 other-call : (i : ℕ) (c : Call) → c ≢ step i → stepOfWorker i c ≡ 0
 other-call i (beginPut j v) n = refl
 other-call i (beginTake j) n = refl
+other-call i (setSize width depth) n = refl
 other-call i (step j) n = cases (λ (k : ℕ). k ≡ 0) (eqb j i) 1 0 (λ e. absurd (n (ap step (eqb-true _ _ e)))) (λ e. refl)
 
 own-call : (i : ℕ) (c : Call) → c ≡ step i → stepOfWorker i c ≡ 1

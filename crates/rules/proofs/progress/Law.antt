@@ -6,8 +6,8 @@ use native.Mathlib.Nat.{le-refl}
 use native.Mathlib.Omega.{arith}
 use Rattle.rules.specs.Step.{ruleOf, ruleBy}
 use Rattle.rules.specs.Sequential.{Contents}
-use Rattle.rules.proofs.Types.{Settings, Side, Putting, Taking, Phase, Idle, Window, QueuePutRead, QueueTakeRead, StackRead, Check, QueueCommit, StackCommit, QueueShift, StackShift, QueueConfirm, StackConfirm, Slot}
-use Rattle.rules.proofs.machine.Machine.{State, subIn, viewIn, phaseIn, applyIn, withSlot}
+use Rattle.rules.proofs.Types.{Settings, Side, Putting, Taking, Phase, Idle, Window, QueuePutRead, QueueTakeRead, StackRead, Check, QueueCommit, StackCommit, QueueShift, StackShift, QueueConfirm, StackConfirm, Size, Slot}
+use Rattle.rules.proofs.machine.Machine.{State, subIn, viewIn, phaseIn, applyIn, withSlot, withSize}
 use Rattle.rules.proofs.machine.Good.{Good}
 use Rattle.rules.proofs.machine.Turns.{Common, Kind}
 use Rattle.rules.proofs.queue.Turn.{queueKind}
@@ -28,6 +28,8 @@ pub record SoloLaw (g : Settings) (k : Kind g) (begun : Side → ℕ) : Type 1 w
   -- an idle worker has none, and another worker's slot does not matter
   pub busy : (s : State) (n index : ℕ) → Left s n index Idle → ⊥
   pub apart : (s : State) (j : ℕ) (x : Slot) (n index : ℕ) (p : Phase) → Left s n index p → Left (withSlot s j x) n index p
+  -- nor does the size of the next window
+  pub resized : (s : State) (size : Size) (n index : ℕ) (p : Phase) → Left s n index p → Left (withSize s size) n index p
   pub begins : (s : State) (q : Contents) → k .Inv s q → (index : ℕ) (side : Side) → Left s (begun side) index (Window side)
   pub steps : (s : State) (q : Contents) → Common g s → k .Inv s q → (i n : ℕ) → Left s n (subIn s i) (phaseIn g s i)
       → Result g Left s i n (applyIn g s i (ruleOf g (viewIn g s i)))
@@ -53,6 +55,7 @@ module _ (g : Settings) (good : Good g) (kind : g .kind ≡ 0) where
         Left = queueLeft g (2 * g .width);
         busy = λ s n index x. x;
         apart = λ s j x n index p left. left;
+        resized = λ s size n index p left. left;
         begins = λ s q inv index side. queue-begins s index side;
         steps = λ s q common inv i n x. result (queue-step g good kind (2 * g .width) twice s q inv (λ l. inl (le-refl _)) i n x);
       }
@@ -99,6 +102,7 @@ module _ (g : Settings) (good : Good g) (kind : g .kind ≡ 1) where
         Left = stackLeft g;
         busy = λ s n index x. x;
         apart = λ s j x n index p left. left;
+        resized = λ s size n index p left. left;
         begins = stack-begins;
         steps = λ s q common inv i n x. stack-by s q common inv i n (phaseIn g s i) refl x;
       }

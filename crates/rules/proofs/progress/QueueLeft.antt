@@ -4,7 +4,8 @@
 -- Where no commit succeeds no sub's last rows change. A window moves only after every sub in its width has reached its top, so after it has moved
 -- every sub is below it ("low"), and it does not move again. A put is slowed down once by the put window, a take once by the take window. Below, w
 -- is the pool's width, v that of the window seen, at most w, and scan counts the subs that a pass has read. A fresh pass saw the present window; a
--- clean one is one whose reads are all still true, so that its confirm finds nothing left.
+-- clean one is one whose reads are all still true, so that its confirm finds nothing left; and where one of them found its sub bare, the window seen is
+-- the put window, and stays so, for that sub is below its top.
 --
 --   put   window   w + 4; low: 2                         then a fresh pass
 --         read     stale: v + w + 5 - scan               the rest, a shift that fails, and a put that starts again
@@ -26,7 +27,7 @@
 -- take window moves; "low" of a take's read or shift says that L is enough as well (`Ready`). A step lowers its own worker's number; a shift raises
 -- nobody's, for what was fresh is then low.
 use mathlib.Core.Path.{_≡_}
-use mathlib.Core.Logic.{_⊎_, inl, inr}
+use mathlib.Core.Logic.{_≢_, _⊎_, inl, inr}
 use Prim.Native.Nat.{ℕ, suc, _+_, _*_, _≤_, _<_}
 use native.Mathlib.Omega.{arith}
 use Rattle.rules.specs.Windows.{higher}
@@ -89,10 +90,16 @@ NextReady g L s = Behind s → Ready g L (s .frame .wide (suc (s .frame .head)))
 abbrev pub countOf : (ℕ → ℕ) → Span → ℕ → ℕ
 countOf put window j = higher (put j) (window .bottom)
 
-module _ (g : Settings) (L : ℕ) (now : Span) (put taken : ℕ → ℕ) (n : ℕ) where
-  abbrev Pass : ℕ → Span → ℕ → ℕ → Type 0
-  Pass index window scan sum = Clean (window .width) (countOf put window) index scan sum
+-- some sub in a window's width has not reached its top
+abbrev pub Under : (ℕ → ℕ) → Span → Type 0
+Under put window = (j : ℕ) × (j < window .width) × (put j < window .top)
 
+-- a clean pass, which has found so many subs bare
+pub record Pass (put : ℕ → ℕ) (index : ℕ) (window : Span) (bare scan sum : ℕ) : Type 0 where
+  pub clean : Clean (window .width) (countOf put window) index scan sum
+  pub under : bare ≢ 0 → Under put window
+
+module _ (g : Settings) (L : ℕ) (now : Span) (put taken : ℕ → ℕ) (n : ℕ) where
   abbrev Found : Type 0
   Found = Ready g L (now .width) put taken
 
@@ -101,14 +108,14 @@ module _ (g : Settings) (L : ℕ) (now : Span) (put taken : ℕ → ℕ) (n : �
     confirms : Low now taken → 2 * g .width ≤ n → TakeWindow
     hits : Low now taken → Stock (now .width) put taken → g .width + 1 ≤ n → TakeWindow
 
-  pub data TakeRead (index : ℕ) (window : Span) (scan sum : ℕ) : Type 0 where
-    stale : 2 * window .width + g .width + 2 + L ≤ n + scan → TakeRead index window scan sum
-    clean : Pass index window scan sum → window .width + g .width + 3 + L ≤ n + scan → TakeRead index window scan sum
-    fresh : Pass index window scan sum → window .top ≡ now .top → window .width + 1 + L ≤ n + scan → TakeRead index window scan sum
-    late : Pass index window scan sum → Low now taken → Found → window .width + 1 + L ≤ n + scan → TakeRead index window scan sum
-    confirms : Pass index window scan sum → window .top ≡ now .top → Low now taken → 2 * window .width ≤ n + scan + 1 → TakeRead index window scan sum
+  pub data TakeRead (index : ℕ) (window : Span) (bare scan sum : ℕ) : Type 0 where
+    stale : 2 * window .width + g .width + 2 + L ≤ n + scan → TakeRead index window bare scan sum
+    clean : Pass put index window bare scan sum → window .width + g .width + 3 + L ≤ n + scan → TakeRead index window bare scan sum
+    fresh : Pass put index window bare scan sum → window .top ≡ now .top → window .width + 1 + L ≤ n + scan → TakeRead index window bare scan sum
+    late : Pass put index window bare scan sum → Low now taken → Found → window .width + 1 + L ≤ n + scan → TakeRead index window bare scan sum
+    confirms : Pass put index window bare scan sum → window .top ≡ now .top → Low now taken → 2 * window .width ≤ n + scan + 1 → TakeRead index window bare scan sum
     hits : window .top ≡ now .top → Low now taken → (j : ℕ) → j < window .width → taken j < put j → ¬ (Visited (window .width) index scan j)
-        → window .width ≤ n + scan → TakeRead index window scan sum
+        → window .width ≤ n + scan → TakeRead index window bare scan sum
 
   pub data TakeCommit (index seen : ℕ) : Type 0 where
     live : taken index ≡ seen → TakeCommit index seen
@@ -121,7 +128,7 @@ module _ (g : Settings) (L : ℕ) (now : Span) (put taken : ℕ → ℕ) (n : �
 
   pub data TakeConfirm (index : ℕ) (window : Span) (scan sum : ℕ) : Type 0 where
     stale : window .width + g .width + 2 + L ≤ n + scan → TakeConfirm index window scan sum
-    clean : AtConfirm (window .width) (countOf put window) n index scan sum → TakeConfirm index window scan sum
+    clean : AtConfirm (window .width) (countOf put window) n index scan sum → Under put window → TakeConfirm index window scan sum
 
   -- a take that starts again at a window that every sub is below
   pub starts-low : Low now taken → Found → L ≤ n → TakeWindow
@@ -134,7 +141,7 @@ Left g L p t put taken n index Idle = ⊥
 Left g L p t put taken n index (Window Putting) = PutWindow g p put n
 Left g L p t put taken n index (Window Taking) = TakeWindow g L t put taken n
 Left g L p t put taken n index (QueuePutRead window scan) = PutRead g p put n window scan
-Left g L p t put taken n index (QueueTakeRead window bare scan sum) = TakeRead g L t put taken n index window scan sum
+Left g L p t put taken n index (QueueTakeRead window bare scan sum) = TakeRead g L t put taken n index window bare scan sum
 Left g L p t put taken n index (StackRead side window version scan sum) = ⊥
 Left g L p t put taken n index (Check side version seen) = ⊥
 Left g L p t put taken n index (QueueCommit Putting window seen) = PutCommit g p put n index seen

@@ -59,18 +59,18 @@ result (ends f e m) = finishes f
 module _ (g : Settings) (kind : g .kind ≡ 0) (L : ℕ) (s : State) (i n : ℕ) where
   -- on to a phase of a queue
   pub queue-on : (index : ℕ) (p : Phase) → OfQueue g p → (kept : Slot) → 1 ≤ n → queueLeft g L s (n - 1) index p
-      → QueueResult g L s i n (applyIn g s i (movedOf (viewIn g s i) index p kept))
+      → QueueResult g L s i n (applyIn g s i (movedOf g (viewIn g s i) index p kept))
   queue-on index p of kept some left =
       moves (moves-on g (queueLeft g L) s i n index p kept (queue-phase g kind (worker (s .slot i .value) index p) of kept) some left)
-      (still (written s i index p kept) (ap (λ (o : Next State). o .state) (apply-moved g s i index p kept)))
+      (still (written g s i index p kept) (ap (λ (o : Next State). o .state) (apply-moved g s i index p kept)))
 
   -- a worker that has given its answer
-  pub rests : (slots : ℕ → Slot) (index : ℕ) → phaseOf g (upd slots i (fresh 0 index Idle) i) ≡ Idle
+  pub rests : (slots : ℕ → Slot) (index : ℕ) → phaseOf g (upd slots i (fresh g 0 index Idle) i) ≡ Idle
   rests slots index =
-      ap (λ (x : Slot). phaseOf g x) (upd-same slots i (fresh 0 index Idle)) ∙ queue-phase g kind (worker 0 index Idle) tt zeroSlot
+      ap (λ (x : Slot). phaseOf g x) (upd-same slots i (fresh g 0 index Idle)) ∙ queue-phase g kind (worker 0 index Idle) tt zeroSlot
 
   -- the answer of a pass that found no place
-  pub queue-nothing : (side : Side) (index : ℕ) → Ended g s i (turnedIn s i (s .top) (s .mark) (s .frame) (fresh 0 index Idle))
-      → QueueResult g L s i n (applyIn g s i (finishedOf (viewIn g s i) (nothingFor side) index))
+  pub queue-nothing : (side : Side) (index : ℕ) → Ended g s i (turnedIn s i (s .top) (s .mark) (s .frame) (fresh g 0 index Idle))
+      → QueueResult g L s i n (applyIn g s i (finishedOf g (viewIn g s i) (nothingFor side) index))
   queue-nothing Putting index e = rw (apply-full g s i index) (ends final-full (rests (s .slot) index) e)
   queue-nothing Taking index e = rw (apply-empty g s i index) (ends final-empty (rests (s .slot) index) e)

@@ -1,5 +1,5 @@
 -- The window that a queue's worker has seen, beside the present ones: it is at most as wide as the pool; where its top is that of the put window, or of
--- the take window, it has that one's width; and while a sub in its width has not reached its top it is the put window.
+-- the take window, it has that one's width, and in the first case its bottom; and while a sub in its width has not reached its top it is the put window.
 use mathlib.Core.Path.{_≡_}
 use Prim.Native.Nat.{ℕ, suc, _^_, _≤_, _<_}
 use native.Mathlib.Nat.{le-refl}
@@ -37,13 +37,18 @@ module _ {g : Settings} {s : State} {q : Contents} (o : Pool g s q) where
         let a : k .at ≡ f .tail = same-top w (k .at) (f .tail) (k .at-le) (le-refl _) (omega (arith, k .top)) in
         rw a at (k .wide)
 
+    pub put-bottom : Sees f (f .tail) window → window .top ≡ topOf f → window .bottom ≡ f .base (f .tail)
+    put-bottom k e =
+        let a : k .at ≡ f .tail = same-top w (k .at) (f .tail) (k .at-le) (le-refl _) (omega (arith, k .top)) in
+        rw a at (k .bottom)
+
     pub take-wide : Sees f (f .head) window → window .top ≡ markOf f → window .width ≡ f .wide (f .head)
     take-wide k e =
         let a : k .at ≡ f .head = same-top w (k .at) (f .head) (k .at-le) (w .order) (omega (arith, k .top)) in
         rw a at (k .wide)
 
-    pub not-filled : Sees f (f .tail) window → (j : ℕ) → j < window .width → s .first j < window .top → window .top ≡ topOf f
-    not-filled k j lj below =
+    pub not-filled : {limit : ℕ} → limit ≤ f .tail → Sees f limit window → (j : ℕ) → j < window .width → s .first j < window .top → window .top ≡ topOf f
+    not-filled l k j lj below =
         let at-tail : k .at ≡ f .tail = elim (decLt (k .at) (f .tail)) [
           | yes y ↦ absurd (omega (arith, k .top, o .subs .filled (k .at) j y (omega (arith, k .wide))))
           | no n ↦ omega (arith, k .at-le)

@@ -1,17 +1,20 @@
 -- A take's commit, shift and confirm on a queue: each ends it or lowers what it has left (QueueLeft). A shift that moves the take window
 -- finds there what L asks for (Ready).
-use mathlib.Core.Path.{_≡_, refl, ap, subst}
+use mathlib.Core.Path.{_≡_, refl, sym, ap, _∙_, subst}
 use mathlib.Core.Logic.{_≢_}
+use mathlib.Core.Bool.{Bool, true, false, false≢true}
 use Prim.Native.Nat.{ℕ, suc, _+_, _-_, _≤_, _<_}
 use native.Mathlib.Omega.{arith}
 use lib.Dec.{ltb, eqb}
-use borrow.Author.Tests.{ltb-true, eqb-true, eqb-false}
-use Rattle.laws.specs.Choice.{cases}
+use borrow.Author.Tests.{ltb-true, eqb-true, eqb-false, eq-eqb}
+use Rattle.laws.specs.Choice.{cond, cases, both}
 use Rattle.laws.specs.Wrap.{add32, sub32}
+use Rattle.rules.specs.Limits.{windowed}
+use Rattle.rules.specs.Windows.{levelOf}
 use Rattle.rules.specs.Effects.{movedOf, nextOf, hopOf}
-use Rattle.rules.specs.Commit.{queueCommit, commitBy, removedOf, rowAbove, lostOf}
+use Rattle.rules.specs.Commit.{queueCommit, queueTakeCommit, commitBy, removedOf, rowAbove, lostOf}
 use Rattle.rules.specs.Shift.{queueShift, shiftBy, shiftedOf}
-use Rattle.rules.specs.Confirm.{queueConfirm}
+use Rattle.rules.specs.Confirm.{queueConfirm, sameTop}
 use Rattle.rules.specs.Sequential.{Contents}
 use Rattle.rules.proofs.Types.{Settings, Taking, Window, QueueCommit, QueueShift, QueueConfirm, Span, Slot, Effect}
 use Rattle.rules.specs.declared.Outcome.the-variants.{Dropped}
@@ -22,12 +25,12 @@ use Rattle.rules.proofs.machine.Machine.{Frame, State, topOf, markOf, s
 use Rattle.rules.proofs.machine.Phases.{OfQueue}
 use Rattle.rules.proofs.machine.Good.{Good}
 use Rattle.rules.proofs.queue.Inv.{Windows, TakeShifts, Confirms, Knows, Inv}
-use Rattle.rules.proofs.queue.View.{of-now, put-row}
+use Rattle.rules.proofs.queue.View.{of-now, put-level}
 use Rattle.rules.proofs.queue.CommitTake.{take-commit as commit-law}
 use Rattle.rules.proofs.progress.Steps.{restarted, shifts-on, Unless, unless-refused}
 use Rattle.rules.proofs.progress.Confirm.{AtConfirm, confirm-cases, confirm-some, confirm-more, confirm-ends}
-use Rattle.rules.proofs.progress.QueueSeen.{wide-le, wide16, count-few, take-wide}
-use Rattle.rules.proofs.progress.QueueLeft.{takeNow, Low, Behind, NextReady, countOf, TakeWindow, TakeCommit, TakeShift, TakeConfirm, starts-low, queueLeft}
+use Rattle.rules.proofs.progress.QueueSeen.{wide-le, wide16, count-few, take-wide, not-filled}
+use Rattle.rules.proofs.progress.QueueLeft.{takeNow, Low, Behind, NextReady, countOf, Under, TakeWindow, TakeCommit, TakeShift, TakeConfirm, starts-low, queueLeft}
 use Rattle.rules.proofs.progress.QueueResult.{taken as took, QueueResult, on, moves, ends, queue-on, rests, queue-nothing}
 
 module _ (g : Settings) (good : Good g) (kind : g .kind ≡ 0) (L : ℕ) (s : State) (q : Contents) (inv : Inv g s q) (i n : ℕ) where
@@ -51,9 +54,10 @@ module _ (g : Settings) (good : Good g) (kind : g .kind ≡ 0) (L : ℕ) (s : St
 
   -- ---- commit: a take whose sub is as it was seen takes its item; another starts again
   module _ (window : Span) (seen : ℕ) (now : phaseIn g s i ≡ QueueCommit Taking window seen) where
-    removes : Steps (removedOf (viewIn g s i) (put j) (add32 (taken j) 1) (rowAbove (taken j)))
+    -- whatever its row
+    removes : (level : ℕ) → Steps (removedOf g (viewIn g s i) (put j) (add32 level 1) (rowAbove level))
     unfolding applyIn applyInBy
-    removes = ends (final-taken _ _ _ _ _) (rests g kind L s i n (s .slot) j) (took (rw now refl) refl (upd-self put j))
+    removes level = ends (final-taken _ _ _ _ _) (rests g kind L s i n (s .slot) j) (took (rw now refl) refl (upd-self put j))
 
     lost : taken j ≢ seen → TakeCommit g L (takeNow f) put taken n j seen → Steps (lostOf g (viewIn g s i) Taking)
     lost other (TakeCommit.live e) = absurd (other e)
@@ -62,11 +66,11 @@ module _ (g : Settings) (good : Good g) (kind : g .kind ≡ 0) (L : ℕ) (s : St
     abbrev Commits : Effect → Type 0
     Commits = Unless g s i (QueueResult g L s i n)
 
-    pub take-commit : TakeCommit g L (takeNow f) put taken n j seen → Steps (queueCommit g (viewIn g s i) Taking seen)
-    unfolding queueCommit commitBy
+    pub take-commit : TakeCommit g L (takeNow f) put taken n j seen → Steps (queueCommit g (viewIn g s i) Taking window seen)
+    unfolding queueCommit queueTakeCommit commitBy
     take-commit left =
         cases Commits (eqb (taken j) seen) _ _
-        (λ t. cases Commits _ _ _ (λ u able. removes) (λ u. unless-refused g s i (QueueResult g L s i n)))
+        (λ t. cases Commits _ _ _ (λ u able. removes _) (λ u. unless-refused g s i (QueueResult g L s i n)))
         (λ t able. lost (eqb-false _ _ t) left)
         (commit-law g kind s q inv i window seen now .able)
 
@@ -93,17 +97,17 @@ module _ (g : Settings) (good : Good g) (kind : g .kind ≡ 0) (L : ℕ) (s : St
         let ne : f .head ≢ f .tail = λ e. let z : markOf f ≡ topOf f = rw e refl in omega (arith, inv .pool .mark, inv .pool .top) in
         omega (arith, w .order)
 
-    moved : (mark : ℕ) → s .mark ≡ window .top → Behind s → L + 1 ≤ n → Steps (shiftedOf (viewIn g s i) Dropped Taking (s .top) mark)
+    moved : (mark : ℕ) → s .mark ≡ window .top → Behind s → L + 1 ≤ n → Steps (shiftedOf g (viewIn g s i) Dropped Taking (s .top) mark)
     moved mark same below many =
         let most : L ≤ n - 1 = omega arith in
         let is = apply-dropped g s i mark in
         moves (shifts-on g (queueLeft g L) s i n Taking (s .top) mark (droppedOf f) _ is (omega arith) (starts-low g L (takeNow (droppedOf f)) put taken (n - 1) now-low (ready below) most))
-        (on mark (restarted s i Taking) (ap (λ (o : Next State). o .state) is) below (not-low same) now-low)
+        (on mark (restarted g s i Taking) (ap (λ (o : Next State). o .state) is) below (not-low same) now-low)
       where
         now-low : Low (takeNow (droppedOf f)) taken
         now-low m l = omega (arith, inv .pool .subs .taken-le m, w .rise (suc (f .head)) (suc (suc (f .head))) (omega arith) (omega arith))
 
-    restarts : s .mark ≢ window .top → TakeShift g L (takeNow f) put taken n window → Steps (movedOf (viewIn g s i) j (Window Taking) (s .slot i))
+    restarts : s .mark ≢ window .top → TakeShift g L (takeNow f) put taken n window → Steps (movedOf g (viewIn g s i) j (Window Taking) (s .slot i))
     restarts other (TakeShift.stale m) = queue-on g kind L s i n j (Window Taking) tt _ (omega arith) (TakeWindow.any (omega arith))
     restarts other (TakeShift.fresh e m) = absurd (omega (arith, inv .pool .mark))
     restarts other (TakeShift.late l r m) =
@@ -130,14 +134,14 @@ module _ (g : Settings) (good : Good g) (kind : g .kind ≡ 0) (L : ℕ) (s : St
     on′ = nextOf (window .width) j
 
     abbrev left′ : ℕ
-    left′ = sub32 sum (put j)
+    left′ = sub32 sum (levelOf g (put j) (window .bottom))
 
     abbrev Confirming : Type 0
     Confirming = TakeConfirm g L (takeNow f) put taken n j window scan sum
 
-    -- a sub's last put row is not below the window's bottom
-    row : countOf put window j ≡ put j
-    row = put-row (inv .pool) window (f .head) (w .order) (c .sees) j (omega (arith, c .index-lt, wide))
+    -- what the confirm takes off for the sub
+    row : countOf put window j ≡ levelOf g (put j) (window .bottom)
+    row = sym (put-level kind (inv .pool) window (f .head) (w .order) (c .sees) j (omega (arith, c .index-lt, wide)))
 
     one-more : AtConfirm (window .width) (countOf put window) n j scan sum → AtConfirm (window .width) (countOf put window) (n - 1) on′ (suc scan) left′
     one-more a =
@@ -148,21 +152,40 @@ module _ (g : Settings) (good : Good g) (kind : g .kind ≡ 0) (L : ℕ) (s : St
     nothing-left a last =
         subst (λ (x : ℕ). sub32 sum x ≡ 0) row (confirm-ends a (count-few (inv .pool) (w .order) (c .sees) j) (c .index-lt) (c .scan-lt) last)
 
+    -- and the put window is the one seen while a sub in its width is below its top
+    top-seen : Under put window → sameTop g (viewIn g s i) window ≡ true
+    unfolding cond
+    top-seen u = go (windowed g)
+      where
+        same : s .top ≡ window .top
+        same = inv .pool .top ∙ sym (not-filled (inv .pool) (w .order) (c .sees) (u .0) (u .1) (u .2))
+
+        go : (b : Bool) → cond b (eqb (s .top) (window .top)) true ≡ true
+        go true = eq-eqb (s .top) (window .top) same
+        go false = refl
+
+    abbrev sure : Bool
+    sure = both (eqb left′ 0) (sameTop g (viewIn g s i) window)
+
+    clean-sure : AtConfirm (window .width) (countOf put window) n j scan sum → Under put window → suc scan ≡ window .width → sure ≡ true
+    unfolding cond
+    clean-sure a u last = rw (eq-eqb left′ 0 (nothing-left a last), top-seen u) refl
+
     of : OfQueue g (QueueConfirm window scan sum)
     of = of-now g kind s i (QueueConfirm window scan sum) now
 
-    confirms-on : suc scan < window .width → Confirming → Steps (movedOf (viewIn g s i) on′ (QueueConfirm window (suc scan) left′) (s .slot i))
+    confirms-on : suc scan < window .width → Confirming → Steps (movedOf g (viewIn g s i) on′ (QueueConfirm window (suc scan) left′) (s .slot i))
     confirms-on l (TakeConfirm.stale m) = queue-on g kind L s i n on′ (QueueConfirm window (suc scan) left′) of _ (omega arith) (TakeConfirm.stale (omega arith))
-    confirms-on l (TakeConfirm.clean a) = queue-on g kind L s i n on′ (QueueConfirm window (suc scan) left′) of _ (confirm-some a l) (TakeConfirm.clean (one-more a))
+    confirms-on l (TakeConfirm.clean a u) = queue-on g kind L s i n on′ (QueueConfirm window (suc scan) left′) of _ (confirm-some a l) (TakeConfirm.clean (one-more a) u)
 
-    lost-confirm : suc scan ≡ window .width → left′ ≢ 0 → Confirming → (kept : Slot) → Steps (movedOf (viewIn g s i) on′ (Window Taking) kept)
+    lost-confirm : suc scan ≡ window .width → sure ≡ false → Confirming → (kept : Slot) → Steps (movedOf g (viewIn g s i) on′ (Window Taking) kept)
     lost-confirm last z (TakeConfirm.stale m) kept = queue-on g kind L s i n on′ (Window Taking) tt kept (omega arith) (TakeWindow.any (omega arith))
-    lost-confirm last z (TakeConfirm.clean a) kept = absurd (z (nothing-left a last))
+    lost-confirm last z (TakeConfirm.clean a u) kept = absurd (false≢true (sym z ∙ clean-sure a u last))
 
-    pub take-confirm : Confirming → Steps (queueConfirm (viewIn g s i) window scan sum)
+    pub take-confirm : Confirming → Steps (queueConfirm g (viewIn g s i) window scan sum)
     unfolding queueConfirm
     take-confirm left =
-        confirm-cases (window .width) (wide16 (inv .pool) (w .order) (c .sees) (good .bounds)) (viewIn g s i) Steps Taking scan left′ (λ x. QueueConfirm window x left′) (c .scan-lt)
+        confirm-cases g (window .width) (wide16 (inv .pool) (w .order) (c .sees) (good .bounds)) (viewIn g s i) Steps Taking scan left′ (λ x. QueueConfirm window x left′) sure (c .scan-lt)
         (λ l. confirms-on l left)
         (λ e. queue-nothing g kind L s i n Taking on′ (took (rw now refl) refl refl))
         (λ e z kept. lost-confirm e z left kept)

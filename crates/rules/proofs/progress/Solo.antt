@@ -8,18 +8,19 @@ use Prim.Native.Nat.{ℕ, zero, suc, _+_, _-_, _≤_, _<_}
 use native.Mathlib.Decide.{ℕ-discrete, decLe}
 use native.Mathlib.Omega.{arith}
 use lib.ListN.{getD}
+use Rattle.laws.specs.Choice.{cases}
 use Rattle.rules.specs.Answers.{numberOf}
 use Rattle.rules.specs.Layout.{stepsAt}
-use Rattle.rules.specs.Limits.{settingsFit, stepLimit}
+use Rattle.rules.specs.Limits.{settingsFit, stepLimit, windowed}
 use Rattle.rules.specs.Worker.{fresh, phaseOf}
 use Rattle.rules.specs.Sequential.{Contents}
-use Rattle.rules.specs.Run.{Call, beginPut, beginTake, step, callOf, Event, run, Final}
+use Rattle.rules.specs.Run.{Call, beginPut, beginTake, step, setSize, callOf, Event, run, Final}
 use Rattle.rules.specs.Solo.{Solo}
-use Rattle.rules.proofs.Types.{Settings, Side, Putting, Taking, Window, Slot}
+use Rattle.rules.proofs.Types.{Settings, Size, Side, Putting, Taking, Window, Slot}
 use Rattle.rules.specs.declared.Answer.the-variants.{Moving}
 use Rattle.rules.proofs.counts.Sums.{upd-other}
 use Rattle.rules.proofs.order.Law.{Next}
-use Rattle.rules.proofs.machine.Machine.{State, next, subIn, phaseIn, nextIn, beginIn}
+use Rattle.rules.proofs.machine.Machine.{State, next, subIn, phaseIn, nextIn, beginIn, setSizeIn}
 use Rattle.rules.proofs.machine.Phases.{idle-phase}
 use Rattle.rules.proofs.machine.Calls.{Called, refuses, does, able-does, Begins, step-called, begun, begin-called}
 use Rattle.rules.proofs.machine.Turns.{Common, Kind, refused-same}
@@ -62,20 +63,33 @@ module _ (g : Settings) (k : Kind g) {most : Side → ℕ} (law : SoloLaw g k mo
         by (goes x) = walks refl (x .answer) (x .steps) (x .some) (x .left)
 
     -- a begin of another worker, or a refused one
-    begins : (c : Call) (j : ℕ) (side : Side) (v : ℕ) (o : Next State) → c ≢ step i → Called s (Begins g s j) (next Moving (begun s j side v)) o → After s i n c o
+    begins : (c : Call) (j : ℕ) (side : Side) (v : ℕ) (o : Next State) → c ≢ step i → Called s (Begins g s j) (next Moving (begun g s j side v)) o → After s i n c o
     begins c j side v o u (refuses m l unable e) = unchanged c o u (ap (λ (x : Next State). x .state) e)
     begins c j side v o u (does able e) =
         let other : i ≢ j = λ z. busy (rw z (able .idle)) in
-        let x : Slot = fresh v (subIn s j) (Window side) in
-        let same : begun s j side v .slot i ≡ s .slot i = upd-other (s .slot) j x i other in
+        let x : Slot = fresh g v (subIn s j) (Window side) in
+        let same : begun g s j side v .slot i ≡ s .slot i = upd-other (s .slot) j x i other in
         rw e (passes u refl
-        (subst (λ (y : Slot). law .Left (begun s j side v) n (y .index) (phaseOf g y)) (sym same) (law .apart s j x n (subIn s i) (phaseIn g s i) left)))
+        (subst (λ (y : Slot). law .Left (begun g s j side v) n (y .index) (phaseOf g y)) (sym same) (law .apart s j x n (subIn s i) (phaseIn g s i) left)))
+
+    -- a size call
+    sizes : (c : Call) (size : Size) → c ≢ step i → After s i n c (setSizeIn g s size)
+    unfolding setSizeIn
+    sizes c size u =
+        cases Of (windowed g) _ _
+        (λ a. cases Of _ _ _ (λ e. passes u refl (law .resized s size n (subIn s i) (phaseIn g s i) left)) (λ e. unchanged c _ u refl))
+        (λ a. unchanged c _ u refl)
+      where
+        Of : Next State → Type 0
+        Of o = After s i n c o
 
     after-call : i < g .workers → s .steps < stepLimit → (c : Call)
         → ((j : ℕ) → c ≡ step j → numberOf (nextIn g s c .answer) ≤ 4 → j ≡ i) → After s i n c (nextIn g s c)
     unfolding nextIn
     after-call l time (beginPut j v) solo = begins (beginPut j v) j Putting v _ (λ e. let z : _≡_ {A = ℕ} 0 1 = cc in omega arith) (begin-called g s j Putting v)
     after-call l time (beginTake j) solo = begins (beginTake j) j Taking 0 _ (λ e. let z : _≡_ {A = ℕ} 0 1 = cc in omega arith) (begin-called g s j Taking 0)
+    after-call l time (setSize width depth) solo =
+        sizes (setSize width depth) (record { width = width; depth = depth }) (λ e. let z : _≡_ {A = ℕ} 0 1 = cc in omega arith)
     after-call l time (step j) solo = elim (ℕ-discrete j i) [
       | yes e ↦ rw e (own l time)
       | no ne ↦ elim (decLe (numberOf (nextIn g s (step j) .answer)) 4) [
@@ -118,10 +132,10 @@ module _ (g : Settings) (k : Kind g) {most : Side → ℕ} (law : SoloLaw g k mo
         (after-call s (r .list) (r .whole .common) (r .whole .inv) i n left l (omega arith) c mine)
 
     -- ---- from a begin on
-    begun-left : (s : State) (q : Contents) → k .Inv s q → (i : ℕ) (side : Side) (v : ℕ) → LeftIn (begun s i side v) (most side) i
+    begun-left : (s : State) (q : Contents) → k .Inv s q → (i : ℕ) (side : Side) (v : ℕ) → LeftIn (begun g s i side v) (most side) i
     begun-left s q inv i side v =
         at-begun g (law .Left) s i (most side) side v
-        (law .apart s i (fresh v (subIn s i) (Window side)) (most side) (subIn s i) (Window side) (law .begins s q inv (subIn s i) side))
+        (law .apart s i (fresh g v (subIn s i) (Window side)) (most side) (subIn s i) (Window side) (law .begins s q inv (subIn s i) side))
 
     pub begun-ends : {ws : List ℕ} {s : State} → Rel ws s → (i : ℕ) (side : Side) (v : ℕ) (c : Call)
         → nextIn g s c ≡ beginIn g s i side v → numberOf (callOf (g .edition) ws c .answer) ≡ 0
@@ -129,12 +143,12 @@ module _ (g : Settings) (k : Kind g) {most : Side → ℕ} (law : SoloLaw g k mo
         → Ending i (most side) (run (g .edition) (callOf (g .edition) ws c .words) ds)
     begun-ends {ws} {s} r i side v c is accepted enough ds solo = by (begin-called g s i side v)
       where
-        by : Called s (Begins g s i) (next Moving (begun s i side v)) (beginIn g s i side v) → Ending i (most side) (run (g .edition) (callOf (g .edition) ws c .words) ds)
+        by : Called s (Begins g s i) (next Moving (begun g s i side v)) (beginIn g s i side v) → Ending i (most side) (run (g .edition) (callOf (g .edition) ws c .words) ds)
         by (refuses m l unable e) =
             let a : numberOf (nextIn g s c .answer) ≡ 0 = rw (next-related g limits k r c .answer) at accepted in
             let b : numberOf (nextIn g s c .answer) ≡ m = ap (λ (o : Next State). numberOf (o .answer)) (is ∙ e) in
             absurd (omega arith)
         by (does able e) =
-            let t : nextIn g s c .state ≡ begun s i side v = ap (λ (o : Next State). o .state) (is ∙ e) in
-            let r′ : Related g limits k (callOf (g .edition) ws c .words) (begun s i side v) = rw t at (next-related g limits k r c .related) in
+            let t : nextIn g s c .state ≡ begun g s i side v = ap (λ (o : Next State). o .state) (is ∙ e) in
+            let r′ : Related g limits k (callOf (g .edition) ws c .words) (begun g s i side v) = rw t at (next-related g limits k r c .related) in
             solo-ends r′ i (most side) (able .worker) (omega (arith, r .says .steps)) (begun-left s (r .list) (r .whole .inv) i side v) ds solo

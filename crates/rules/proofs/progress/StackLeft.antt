@@ -74,6 +74,6 @@ stackLeft g s n index p = Left g (sight s) n index p
 
 -- on to a phase of a stack
 pub stack-on : (g : Settings) → g .kind ≡ 1 → (s : State) (i n index : ℕ) (p : Phase) → OfStack p → (kept : Slot) → 1 ≤ n → stackLeft g s (n - 1) index p
-    → Result g (stackLeft g) s i n (applyIn g s i (movedOf (viewIn g s i) index p kept))
+    → Result g (stackLeft g) s i n (applyIn g s i (movedOf g (viewIn g s i) index p kept))
 stack-on g kind s i n index p of kept some left =
     goes (moves-on g (stackLeft g) s i n index p kept (stack-phase g kind (worker (s .slot i .value) index p) of kept) some left)

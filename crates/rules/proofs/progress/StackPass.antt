@@ -77,7 +77,7 @@ module _ (g : Settings) (good : Good g) (kind : g .kind ≡ 1) (s : State) (q : 
         (record { version-is = a .version-is; seen-is = refl; able = omega arith }))
         (λ t.
         let none : NearBy 0 → ⊥ = λ near. no-miss side t (near j index) in
-        miss-cases (g .width) (good .bounds .width16) (viewIn g s i) Steps scan (λ x. StackRead side window version x (add32 sum (s .second j))) (StackShift side version 0 (add32 sum (s .second j))) _ (k .scan-lt)
+        miss-cases g (g .width) (good .bounds .width16) (viewIn g s i) Steps scan (λ x. StackRead side window version x (add32 sum (s .second j))) (StackShift side version 0 (add32 sum (s .second j))) _ (k .scan-lt)
         (λ l. stack-on g kind s i n (nextOf (g .width) j) (StackRead side window version (suc scan) (add32 sum (s .second j))) tt _ (omega arith)
         (record {
           window-is = a .window-is;
@@ -88,14 +88,14 @@ module _ (g : Settings) (good : Good g) (kind : g .kind ≡ 1) (s : State) (q : 
         (λ e. stack-on g kind s i n (nextOf (g .width) j) (StackShift side version 0 (add32 sum (s .second j))) tt _ (omega arith)
         (record { version-is = a .version-is; clean = rw e at more; left = read-shift (a .left) none e })))
 
-  pub check-step : (version seen : Version) → Checks (sight s) n j (version .0) (seen .0) → Steps (checkRule (viewIn g s i) side version seen)
+  pub check-step : (version seen : Version) → Checks (sight s) n j (version .0) (seen .0) → Steps (checkRule g (viewIn g s i) side version seen)
   unfolding checkRule
   check-step version seen k =
       cases Steps (eqb (s .mark) (version .0)) _ _
       (λ t. stack-on g kind s i n j (StackCommit side seen) tt _ (k .able) (k .seen-is))
       (λ t. absurd (eqb-false _ _ t (sym (k .version-is))))
 
-  lands : (b : Side) → Steps (landsOf (viewIn g s i) b)
+  lands : (b : Side) → Steps (landsOf g (viewIn g s i) b)
   unfolding applyIn applyInBy
   lands Putting = finishes (final-put _ _ _ _)
   lands Taking = finishes (final-taken _ _ _ _ _)

@@ -42,13 +42,13 @@ module _ (g : Settings) (good : Good g) (kind : g .kind ≡ 1) (s : State) (q : 
     nearer Putting c (suc k) h = h
     nearer Taking c (suc k) h = h
 
-    moved : (side : Side) → Shifts g (sight s) n side j (version .0) sum → Steps (shiftedOf (viewIn g s i) Shifted side (shifted g side (s .top)) (suc (s .mark)))
+    moved : (side : Side) → Shifts g (sight s) n side j (version .0) sum → Steps (shiftedOf g (viewIn g s i) Shifted side (shifted g side (s .top)) (suc (s .mark)))
     moved side a =
         goes (shifts-on g (stackLeft g) s i n side (shifted g side (s .top)) (suc (s .mark)) (s .frame) _ (apply-shifted g s i side (shifted g side (s .top)) (suc (s .mark)))
         (shift-left (a .left)) (shift-window (a .left) (λ k near m l. nearer side (s .first m) k (near m l))))
 
     to-confirm : (side : Side) → phaseIn g s i ≡ StackShift side version scan sum → Shifts g (sight s) n side j (version .0) sum
-        → Steps (movedOf (viewIn g s i) j (StackConfirm side scan sum) (s .slot i))
+        → Steps (movedOf g (viewIn g s i) j (StackConfirm side scan sum) (s .slot i))
     to-confirm side now a =
         let knows : Shifting g (sight s) (inv .ghost) side (version .0) j scan sum = rw now at (inv .knows i) in
         let start : scan ≡ 0 = knows .scan-is in
@@ -83,7 +83,7 @@ module _ (g : Settings) (good : Good g) (kind : g .kind ≡ 1) (s : State) (q : 
       let small : s .second j < 2 ^ 32 = omega (arith, version-few (inv .pool) j index) in
       let scan-lt : scan < g .width = rw now at (inv .knows i) in
       let rest : ℕ = sub32 sum (s .second j) in
-      confirm-cases (g .width) (good .bounds .width16) (viewIn g s i) Steps side scan rest (λ x. StackConfirm side x rest) scan-lt
+      confirm-cases g (g .width) (good .bounds .width16) (viewIn g s i) Steps side scan rest (λ x. StackConfirm side x rest) (eqb rest 0) scan-lt
       (λ l. stack-on g kind s i n (nextOf (g .width) j) (StackConfirm side (suc scan) rest) tt _ (confirm-some a l) (confirm-more a small index scan-lt))
       (λ e. finds-nothing g (stackLeft g) s i n side (nextOf (g .width) j))
-      (λ e z kept. absurd (z (confirm-ends a small index scan-lt e)))
+      (λ e z kept. absurd (eqb-false _ _ z (confirm-ends a small index scan-lt e)))

@@ -14,11 +14,11 @@ use borrow.Author.Tests.{ltb-false, eqb-true}
 use Rattle.laws.specs.Choice.{cases}
 use Rattle.laws.specs.Wrap.{add32}
 use Rattle.rules.specs.Limits.{stepLimit}
-use Rattle.rules.specs.Windows.{higher}
+use Rattle.rules.specs.Windows.{higher, levelOf}
 use Rattle.rules.specs.Held.{Item}
 use Rattle.rules.specs.Worker.{fresh}
-use Rattle.rules.specs.Effects.{hopOf}
-use Rattle.rules.specs.Commit.{queueCommit, commitBy, landedOf, rowAbove}
+use Rattle.rules.specs.Effects.{hopOf, takeWindow}
+use Rattle.rules.specs.Commit.{queuePutCommit, queueCommit, commitBy, landedOf, rowAbove}
 use Rattle.rules.specs.Measures.{noMeasures}
 use Rattle.rules.specs.Sequential.{putting, Contents}
 use Rattle.rules.proofs.Types.{Settings, Putting, Idle, Window, QueueCommit, Span, Effect}
@@ -31,14 +31,14 @@ use Rattle.rules.proofs.order.Gives.{putOn, gives-put, final-put}
 use Rattle.rules.proofs.machine.Machine.{Frame, State, topOf, next, subIn, viewIn, phaseIn, applyIn, applyInBy, lost-restarts}
 use Rattle.rules.proofs.queue.Inv.{Windows, Subs, Place, Items, Plain, first-high, second-high, Pool, PutCommits, Knows, Inv, Grown, base-le, earlier, bottom-few, put-few}
 use Rattle.rules.proofs.queue.Moves.{Stepped, walk, end}
-use Rattle.rules.proofs.queue.View.{plain, put-row}
+use Rattle.rules.proofs.queue.View.{put-level, free-level}
 
 -- the item, and the state, of a put by worker i that lands in a row
 abbrev newItem : State → ℕ → Item
 newItem s i = record { value = s .slot i .value; stamp = suc (s .puts) }
 
-abbrev landedIn : State → ℕ → ℕ → State
-landedIn s i row =
+abbrev landedIn : Settings → State → ℕ → ℕ → State
+landedIn g s i row =
     record {
       steps = suc (s .steps);
       puts = suc (s .puts);
@@ -50,12 +50,12 @@ landedIn s i row =
       first = upd (s .first) (subIn s i) row;
       second = s .second;
       item = upd (s .item) (subIn s i) (upd (s .item (subIn s i)) row (newItem s i));
-      slot = upd (s .slot) i (fresh 0 (subIn s i) Idle);
+      slot = upd (s .slot) i (fresh g 0 (subIn s i) Idle);
     }
 
 apply-landed : (g : Settings) (s : State) (i row : ℕ) → s .puts < 4294967295
-    → applyIn g s i (landedOf (viewIn g s i) row (s .second (subIn s i)) (record { 0 = row }))
-    ≡ next (Put (s .slot i .value) (subIn s i) (record { 0 = row }) (record { 0 = suc (s .puts) })) (landedIn s i row)
+    → applyIn g s i (landedOf g (viewIn g s i) row (s .second (subIn s i)) (record { 0 = row }))
+    ≡ next (Put (s .slot i .value) (subIn s i) (record { 0 = row }) (record { 0 = suc (s .puts) })) (landedIn g s i row)
 unfolding applyIn applyInBy
 apply-landed g s i row b = rw (add32-suc (s .puts) b, upd-self (s .second) (subIn s i)) refl
 
@@ -88,7 +88,7 @@ module _ (g : Settings) (kind : g .kind ≡ 0) (s : State) (q : Contents) (inv :
       | no n ↦ omega (arith, k .sees .at-le)
     ]
 
-    bottom-is : window .bottom ≡ f .base (f .tail)
+    pub bottom-is : window .bottom ≡ f .base (f .tail)
     bottom-is = rw at-tail at (k .sees .bottom)
 
     inside : j < f .wide (f .tail)
@@ -101,7 +101,7 @@ module _ (g : Settings) (kind : g .kind ≡ 0) (s : State) (q : Contents) (inv :
     row = suc (higher (s .first j) (window .bottom))
 
     abbrev t : State
-    t = landedIn s i row
+    t = landedIn g s i row
 
     abbrev new : Item
     new = newItem s i
@@ -267,7 +267,9 @@ module _ (g : Settings) (kind : g .kind ≡ 0) (s : State) (q : Contents) (inv :
           items = items;
           size = o .size;
           plain = λ e. plain-then (o .plain e);
+          set-most = o .set-most;
           old = o .old;
+          live = o .live;
           first-few = first-few (ℕ-discrete 0 j);
           puts-few = omega (arith, o .puts-few);
           steps-few = some-left;
@@ -314,36 +316,32 @@ module _ (g : Settings) (kind : g .kind ≡ 0) (s : State) (q : Contents) (inv :
           taken = λ m. le-refl _;
         }
 
-    -- no row is passed over where all windows have the pool's size
-    row-is : row ≡ suc (s .first j)
-    row-is = ap suc (put-row o window (f .tail) (le-refl _) (k .sees) j index)
+    level-is : levelOf g (s .first j) (window .bottom) ≡ higher (s .first j) (window .bottom)
+    level-is = put-level kind o window (f .tail) (le-refl _) (k .sees) j index
 
-    lands : Steps (landedOf (viewIn g s i) row (s .second j) (record { 0 = row }))
+    lands : Steps (landedOf g (viewIn g s i) row (s .second j) (record { 0 = row }))
     lands =
         rw (apply-landed g s i row (omega (arith, o .puts-few, o .steps-few)))
         (end g kind s q inv i (QueueCommit Putting window last) now j t refl grown _ noMeasures (putting (s .slot i .value)) _ refl (final-put _ _ _ _)
         (gives-put g q noMeasures (s .slot i .value) j (record { 0 = row }) (suc (s .puts)) (ap suc (sym (o .count)))) pool (λ e. absurd (omega arith)))
 
-    next-lands : Steps (landedOf (viewIn g s i) (add32 (s .first j) 1) (s .second j) (rowAbove (s .first j)))
+    next-lands : Steps (landedOf g (viewIn g s i) (add32 (levelOf g (s .first j) (window .bottom)) 1) (s .second j) (rowAbove (levelOf g (s .first j) (window .bottom))))
     next-lands =
-        let e : add32 (s .first j) 1 ≡ row = add32-suc (s .first j) (omega (arith, put-few o j)) ∙ sym row-is in
-        subst (λ (r : ℕ). Steps (landedOf (viewIn g s i) r (s .second j) (record { 0 = r }))) (sym e) lands
+        let e : add32 (levelOf g (s .first j) (window .bottom)) 1 ≡ row =
+        ap (λ (n : ℕ). add32 n 1) level-is ∙ add32-suc (higher (s .first j) (window .bottom)) (omega (arith, put-few o j, bottom-is, bottom-few o, o .puts-few, o .steps-few)) in
+        subst (λ (r : ℕ). Steps (landedOf g (viewIn g s i) r (s .second j) (record { 0 = r }))) (sym e) lands
 
-    room : s .first j - s .second j < g .rows
-    room =
-        let e = put-row o window (f .tail) (le-refl _) (k .sees) j index in
-        omega (arith, free, second-low)
-      where
-        second-low : higher (s .second j) (f .base (f .head)) ≤ s .second j
-        second-low = omega (arith, second-high o (plain o) j index)
+    room : levelOf g (s .first j) (window .bottom) < levelOf g (s .second j) (takeWindow (viewIn g s i) .bottom) + g .rows
+    room = omega (arith, free, level-is, free-level kind o i j index)
 
-  pub put-commit : Steps (queueCommit g (viewIn g s i) Putting last)
-  unfolding queueCommit commitBy
+  pub put-commit : Steps (queueCommit g (viewIn g s i) Putting window last)
+  unfolding queueCommit queuePutCommit commitBy
   put-commit =
       cases Steps (eqb (s .first j) last) _ _
       (λ a. let same = eqb-true (s .first j) last a in
-      rw (sub32-is (s .first j) (s .second j) (o .subs .held j) (omega (arith, put-few o j)))
-      (cases Steps (ltb (s .first j - s .second j) (g .rows)) _ _
+      let level : ℕ = levelOf g (s .first j) (window .bottom) in
+      let most : ℕ = levelOf g (s .second j) (takeWindow (viewIn g s i) .bottom) + g .rows in
+      cases Steps (ltb level most) _ _
       (λ b. next-lands same)
-      (λ b. absurd (omega (arith, room same, ltb-false (s .first j - s .second j) (g .rows) b)))))
+      (λ b. absurd (omega (arith, room same, ltb-false level most b))))
       (λ a. rw (lost-restarts g s i Putting) (walk g kind s q inv i (QueueCommit Putting window last) now (hopOf g j) (Window Putting) tt _ tt (putting (s .slot i .value)) refl refl))

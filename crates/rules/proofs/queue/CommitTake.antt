@@ -16,15 +16,15 @@ use borrow.Author.Tests.{ltb-false, eqb-true, eqb-false, le-ltb}
 use Rattle.laws.specs.Choice.{cases}
 use Rattle.laws.specs.Wrap.{add32}
 use Rattle.rules.specs.Limits.{stepLimit}
-use Rattle.rules.specs.Windows.{sizeOf, higher}
+use Rattle.rules.specs.Windows.{higher, levelOf}
 use Rattle.rules.specs.Held.{Item, countItems, passedOver}
 use Rattle.rules.specs.Worker.{fresh}
 use Rattle.rules.specs.Effects.{hopOf}
-use Rattle.rules.specs.Commit.{queueCommit, commitBy, removedOf, rowAbove}
-use Rattle.rules.specs.Measures.{ofSize}
+use Rattle.rules.specs.Commit.{queueTakeCommit, queueCommit, commitBy, removedOf, rowAbove}
+use Rattle.rules.specs.Measures.{ofSize, seenSize}
 use Rattle.rules.specs.Sequential.{taking, Contents, passedBy, reportedBy, boundBy}
 use Rattle.rules.specs.Newer.{exactRows}
-use Rattle.rules.proofs.Types.{Settings, Taking, Idle, Window, QueueCommit, Span, Effect}
+use Rattle.rules.proofs.Types.{Settings, Size, Taking, Idle, Window, QueueCommit, Span, Effect}
 use Rattle.rules.proofs.counts.Sums.{sumN, upd, upd-same, upd-other, upd-self, upTo, sum-within-but, rows-more, rows-flat, times-pred}
 use Rattle.rules.proofs.counts.Wraps.{add32-suc}
 use Rattle.rules.proofs.counts.Held.{Holds, real, rowsOf, blank-row, fails-row, holds-low, holds-ext}
@@ -32,15 +32,15 @@ use Rattle.rules.proofs.counts.Find.{RowFound, find-row}
 use Rattle.rules.proofs.Cells.{queue-below}
 use Rattle.rules.proofs.figures.Figures.{bound-queue}
 use Rattle.rules.proofs.order.Gives.{takenOff, gives-taken, final-taken}
-use Rattle.rules.proofs.machine.Machine.{Frame, State, markOf, answered, subIn, viewIn, phaseIn, belowIn, takenIn, distanceIn, applyIn, applyInBy, lost-restarts}
+use Rattle.rules.proofs.machine.Machine.{Frame, State, markOf, answered, subIn, viewIn, phaseIn, belowIn, takenIn, distanceIn, applyIn, applyInBy, lost-restarts, sizeAt}
 use Rattle.rules.proofs.machine.Turns.{distance-held}
 use Rattle.rules.proofs.queue.Inv.{Windows, Subs, Place, Items, Pool, TakeCommits, Knows, Inv, Grown, base-le, earlier, put-few}
 use Rattle.rules.proofs.queue.Moves.{Stepped, walk, end}
-use Rattle.rules.proofs.queue.View.{plain, take-row}
+use Rattle.rules.proofs.queue.View.{take-level, seen-size}
 
 -- the state after a take by worker i from a row
-abbrev removedIn : State → ℕ → ℕ → State
-removedIn s i row =
+abbrev removedIn : Settings → State → ℕ → ℕ → State
+removedIn g s i row =
     record {
       steps = suc (s .steps);
       puts = s .puts;
@@ -52,12 +52,12 @@ removedIn s i row =
       first = s .first;
       second = upd (s .second) (subIn s i) row;
       item = s .item;
-      slot = upd (s .slot) i (fresh 0 (subIn s i) Idle);
+      slot = upd (s .slot) i (fresh g 0 (subIn s i) Idle);
     }
 
 apply-removed : (g : Settings) (s : State) (i row : ℕ)
-    → applyIn g s i (removedOf (viewIn g s i) (s .first (subIn s i)) row (record { 0 = row }))
-    ≡ answered g s (takenIn g s (subIn s i) row) (removedIn s i row)
+    → applyIn g s i (removedOf g (viewIn g s i) (s .first (subIn s i)) row (record { 0 = row }))
+    ≡ answered g s i (takenIn g s (subIn s i) row) (removedIn g s i row)
 unfolding applyIn applyInBy
 apply-removed g s i row = rw (upd-self (s .first) (subIn s i)) refl
 
@@ -129,6 +129,12 @@ module _ (g : Settings) (kind : g .kind ≡ 0) (s : State) (q : Contents) (inv :
 
     inside : j < f .wide (f .head)
     inside = omega (arith, wide-is, k .index-lt)
+
+    -- so what the answer is held to is its size
+    pub head-size : seenSize g (s .slot i) ≡ sizeAt f (f .head)
+    head-size =
+        let deep : window .top - window .bottom ≡ f .base (suc (f .head)) - f .base (f .head) = rw (top-is, bottom-is) refl in
+        seen-size kind o i window last now (k .sees) ∙ (λ u. record { width = wide-is u; depth = deep u })
 
     pub index : j < g .width
     index = omega (arith, inside, w .wide-le (f .head) (w .order))
@@ -282,19 +288,15 @@ module _ (g : Settings) (kind : g .kind ≡ 0) (s : State) (q : Contents) (inv :
               (window .top - window .bottom) j (omega (arith, wide-is, w .wide-le (f .head) (w .order))) (k .index-lt) (λ m l. within m) none-outside none-own,
         )
 
-    -- of the pool's size, which the window has
-    size-is : (window .width - 1) * (window .top - window .bottom) ≡ (g .width - 1) * g .depth
-    size-is =
-        let p = plain o in
-        let wide : window .width ≡ g .width = wide-is ∙ p .wide-is (f .head) (w .order) in
-        let deep : window .top - window .bottom ≡ g .depth =
-        omega (arith, top-is, bottom-is, p .base-is (f .head) (omega (arith, w .order)), p .base-is (suc (f .head)) (omega (arith, w .order))) in
-        rw (wide, deep) refl
+    -- by the size of the window seen
+    abbrev size : Size
+    size = seenSize g (s .slot i)
 
-    most : passedBy g q (it .stamp) ≤ boundBy g (exactRows g) (sizeOf g)
+    most : passedBy g q (it .stamp) ≤ boundBy g (exactRows g) size
     most =
-        rw (bound-queue g (exactRows g) (sizeOf g) kind)
-        (subst (λ (n : ℕ). passedBy g q (it .stamp) ≤ n) size-is
+        let is = seen-size kind o i window last now (k .sees) in
+        rw (bound-queue g (exactRows g) size kind)
+        (subst (λ (z : Size). passedBy g q (it .stamp) ≤ (z .width - 1) * z .depth) (sym is)
         (subst (λ (p : Item → Bool). countItems p (q .items) ≤ (window .width - 1) * (window .top - window .bottom)) (sym passed-older) bounded))
       where
         passed-older : passedOver (g .kind) (it .stamp) ≡ older (it .stamp)
@@ -310,7 +312,7 @@ module _ (g : Settings) (kind : g .kind ≡ 0) (s : State) (q : Contents) (inv :
 
     -- ---- what is left
     abbrev t : State
-    t = removedIn s i row
+    t = removedIn g s i row
 
     taken-here : t .second j ≡ row
     taken-here = upd-same (s .second) j row
@@ -344,7 +346,9 @@ module _ (g : Settings) (kind : g .kind ≡ 0) (s : State) (q : Contents) (inv :
           items = x;
           size = o .size;
           plain = o .plain;
+          set-most = o .set-most;
           old = o .old;
+          live = o .live;
           first-few = o .first-few;
           puts-few = omega (arith, o .puts-few);
           steps-few = some-left;
@@ -369,27 +373,28 @@ module _ (g : Settings) (kind : g .kind ≡ 0) (s : State) (q : Contents) (inv :
           taken = taken-grown;
         }
 
-    -- no row is passed over where all windows have the pool's size
-    row-is : row ≡ suc (s .second j)
-    row-is = ap suc (take-row o window (k .sees) j index)
+    pub level-is : levelOf g (s .second j) (window .bottom) ≡ higher (s .second j) (window .bottom)
+    level-is = take-level kind o window (k .sees) j index
 
-    takes : Steps (removedOf (viewIn g s i) (s .first j) row (record { 0 = row }))
+    takes : Steps (removedOf g (viewIn g s i) (s .first j) row (record { 0 = row }))
     takes =
         rw (apply-removed g s i row)
-        (end g kind s q inv i (QueueCommit Taking window last) now j t refl grown _ (ofSize (sizeOf g)) taking (takenOff q (found .out)) refl (final-taken _ _ _ _ _)
-        (gives-taken g q (ofSize (sizeOf g)) it j (record { 0 = row }) (distanceIn g s (it .stamp)) found distance most) pool (λ e. absurd (omega arith)))
+        (end g kind s q inv i (QueueCommit Taking window last) now j t refl grown _ (ofSize size) taking (takenOff q (found .out)) refl (final-taken _ _ _ _ _)
+        (gives-taken g q (ofSize size) it j (record { 0 = row }) (distanceIn g s (it .stamp)) found distance most) pool (λ e. absurd (omega arith)))
 
-    next-takes : Steps (removedOf (viewIn g s i) (s .first j) (add32 (s .second j) 1) (rowAbove (s .second j)))
+    next-takes : Steps (removedOf g (viewIn g s i) (s .first j) (add32 (levelOf g (s .second j) (window .bottom)) 1) (rowAbove (levelOf g (s .second j) (window .bottom))))
     next-takes =
-        let e : add32 (s .second j) 1 ≡ row = add32-suc (s .second j) (omega (arith, o .subs .held j, put-few o j)) ∙ sym row-is in
-        subst (λ (r : ℕ). Steps (removedOf (viewIn g s i) (s .first j) r (record { 0 = r }))) (sym e) takes
+        let e : add32 (levelOf g (s .second j) (window .bottom)) 1 ≡ row =
+        ap (λ (n : ℕ). add32 n 1) level-is ∙ add32-suc (higher (s .second j) (window .bottom)) (omega (arith, there, put-few o j)) in
+        subst (λ (r : ℕ). Steps (removedOf g (viewIn g s i) (s .first j) r (record { 0 = r }))) (sym e) takes
 
-  pub take-commit : Steps (queueCommit g (viewIn g s i) Taking last)
-  unfolding queueCommit commitBy
+  pub take-commit : Steps (queueCommit g (viewIn g s i) Taking window last)
+  unfolding queueCommit queueTakeCommit commitBy
   take-commit =
       cases Steps (eqb (s .second j) last) _ _
       (λ a. let same = eqb-true (s .second j) last a in
-      cases Steps (ltb (s .second j) (s .first j)) _ _
+      let level : ℕ = levelOf g (s .second j) (window .bottom) in
+      cases Steps (ltb level (s .first j)) _ _
       (λ b. next-takes same)
-      (λ b. absurd (omega (arith, there same, row-is same, ltb-false (s .second j) (s .first j) b))))
+      (λ b. absurd (omega (arith, there same, level-is same, ltb-false level (s .first j) b))))
       (λ a. rw (lost-restarts g s i Taking) (walk g kind s q inv i (QueueCommit Taking window last) now (hopOf g j) (Window Taking) tt _ tt taking refl refl))

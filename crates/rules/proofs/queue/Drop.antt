@@ -84,4 +84,5 @@ module _ (g : Settings) (s : State) (q : Contents) (o : Pool g s q)
         items = items;
         plain = λ e. let p = o .plain e in
             record { base-is = p .base-is; wide-is = p .wide-is; next-wide = p .next-wide; next-deep = p .next-deep; total = p .total };
+        live = λ e. omega (arith, o .live e);
       }

@@ -9,24 +9,14 @@ use native.Mathlib.Omega.{arith}
 use lib.Dec.{ltb}
 use lib.ListN.{length}
 use borrow.Author.Tests.{lt-ltb, le-ltb}
+use Rattle.rules.specs.Limits.{windowed}
 use Rattle.rules.specs.Sequential.{Contents}
 use Rattle.rules.proofs.Types.{Settings}
 use Rattle.rules.proofs.counts.Sums.{sumN, sum-ext, sum-none, sum-more, sum-zero, sum-same, upTo, rows-more, rows-all, rows-flat}
 use Rattle.rules.proofs.counts.Wraps.{multiple-le}
-use Rattle.rules.proofs.counts.Held.{real, rowsOf, blank-row, held-least}
-use Rattle.rules.proofs.machine.Machine.{Frame, State, topOf, markOf}
-use Rattle.rules.proofs.queue.Inv.{Windows, Plain, Old, Pool, base-le}
-
--- ---- the places of window k, and how many are in the n windows from k on
-abbrev pub placesAt : Frame → ℕ → ℕ
-placesAt f k = f .wide k * (f .base (suc k) - f .base k)
-
-unfoldable pub placesFrom : Frame → ℕ → ℕ → ℕ
-placesFrom f k n = sumN (λ m. placesAt f (k + m)) n
-
--- the places in the windows after the take window
-abbrev pub placesAfter : Frame → ℕ
-placesAfter f = placesFrom f (suc (f .head)) (f .tail - f .head)
+use Rattle.rules.proofs.counts.Held.{real, rowsOf, real-row, blank-row, held-least}
+use Rattle.rules.proofs.machine.Machine.{Frame, State, topOf, markOf, placesAt, placesFrom, placesAfter}
+use Rattle.rules.proofs.queue.Inv.{Windows, Subs, Items, Plain, Old, Pool, base-le}
 
 -- ---- sums
 -- d for a sub that is within m, else 0
@@ -164,9 +154,9 @@ times-less a b d l =
     let e : (a + (b - a)) * d ≡ b * d = ap (λ (n : ℕ). n * d) (add-sub-of-le l) in
     omega arith
 
-module _ {g : Settings} {s : State} {q : Contents} (o : Pool g s q) where
+module _ {g : Settings} {s : State} {q : Contents} (o : Pool g s q) (before : windowed g ≡ false) where
   z : Old g (s .set)
-  z = o .old
+  z = o .old before
 
   abbrev fr : Frame
   fr = s .frame

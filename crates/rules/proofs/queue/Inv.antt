@@ -6,12 +6,14 @@
 -- the end; a worker knows what its pass has seen, in a form that growing rows keep.
 use mathlib.Core.Path.{_≡_, refl}
 use mathlib.Core.Logic.{_≢_, _⊎_, inl, inr}
+use mathlib.Core.Bool.{true, false}
 use Prim.Native.Nat.{ℕ, zero, suc, _+_, _-_, _*_, _≤_, _<_}
 use native.Mathlib.Nat.{le-refl, le-trans}
 use native.Mathlib.Decide.{decLt}
 use native.Mathlib.Omega.{arith}
-use Rattle.rules.specs.Limits.{deepest, stepLimit}
+use Rattle.rules.specs.Limits.{deepest, stepLimit, windowed, mostLive}
 use Rattle.rules.specs.Windows.{higher}
+use Rattle.rules.specs.Fit.{SizeFits}
 use Rattle.rules.specs.Held.{Item}
 use Rattle.rules.specs.Sequential.{Contents}
 use Rattle.rules.proofs.Types.{Settings, Putting, Taking, Phase, Idle, Window, QueuePutRead, QueueTakeRead, StackRead, Check, QueueCommit, StackCommit, QueueShift, StackShift, QueueConfirm, StackConfirm, Size, Span}
@@ -69,14 +71,6 @@ pub record Items (f : Frame) (first : ℕ → ℕ) (item : ℕ → ℕ → Item)
   pub order : (c j m r r′ : ℕ) → c ≤ f .tail → r ≤ f .base c → f .base c < r′ → 1 ≤ item j r .stamp → 1 ≤ item m r′ .stamp
       → item j r .stamp < item m r′ .stamp
 
--- a size within limits
-pub record SizeFits (g : Settings) (size : Size) : Type 0 where
-  pub wide1 : 1 ≤ size .width
-  pub wide-le : size .width ≤ g .width
-  pub deep1 : 1 ≤ size .depth
-  pub deep64 : size .depth ≤ deepest
-  pub half : 2 * size .depth ≤ g .rows
-
 -- where no size was ever set, all windows have the pool's sizes, and no row is without an item
 pub record Plain (g : Settings) (f : Frame) (next : Size) (first : ℕ → ℕ) (puts : ℕ) : Type 0 where
   pub base-is : (k : ℕ) → k ≤ suc (f .tail) → f .base k ≡ k * g .depth
@@ -100,7 +94,10 @@ pub record Pool (g : Settings) (s : State) (q : Contents) : Type 0 where
   pub items : Items (s .frame) (s .first) (s .item) (s .puts)
   pub size : SizeFits g (s .next)
   pub plain : s .set ≡ 0 → Plain g (s .frame) (s .next) (s .first) (s .puts)
-  pub old : Old g (s .set)
+  pub set-most : s .set ≤ 1
+  pub old : windowed g ≡ false → Old g (s .set)
+  -- the words have so many pairs
+  pub live : windowed g ≡ true → s .frame .tail < s .frame .head + mostLive
   -- sub 0 is in every window, so it has no row without an item, and each put costs a step
   pub first-few : s .first 0 ≤ s .puts
   pub puts-few : s .puts ≤ s .steps

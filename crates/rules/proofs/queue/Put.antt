@@ -3,33 +3,38 @@
 -- A pass starts at the put window, with no sub read. A sub that it misses has reached the window's top, and stays there; so a put that comes to its shift
 -- has seen every sub of the window's width at its top, and the next window may be added. Where it may not, because the rows are used up, every
 -- place after the take window holds an item.
-use mathlib.Core.Path.{_≡_, refl, subst, _∙_}
+use mathlib.Core.Path.{_≡_, refl, ap, _∙_, subst, sym}
+use mathlib.Core.Bool.{true, Bool, false}
 use mathlib.Core.Logic.{_⊎_, inl, inr}
 use Prim.Native.Nat.{ℕ, suc, _+_, _-_, _%_, _≤_, _<_}
 use native.Mathlib.Nat.{le-refl, mod-lt}
 use native.Mathlib.Omega.{arith}
 use lib.Dec.{ltb, leb, eqb}
 use lib.ListN.{length}
-use borrow.Author.Tests.{ltb-true, ltb-false, leb-true, leb-false, eqb-true, eqb-false}
-use Rattle.laws.specs.Choice.{cases}
-use Rattle.rules.specs.Limits.{Bounds}
+use borrow.Author.Tests.{ltb-true, ltb-false, leb-true, eqb-true, eqb-false, leb-false}
+use Rattle.rules.proofs.machine.Slots.{windowed-none}
+use Rattle.laws.specs.Choice.{cond, cases, both, both-true, both-one}
+use Rattle.laws.specs.Wrap.{add32, sub32}
+use Rattle.rules.specs.Limits.{Bounds, windowed, mostLive}
 use Rattle.rules.specs.Worker.{zeroSlot}
-use Rattle.rules.specs.Effects.{nextOf, putWindow}
+use Rattle.rules.specs.Effects.{nextOf, putWindow, queueView}
 use Rattle.rules.specs.Window.{windowRule}
 use Rattle.rules.specs.Read.{queuePutRead, missOf}
-use Rattle.rules.specs.Shift.{queueShift, shiftBy, shiftedOf}
+use Rattle.rules.specs.Shift.{queueShift, shiftBy, shiftedOf, mayRise}
 use Rattle.rules.specs.Sequential.{Operation, putting, Contents}
 use Rattle.rules.proofs.Types.{Settings, Putting, Window, QueuePutRead, QueueCommit, QueueShift, Span, Effect}
 use Rattle.rules.specs.declared.Outcome.the-variants.{Raised}
 use Rattle.rules.proofs.counts.Visits.{Visited, visited-none, visited-all, visited-next}
 use Rattle.rules.proofs.counts.Wraps.{add32-is, add32-suc, sub32-is, next-lt}
-use Rattle.rules.proofs.machine.Machine.{Frame, State, topOf, placesIn, subIn, viewIn, phaseIn, applyIn}
+use Rattle.rules.proofs.machine.Machine.{Frame, State, topOf, sizesIn, placesIn, subIn, viewIn, phaseIn, applyIn}
+use Rattle.rules.proofs.figures.Figures.{full-queue}
+use Rattle.rules.proofs.machine.Turns.{FullAt}
 use Rattle.rules.proofs.machine.Phases.{OfQueue}
-use Rattle.rules.proofs.queue.Inv.{Windows, PutReads, PutShifts, Knows, Inv, same-top, base-le, top-few}
-use Rattle.rules.proofs.queue.Moves.{AllPlaces, Stepped, walk, raise-window, end-full}
-use Rattle.rules.proofs.queue.View.{of-now, plain, put-window-is, take-bottom, places-same}
+use Rattle.rules.proofs.queue.Inv.{Windows, Pool, Sees, PutReads, PutShifts, Knows, Inv, same-top, base-le, top-few}
+use Rattle.rules.proofs.queue.Moves.{Stepped, walk, raise-window, end-full}
+use Rattle.rules.proofs.queue.View.{of-now, window-told, next-depth, live-is, put-window-is, take-bottom, places-same}
 use Rattle.rules.proofs.queue.Raise.{raise}
-use Rattle.rules.proofs.queue.Full.{places-held, places-old}
+use Rattle.rules.proofs.queue.Full.{places-held, places-old, place-held}
 
 module _ (g : Settings) (bounds : Bounds g) (kind : g .kind ≡ 0) (s : State) (q : Contents) (inv : Inv g s q) (i : ℕ) where
   abbrev Steps : Effect → Type 0
@@ -51,10 +56,11 @@ module _ (g : Settings) (bounds : Bounds g) (kind : g .kind ≡ 0) (s : State) (
   pub put-window : phaseIn g s i ≡ Window Putting → Steps (windowRule g (viewIn g s i) Putting)
   unfolding windowRule
   put-window now =
-      let k = put-window-is (inv .pool) i in
-      let wide : 1 ≤ g .width = bounds .width1 in
+      let k = put-window-is kind (inv .pool) i in
+      let window : Span = putWindow (viewIn g s i) in
+      let wide : 1 ≤ window .width = omega (arith, k .wide, w .wide1 (k .at) (k .at-le)) in
       cases Steps (eqb (g .kind) 0) _ _
-      (λ e. walk g kind s q inv i (Window Putting) now (j % g .width) (QueuePutRead (putWindow (viewIn g s i)) 0) refl zeroSlot
+      (λ e. walk g kind s q inv i (Window Putting) now (j % window .width) (QueuePutRead window 0) (window-told g kind s i Putting) zeroSlot
       (record { sees = k; index-lt = mod-lt j wide; scan-lt = wide; missed = λ m l v. absurd (visited-none l v) }) operation refl refl)
       (λ e. absurd (eqb-false _ _ e kind))
 
@@ -81,7 +87,7 @@ module _ (g : Settings) (bounds : Bounds g) (kind : g .kind ≡ 0) (s : State) (
     of : OfQueue g (QueuePutRead window scan)
     of = of-now g kind s i (QueuePutRead window scan) now
 
-    pub put-read : Steps (queuePutRead (viewIn g s i) window scan)
+    pub put-read : Steps (queuePutRead g (viewIn g s i) window scan)
     unfolding queuePutRead missOf
     put-read =
         cases Steps (ltb (s .first j) (window .top)) _ _
@@ -112,19 +118,35 @@ module _ (g : Settings) (bounds : Bounds g) (kind : g .kind ≡ 0) (s : State) (
         omega (arith, at-shift .reached m (omega arith))
 
     -- where the rows allow it the next window is added
-    up : topOf f ≡ window .top → s .top + g .depth - f .base (f .head) ≤ g .rows
-        → Steps (shiftedOf (viewIn g s i) Raised Putting (s .top + g .depth) (s .mark))
-    up same fits =
-        raise-window g kind s q inv i (QueueShift Putting window) now (s .top + g .depth) refl
-        (raise g s q (inv .pool) (s .top + g .depth) (omega (arith, inv .pool .top, plain (inv .pool) .next-deep)) (omega arith) (reached same))
+    up : topOf f ≡ window .top → s .top + s .next .depth - f .base (f .head) ≤ g .rows → (windowed g ≡ true → suc (f .tail) - f .head < mostLive)
+        → Steps (shiftedOf g (viewIn g s i) Raised Putting (s .top + s .next .depth) (s .mark))
+    up same fits few =
+        raise-window g kind s q inv i (QueueShift Putting window) now (s .top + s .next .depth) refl
+        (raise g s q (inv .pool) (s .top + s .next .depth) (omega (arith, inv .pool .top)) (omega arith) (reached same) few)
+
+    -- the words have a pair for it
+    pair-for : mayRise g (queueView (viewIn g s i)) ≡ true → windowed g ≡ true → suc (f .tail) - f .head < mostLive
+    unfolding cond
+    pair-for m e =
+        let l : sizesIn g s .live < mostLive = ltb-true (sizesIn g s .live) mostLive (rw e at m) in
+        omega (arith, live-is kind (inv .pool) e)
 
     -- else each place after the take window holds an item
     least : topOf f ≡ window .top → placesIn g s ≤ length (q .items)
-    least same = rw (places-same (inv .pool)) (places-held (inv .pool) (reached same))
+    least same = rw (places-same kind (inv .pool)) (places-held (inv .pool) (reached same))
 
-    -- and the live windows take up all rows
-    all : g .rows < s .top + g .depth - f .base (f .head) → AllPlaces g s
-    all full = places-same (inv .pool) ∙ places-old (inv .pool) (omega (arith, inv .pool .top, plain (inv .pool) .next-deep))
+    -- and where windows have no sizes of their own the live ones take up all rows
+    all : topOf f ≡ window .top → (windowed g ≡ false → g .rows < s .top + s .next .depth - f .base (f .head)) → FullAt g s
+    all same full =
+        record {
+          held = λ has k j r a h. let p = place-held (inv .pool) (reached same) k j r a (h .to-tail) (h .wide) (h .above) (h .up-to) in (p .0, p .1);
+          own = λ none. let old = windowed-none g kind none in full-queue g (placesIn g s) (places-same kind (inv .pool) ∙ places-old (inv .pool) old (omega (arith, inv .pool .top, full old)));
+        }
+
+    -- where editions 0 and 1 answer it, the rows are used up
+    used-up : (rows : Bool) → both rows (mayRise g (queueView (viewIn g s i))) ≡ false → windowed g ≡ false → rows ≡ false
+    unfolding cond
+    used-up rows e old = sym (both-one rows) ∙ (rw old at e)
 
     pub put-shift : Steps (queueShift g (viewIn g s i) Putting window)
     unfolding queueShift shiftBy
@@ -132,12 +154,16 @@ module _ (g : Settings) (bounds : Bounds g) (kind : g .kind ≡ 0) (s : State) (
         let few = top-few (inv .pool) in
         let top = inv .pool .top in
         let low : f .base (f .head) ≤ topOf f = base-le w (f .head) (suc (f .tail)) (omega (arith, w .order)) (le-refl _) in
+        let deep = inv .pool .size .depth64 in
+        let new : add32 (s .top) (sizesIn g s .next .depth) ≡ s .top + s .next .depth =
+        ap (add32 (s .top)) (next-depth kind (inv .pool)) ∙ add32-is (s .top) (s .next .depth) (omega arith) in
         cases Steps (eqb (s .top) (window .top)) _ _
         (λ a. let same : topOf f ≡ window .top = omega (arith, top, eqb-true (s .top) (window .top) a) in
-        rw (add32-is (s .top) (g .depth) (omega (arith, bounds .depth64)))
-        (rw (take-bottom (inv .pool) i)
-        (rw (sub32-is (s .top + g .depth) (f .base (f .head)) (omega arith) (omega (arith, bounds .depth64)))
-        (cases Steps (leb (s .top + g .depth - f .base (f .head)) (g .rows)) _ _
-        (λ b. up same (leb-true _ _ b))
-        (λ b. end-full g kind s q inv i (QueueShift Putting window) now j refl (least same) (all (leb-false _ _ b)))))))
+        rw new
+        (rw (take-bottom kind (inv .pool) i)
+        (rw (sub32-is (s .top + s .next .depth) (f .base (f .head)) (omega arith) (omega arith))
+        (cases Steps (both (leb (s .top + s .next .depth - f .base (f .head)) (g .rows)) (mayRise g (queueView (viewIn g s i)))) _ _
+        (λ b. let t = both-true (leb (s .top + s .next .depth - f .base (f .head)) (g .rows)) (mayRise g (queueView (viewIn g s i))) b in up same (leb-true _ _ (t .0)) (pair-for (t .1)))
+        (λ b. end-full g kind s q inv i (QueueShift Putting window) now j refl (least same)
+        (all same (λ old. leb-false _ _ (used-up (leb (s .top + s .next .depth - f .base (f .head)) (g .rows)) b old))))))))
         (λ a. walk g kind s q inv i (QueueShift Putting window) now j (Window Putting) tt _ tt operation refl refl)

@@ -1,10 +1,13 @@
 -- A new put window: a window of the next size is added at the end, and nothing else changes. It may be added because every sub in
 -- the put window's width has reached its top; it holds nothing yet, for no last put row is above the put window's top.
-use mathlib.Core.Path.{_≡_, sym, _∙_}
-use Prim.Native.Nat.{ℕ, suc, _+_, _*_, _≤_, _<_}
-use native.Mathlib.Nat.{le-refl}
+use mathlib.Core.Path.{_≡_, refl, sym, _∙_}
+use mathlib.Core.Logic.{_≢_}
+use mathlib.Core.Bool.{true}
+use Prim.Native.Nat.{ℕ, suc, _+_, _-_, _*_, _≤_, _<_}
+use native.Mathlib.Nat.{le-refl, le-trans}
 use native.Mathlib.Decide.{ℕ-discrete}
 use native.Mathlib.Omega.{arith}
+use Rattle.rules.specs.Limits.{windowed, mostLive}
 use Rattle.rules.specs.Sequential.{Contents}
 use Rattle.rules.proofs.Types.{Settings}
 use Rattle.rules.proofs.counts.Sums.{upd-same, upd-other}
@@ -47,17 +50,17 @@ module _ (g : Settings) (s : State) (q : Contents) (o : Pool g s q) (top : ℕ) 
         ground = omega (arith, base-old 0 (omega arith), w .ground);
         rise = λ k m l u. elim (ℕ-discrete m (suc (suc (f .tail)))) [
           | yes e ↦ let l′ : k < suc (suc (f .tail)) = rw e at l in
-              rw e (omega (arith, base-new, top-is, base-old k (omega arith), up k (omega arith), z .deep1))
+              rw e (omega (arith, base-new, top-is, base-old k (omega arith), up k (omega arith), z .depth1))
           | no n ↦ omega (arith, base-old k (omega arith), base-old m (omega arith), w .rise k m l (omega arith))
         ];
         deep = each (λ k. f′ .base (suc k) ≤ f′ .base k + 64)
             (λ k l. omega (arith, base-old k (omega arith), base-old (suc k) (omega arith), w .deep k l))
-            (omega (arith, end, base-new, top-is, z .deep64));
+            (omega (arith, end, base-new, top-is, z .depth64));
         half = each (λ k. 2 * f′ .base (suc k) ≤ 2 * f′ .base k + g .rows)
             (λ k l. omega (arith, base-old k (omega arith), base-old (suc k) (omega arith), w .half k l))
-            (omega (arith, end, base-new, top-is, z .half));
-        wide1 = each (λ k. 1 ≤ f′ .wide k) (λ k l. omega (arith, wide-old k l, w .wide1 k l)) (omega (arith, wide-new, z .wide1));
-        wide-le = each (λ k. f′ .wide k ≤ g .width) (λ k l. omega (arith, wide-old k l, w .wide-le k l)) (omega (arith, wide-new, z .wide-le));
+            (omega (arith, end, base-new, top-is, z .depth-half));
+        wide1 = each (λ k. 1 ≤ f′ .wide k) (λ k l. omega (arith, wide-old k l, w .wide1 k l)) (omega (arith, wide-new, z .width1));
+        wide-le = each (λ k. f′ .wide k ≤ g .width) (λ k l. omega (arith, wide-old k l, w .wide-le k l)) (omega (arith, wide-new, z .width-most));
         room = omega (arith, base-new, base-old (f .head) (omega (arith, w .order)));
       }
 
@@ -125,8 +128,9 @@ module _ (g : Settings) (s : State) (q : Contents) (o : Pool g s q) (top : ℕ) 
         total = p .total;
       }
 
-  pub raise : top ≤ f .base (f .head) + g .rows → ((j : ℕ) → j < f .wide (f .tail) → topOf f ≤ s .first j) → Upward g s top (s .mark) f′
-  raise fits reached =
+  pub raise : top ≤ f .base (f .head) + g .rows → ((j : ℕ) → j < f .wide (f .tail) → topOf f ≤ s .first j)
+      → (windowed g ≡ true → suc (f .tail) - f .head < mostLive) → Upward g s top (s .mark) f′
+  raise fits reached few =
       record {
         put-is = sym base-new;
         take-is = o .mark ∙ sym (base-old (suc (f .head)) (omega (arith, o .windows .order)));
@@ -139,4 +143,5 @@ module _ (g : Settings) (s : State) (q : Contents) (o : Pool g s q) (top : ℕ) 
         subs = subs reached;
         items = items;
         plain = λ e. plain (o .plain e);
+        live = λ e. omega (arith, few e);
       }

@@ -22,7 +22,7 @@ module _ {g : Settings} {s : State} {q : Contents} {i : ℕ} (a : Stepping g s q
   abbrev j : ℕ
   j = subIn s i
 
-  pub turn-check : (side : Side) (version seen : Version) → phaseIn g s i ≡ Check side version seen → On a (checkRule (viewIn g s i) side version seen)
+  pub turn-check : (side : Side) (version seen : Version) → phaseIn g s i ≡ Check side version seen → On a (checkRule g (viewIn g s i) side version seen)
   unfolding checkRule
   turn-check side version seen e =
       let k : Checking g (sight s) side (version .0) (seen .0) j = known a e in

@@ -8,10 +8,9 @@ use Rattle.laws.specs.Wrap.{add32, sub32}
 use Rattle.rules.specs.Held.{Item}
 use Rattle.rules.specs.Effects.{hopOf}
 use Rattle.rules.specs.Commit.{stackCommit, removedOf}
-use Rattle.rules.specs.Windows.{sizeOf}
-use Rattle.rules.specs.Measures.{ofSize}
+use Rattle.rules.specs.Measures.{ofSize, seenSize}
 use Rattle.rules.specs.Sequential.{Contents, boundBy, passedBy}
-use Rattle.rules.proofs.Types.{Settings, Taking, StackCommit, Version}
+use Rattle.rules.proofs.Types.{Settings, Size, Taking, StackCommit, Version}
 use Rattle.rules.proofs.counts.Sums.{upd, upd-same, upd-other, upd-all}
 use Rattle.rules.proofs.machine.Machine.{State, answered, subIn, viewIn, phaseIn, takenIn, distanceIn, applyIn, applyInBy, lost-restarts}
 use Rattle.rules.proofs.counts.Wraps.{add32-suc, sub32-is}
@@ -30,7 +29,7 @@ use Rattle.rules.proofs.stack.Distance.{distance-is, newer-few}
 -- a live take passes over few newer items
 pub take-newer : {g : Settings} {s : State} {q : Contents} → Good g → g .kind ≡ 1 → (inv : Inv g s q) (i : ℕ) → subIn s i < g .width → (seen : Version)
     → phaseIn g s i ≡ StackCommit Taking seen → seen .0 ≡ s .second (subIn s i)
-    → passedBy g q (s .item (subIn s i) (s .first (subIn s i)) .stamp) ≤ boundBy g (exactRows g) (sizeOf g)
+    → (size : Size) → passedBy g q (s .item (subIn s i) (s .first (subIn s i)) .stamp) ≤ boundBy g (exactRows g) size
 take-newer {g} {s} good kind inv i lj seen e live = newer-few g good kind (inv .pool) (subIn s i) lj (live-fits inv i Taking seen e live)
 
 module _ {g : Settings} {s : State} {q : Contents} {i : ℕ} (a : Stepping g s q i)
@@ -71,7 +70,7 @@ module _ {g : Settings} {s : State} {q : Contents} {i : ℕ} (a : Stepping g s q
       (single (a .inv .pool .stamps) j r j-lt there (le-refl _))
 
   abbrev t : State
-  t = committed s i Taking (s .puts) (s .item)
+  t = committed g s i Taking (s .puts) (s .item)
 
   row-is : suc (held′ j) ≡ r
   row-is = omega (arith, upd-same (s .first) j (r - 1), there)
@@ -87,7 +86,7 @@ module _ {g : Settings} {s : State} {q : Contents} {i : ℕ} (a : Stepping g s q
       }
 
   -- ---- the step
-  pub apply-removed : applyIn g s i (removedOf (viewIn g s i) (sub32 r 1) (add32 (s .second j) 1) (record { 0 = r })) ≡ answered g s (takenIn g s j r) t
+  pub apply-removed : applyIn g s i (removedOf g (viewIn g s i) (sub32 r 1) (add32 (s .second j) 1) (record { 0 = r })) ≡ answered g s i (takenIn g s j r) t
   unfolding applyIn applyInBy
   apply-removed =
       let o = a .inv .pool in
@@ -95,13 +94,14 @@ module _ {g : Settings} {s : State} {q : Contents} {i : ℕ} (a : Stepping g s q
       let version-is : add32 (s .second j) 1 ≡ suc (s .second j) = add32-suc (s .second j) (omega (arith, version-few o j j-lt)) in
       rw (held-is, version-is) refl
 
-  pub take-lands : On a (removedOf (viewIn g s i) (sub32 r 1) (add32 (s .second j) 1) (record { 0 = r }))
+  pub take-lands : On a (removedOf g (viewIn g s i) (sub32 r 1) (add32 (s .second j) 1) (record { 0 = r }))
   take-lands =
+      let size : Size = seenSize g (s .slot i) in
       rw apply-removed
       (commits a Taking seen e live (s .puts) (s .item) (takenOff q (found .out)) (omega arith) stamps pairs holding
-      (takenIn g s j r) (ofSize (sizeOf g)) (final-taken _ _ _ _ _)
-      (gives-taken g q (ofSize (sizeOf g)) it j (record { 0 = r }) (distanceIn g s (it .stamp)) found (distance-is g (a .kind) (a .inv .pool) (it .stamp))
-      (take-newer (a .good) (a .kind) (a .inv) i j-lt seen e live)))
+      (takenIn g s j r) (ofSize size) (final-taken _ _ _ _ _)
+      (gives-taken g q (ofSize size) it j (record { 0 = r }) (distanceIn g s (it .stamp)) found (distance-is g (a .kind) (a .inv .pool) (it .stamp))
+      (take-newer (a .good) (a .kind) (a .inv) i j-lt seen e live size)))
 
 pub take-commit : {g : Settings} {s : State} {q : Contents} {i : ℕ} (a : Stepping g s q i) (seen : Version) → phaseIn g s i ≡ StackCommit Taking seen
     → On a (stackCommit g (viewIn g s i) Taking seen)

@@ -13,10 +13,9 @@ use native.Mathlib.Omega.{arith}
 use borrow.Author.Tests.{le-ltb}
 use Rattle.laws.specs.Choice.{cond-false}
 use Rattle.rules.specs.Held.{Item, passedOver}
-use Rattle.rules.specs.Windows.{sizeOf}
 use Rattle.rules.specs.Sequential.{Contents, boundBy, passedBy, reportedBy}
 use Rattle.rules.specs.Newer.{exactRows}
-use Rattle.rules.proofs.Types.{Settings}
+use Rattle.rules.proofs.Types.{Settings, Size}
 use Rattle.rules.proofs.Cells.{stack-below}
 use Rattle.rules.proofs.counts.Sums.{sumN, upTo, upTo-none, rows-more, rows-flat, sum-zero, sum-within-but, times-pred}
 use Rattle.rules.proofs.counts.Wraps.{multiple-lt}
@@ -115,9 +114,10 @@ module _ (g : Settings) (good : Good g) (kind : g .kind ≡ 1) {s : State} {q : 
       at-most n a (inl y) = le-of-eq (ap (λ (m : ℕ). s .item j m .stamp) y)
       at-most n a (inr y) = omega (arith, o .stamps .rise j n r lj a y (le-refl _))
 
-  pub newer-few : passedBy g q (it .stamp) ≤ boundBy g (exactRows g) (sizeOf g)
-  newer-few =
-      rw (bound-stack g _ (sizeOf g) kind) (omega (
+  -- whatever the size that a take is held to: a stack's bound does not go by it
+  pub newer-few : (size : Size) → passedBy g q (it .stamp) ≤ boundBy g (exactRows g) size
+  newer-few size =
+      rw (bound-stack g _ size kind) (omega (
         arith,
         passed-is g kind o (it .stamp),
         times-pred (g .width) (exactRows g) (good .bounds .width1),

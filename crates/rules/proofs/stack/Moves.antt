@@ -32,12 +32,12 @@ pub record Stepping (g : Settings) (s : State) (q : Contents) (i : ℕ) : Type 0
 abbrev pub moves : State → ℕ → ℕ → Phase → Worker
 moves s i index p = worker (s .slot i .value) index p
 
-abbrev pub still : State → ℕ → Worker → Slot → State
-still s i k kept = turnedIn s i (s .top) (s .mark) (s .frame) (encode k kept)
+abbrev pub still : Settings → State → ℕ → Worker → Slot → State
+still g s i k kept = turnedIn s i (s .top) (s .mark) (s .frame) (encode g k kept)
 
 -- worker i is written with a phase of the stack, and no version has fallen
 pub written : (g : Settings) → g .kind ≡ 1 → (s : State) (i : ℕ) (k : Worker) (kept : Slot) (t : State) → OfStack (k .phase)
-    → t .slot ≡ upd (s .slot) i (encode k kept) → ((j : ℕ) → s .second j ≤ t .second j) → Written g versionsIn s i k t
+    → t .slot ≡ upd (s .slot) i (encode g k kept) → ((j : ℕ) → s .second j ≤ t .second j) → Written g versionsIn s i k t
 written g kind s i k kept t of slots up = record { kept = kept; slots = slots; phase = stack-phase g kind k of kept; grown = up }
 
 module _ {g : Settings} {s : State} {q : Contents} {i : ℕ} (a : Stepping g s q i) where
@@ -57,10 +57,10 @@ module _ {g : Settings} {s : State} {q : Contents} {i : ℕ} (a : Stepping g s q
   inv-after {t} w ghost pool same own =
       record { ghost = ghost; pool = pool; knows = each-after w (Knows g (sight t) ghost) own (λ j. same j (phaseIn g s j) (a .inv .knows j)) }
 
-  pub moved : (k : Worker) (kept : Slot) → OfStack (k .phase) → Written g versionsIn s i k (still s i k kept)
-  moved k kept of = written g (a .kind) s i k kept (still s i k kept) of refl (λ j. le-refl _)
+  pub moved : (k : Worker) (kept : Slot) → OfStack (k .phase) → Written g versionsIn s i k (still g s i k kept)
+  moved k kept of = written g (a .kind) s i k kept (still g s i k kept) of refl (λ j. le-refl _)
 
-  pub inv-still : (k : Worker) (kept : Slot) → OfStack (k .phase) → Knows g (sight s) (a .inv .ghost) (k .index) (k .phase) → Inv g (still s i k kept) q
+  pub inv-still : (k : Worker) (kept : Slot) → OfStack (k .phase) → Knows g (sight s) (a .inv .ghost) (k .index) (k .phase) → Inv g (still g s i k kept) q
   inv-still k kept of own =
       let o = a .inv .pool in
       inv-after (moved k kept of) (a .inv .ghost)
@@ -77,12 +77,12 @@ module _ {g : Settings} {s : State} {q : Contents} {i : ℕ} (a : Stepping g s q
   -- a step within an operation that is not tried yet
   pub walk : {p₀ : Phase} → phaseIn g s i ≡ p₀ → (side : Side) → statusOf (s .slot i .value) p₀ ≡ pending (operationOf side (s .slot i .value))
       → (index : ℕ) (p : Phase) (kept : Slot) → statusOf (s .slot i .value) p ≡ pending (operationOf side (s .slot i .value)) → OfStack p
-      → Knows g (sight s) (a .inv .ghost) index p → On (movedOf (viewIn g s i) index p kept)
+      → Knows g (sight s) (a .inv .ghost) index p → On (movedOf g (viewIn g s i) index p kept)
   walk e side u index p kept v of own =
       let k : Worker = moves s i index p in
       rw (apply-moved g s i index p kept) (by-walk (moved k kept of) e u v (inv-still k kept of own))
 
   -- a restart, from whatever index
   pub restart : {p₀ : Phase} → phaseIn g s i ≡ p₀ → (side : Side) → statusOf (s .slot i .value) p₀ ≡ pending (operationOf side (s .slot i .value))
-      → (index : ℕ) → On (restartOf (viewIn g s i) index side)
+      → (index : ℕ) → On (restartOf g (viewIn g s i) index side)
   restart e side u index = walk e side u index (Window side) (s .slot i) refl tt tt

@@ -17,10 +17,12 @@ use Rattle.rules.specs.Step.{ruleOf, ruleBy}
 use Rattle.rules.specs.Sequential.{Contents}
 use Rattle.rules.specs.Consequences.{NoWrap}
 use Rattle.rules.specs.Commit.{lostOf}
-use Rattle.rules.proofs.Types.{Settings, Side, Putting, Taking, Phase, Idle, Window, QueuePutRead, QueueTakeRead, StackRead, Check, QueueCommit, StackCommit, QueueShift, StackShift, QueueConfirm, StackConfirm, Version, Effect}
+use Rattle.rules.proofs.Types.{Settings, Side, Putting, Taking, Phase, Idle, Window, QueuePutRead, QueueTakeRead, StackRead, Check, QueueCommit, StackCommit, QueueShift, StackShift, QueueConfirm, StackConfirm, Span, Version, Effect}
 use Rattle.rules.proofs.machine.Machine.{State, subIn, viewIn, phaseIn, applyIn, applyInBy}
+use Rattle.rules.proofs.machine.Phases.{OfStack, WindowIn}
+use Rattle.rules.proofs.machine.Slots.{phase-from, has-queue}
 use Rattle.rules.proofs.machine.Good.{Good}
-use Rattle.rules.proofs.machine.Turns.{Common, Safe, Counts}
+use Rattle.rules.proofs.machine.Turns.{Common, fewRows, Safe, Counts}
 use Rattle.rules.proofs.stack.Inv.{sight, Knows, Inv, versions-few, version-few, window-ge, window-le, held-le}
 use Rattle.rules.proofs.stack.Pass.{sum-le-versions}
 use Rattle.rules.proofs.stack.Commit.{landsOf, commit-cases}
@@ -31,7 +33,7 @@ module _ {g : Settings} {s : State} {q : Contents} (good : Good g) (kind : g .ki
     abbrev F : Effect → Type 0
     F x = numberOf (applyIn g s i x .answer) ≢ notFit
 
-    able-lands : (side : Side) → F (landsOf (viewIn g s i) side)
+    able-lands : (side : Side) → F (landsOf g (viewIn g s i) side)
     unfolding applyIn applyInBy
     able-lands Putting = omega arith
     able-lands Taking = omega arith
@@ -124,12 +126,37 @@ module _ {g : Settings} {s : State} {q : Contents} (good : Good g) (kind : g .ki
       }
 
 -- ---- counts
+-- no phase of a stack has seen a queue's window
+no-window : (P : Span → Type 0) (p : Phase) → OfStack p → WindowIn P p
+no-window P Idle k = tt
+no-window P (Window side) k = tt
+no-window P (QueuePutRead window scan) k = absurd k
+no-window P (QueueTakeRead window bare scan sum) k = absurd k
+no-window P (StackRead side window version scan sum) k = tt
+no-window P (Check side version seen) k = tt
+no-window P (QueueCommit side window seen) k = absurd k
+no-window P (StackCommit side seen) k = tt
+no-window P (QueueShift side window) k = absurd k
+no-window P (StackShift side version scan sum) k = tt
+no-window P (QueueConfirm window scan sum) k = absurd k
+no-window P (StackConfirm side scan sum) k = tt
+
 pub stack-counts : {g : Settings} {s : State} {q : Contents} → Good g → g .kind ≡ 1 → Inv g s q → Counts g s
 stack-counts {g} {s} good kind inv =
     let o = inv .pool in
     record {
-      sub = λ j l. record { queue-order = λ z. absurd (omega arith); queue-rows = λ z. absurd (omega arith); stack-rows = λ z. held-le o j l };
+      sub = λ j l.
+          record {
+            queue-order = λ z. absurd (omega arith);
+            queue-rows = λ z. absurd (omega arith);
+            queue-level = λ z. absurd (omega arith);
+            stack-rows = λ z. held-le o j l;
+          };
       first-few = λ j l. omega (arith, held-le o j l, good .bounds .rows1024);
       second-few = λ j l. omega (arith, version-few o j l);
-      stamped = λ j r l a b. o .stamps .least j r l (omega arith) b;
+      bottom-few = λ i. no-window (λ window. window .bottom ≤ fewRows) (phaseIn g s i) (phase-from g (s .slot i) .0 .1 (λ z. omega arith));
+      stamped = λ old j r l a b. o .stamps .least j r l (omega arith) b;
+      windows = λ has. absurd (omega (arith, has-queue g has));
+      finds = λ has. absurd (omega (arith, has-queue g has));
+      clears = λ has. absurd (omega (arith, has-queue g has));
     }

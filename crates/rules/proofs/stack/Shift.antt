@@ -50,7 +50,7 @@ module _ {g : Settings} {s : State} {q : Contents} {i : ℕ} (a : Stepping g s q
       begins = moves s i j (Window side)
 
       abbrev t : State
-      t = turnedIn s i (windowAfter g side (s .top)) (suc (s .mark)) (s .frame) (encode begins (s .slot i))
+      t = turnedIn s i (windowAfter g side (s .top)) (suc (s .mark)) (s .frame) (encode g begins (s .slot i))
 
       abbrev ghost : Ghost
       ghost = record { lo = loAfter g side (s .top); era = s .second }
@@ -71,7 +71,7 @@ module _ {g : Settings} {s : State} {q : Contents} {i : ℕ} (a : Stepping g s q
             holding = record { held = o .holding .held; count = o .holding .count };
           }
 
-      shifts : On a (shiftedOf (viewIn g s i) Shifted side (windowAfter g side (s .top)) (suc (s .mark)))
+      shifts : On a (shiftedOf g (viewIn g s i) Shifted side (windowAfter g side (s .top)) (suc (s .mark)))
       shifts =
           rw (apply-shifted g s i side (windowAfter g side (s .top)) (suc (s .mark)))
           (by-walk w e refl refl
@@ -83,7 +83,7 @@ module _ {g : Settings} {s : State} {q : Contents} {i : ℕ} (a : Stepping g s q
     abbrev confirms : Worker
     confirms = moves s i j (StackConfirm side scan sum)
 
-    goes-to-confirm : Unable g side (s .top) → On a (movedOf (viewIn g s i) j (StackConfirm side scan sum) (s .slot i))
+    goes-to-confirm : Unable g side (s .top) → On a (movedOf g (viewIn g s i) j (StackConfirm side scan sum) (s .slot i))
     goes-to-confirm l =
         let pass : Pass (g .width) 0 (Stuck g side q) (s .second) (s .second) j scan sum =
         rw (k .scan-is) (pass-begins (a .kind) (a .inv .pool) side (version .0) j sum (a .common .slots i .index) (k .passed) now l) in
@@ -94,8 +94,8 @@ module _ {g : Settings} {s : State} {q : Contents} {i : ℕ} (a : Stepping g s q
   -- ---- the rule, the same on both sides but for the tests and the new window
   shift-by : (side : Side) (version : Version) (scan sum : ℕ) → phaseIn g s i ≡ StackShift side version scan sum
       → (same able : Bool) → (same ≡ true → version .0 ≡ s .mark) → (able ≡ true → Able g side (s .top)) → (able ≡ false → Unable g side (s .top))
-      → On a (shiftBy (viewIn g s i) side same able (shiftedOf (viewIn g s i) Shifted side (windowAfter g side (s .top)) (suc (s .mark)))
-      (movedOf (viewIn g s i) j (StackConfirm side scan sum) (s .slot i)))
+      → On a (shiftBy g (viewIn g s i) side same able (shiftedOf g (viewIn g s i) Shifted side (windowAfter g side (s .top)) (suc (s .mark)))
+      (movedOf g (viewIn g s i) j (StackConfirm side scan sum) (s .slot i)))
   unfolding shiftBy
   shift-by side version scan sum e same able now yes-able not-able =
       cases (On a) same _ _

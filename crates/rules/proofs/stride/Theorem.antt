@@ -13,21 +13,21 @@ use lib.Dec.{eqb}
 use borrow.Author.Tests.{lt-ltb, le-ltb}
 use Rattle.laws.specs.Choice.{cond, cond-under}
 use Rattle.rules.specs.Answers.{Out, notFit, out, numberOf}
-use Rattle.rules.specs.Layout.{headWords, widthAt, strideAt, editionAt, needed, settingsOf}
-use Rattle.rules.specs.Limits.{settingsFit}
+use Rattle.rules.specs.Layout.{headWords, widthAt, strideAt, editionAt, windowsAt, needed, settingsOf}
+use Rattle.rules.specs.Limits.{settingsFit, windowed}
 use Rattle.rules.specs.Fit.{Checked, Unfit, Fit, headChecked, checkedBy, checkedOf}
-use Rattle.rules.specs.Make.{zeroed, newHead, indexed, madeWords, makeOf}
+use Rattle.rules.specs.Make.{inEdition, zeroed, newHead, newWindows, indexed, madeWords, makeOf}
 use Rattle.rules.specs.Effects.{hopOf}
 use Rattle.rules.specs.Run.{Call, callOf, measuresAt, run}
 use Rattle.rules.specs.Consequences.{wordsAfter}
 use Rattle.rules.specs.Stride.{StrideOneOnWords, withStride, AsStrideZero, StrideOne, WidthTwo}
 use Rattle.rules.specs.declared.Answer.the-variants.{Moving}
-use Rattle.rules.proofs.Types.{Settings}
+use Rattle.rules.proofs.Types.{Settings, Answer}
 use Rattle.rules.proofs.Fitness.{settings-bounds, fit-pool}
 use Rattle.rules.proofs.words.Writes.{Still, still-low, still-high, set-kept}
 use Rattle.rules.proofs.words.Made.{accepted, made-says}
 use Rattle.rules.proofs.Alike.{measures-alike, settings-alike, inOther, body-same}
-use Rattle.rules.proofs.stride.Stores.{indexed-commutes, reads-alike}
+use Rattle.rules.proofs.stride.Stores.{windows-commute, indexed-commutes, reads-alike}
 use Rattle.rules.proofs.Checked.{checkedCall, call-is, unfit-call}
 use Rattle.rules.proofs.stride.Calls.{thenSet, call-commutes, kept}
 
@@ -44,16 +44,25 @@ hops-alike g z k = rw z refl
 
 -- a width of 0 is off limits itself
 limits-alike : (g : Settings) → g .stride ≡ 0 → g .width ≢ 1 → settingsFit (withStride g 1) ≡ settingsFit g
-unfolding settingsFit
+unfolding settingsFit windowed
 limits-alike g z n = elim (decLe 2 (g .width)) [
   | yes l ↦ rw (z, lt-ltb 1 (g .width) l, lt-ltb 0 (g .width) (omega arith)) refl
   | no l ↦ let none : g .width ≡ 0 = omega arith in rw none refl
 ]
 
-settings-set : (ws : List ℕ) (x : ℕ) → strideAt < length ws → settingsOf (set ws strideAt x) ≡ withStride (settingsOf ws) x
-settings-set ws x l =
+-- words so short that there is none have no other stride either
+settings-by : (ws : List ℕ) (x y : ℕ) → getD (set ws strideAt x) strideAt 0 ≡ y → settingsOf (set ws strideAt x) ≡ withStride (settingsOf ws) y
+settings-by ws x y is =
     let other : (m : ℕ) → m ≢ strideAt → getD (set ws strideAt x) m 0 ≡ getD ws m 0 = λ m n. getD-set-other ws strideAt m x 0 n in
-    settings-alike ws (set ws strideAt x) x (getD ws editionAt 0) (λ m a. other m (λ u. omega arith)) (getD-set-same ws strideAt x 0 l) (other editionAt (λ u. omega arith))
+    settings-alike ws (set ws strideAt x) y (getD ws editionAt 0) (λ m a. other m (λ u. omega arith)) is (other editionAt (λ u. omega arith))
+
+settings-set : (ws : List ℕ) (x : ℕ) → strideAt < length ws → settingsOf (set ws strideAt x) ≡ withStride (settingsOf ws) x
+settings-set ws x l = settings-by ws x x (getD-set-same ws strideAt x 0 l)
+
+measures-set : (ws : List ℕ) (x : ℕ) (c : Call) (a : Answer) → measuresAt (set ws strideAt x) c a ≡ measuresAt ws c a
+measures-set ws x =
+    let y = getD (set ws strideAt x) strideAt 0 in
+    measures-alike (settingsOf ws) y (settingsOf ws .edition) ws (set ws strideAt x) (reads-alike strideAt stride-still x (settingsOf ws) y ws) refl (settings-by ws x y refl)
 
 -- ---- a call, and a run
 module _ (ed : ℕ) (ws : List ℕ) (z : getD ws strideAt 0 ≡ 0) (n : getD ws widthAt 0 ≢ 1) where
@@ -67,9 +76,9 @@ module _ (ed : ℕ) (ws : List ℕ) (z : getD ws strideAt 0 ≡ 0) (n : getD ws 
   unfolding headChecked
   head-alike =
       rw (
-        limits-alike (settingsOf ws) z n,
+        limits-alike (inEdition ed (settingsOf ws)) z n,
         body-same (settingsOf ws) 1 (settingsOf ws .edition) ws one (reads-alike strideAt stride-still 1 (settingsOf ws) 1 ws) (rw (length-set ws strideAt 1) refl),
-        cond-under inOne (settingsFit (settingsOf ws)) _ _,
+        cond-under inOne (settingsFit (inEdition ed (settingsOf ws))) _ _,
         cond-under inOne (eqb (settingsOf ws .edition) ed) _ _,
       )
       refl
@@ -109,7 +118,7 @@ runs-alike ed ws z n (c ∷ cs) =
     let rest = runs-alike ed (callOf ed ws c .words) (kept ed strideAt stride-still ws c ∙ z) (λ u. n (sym (kept ed widthAt width-still ws c) ∙ u)) cs in
     let answer : callOf ed (set ws strideAt 1) c .answer ≡ callOf ed ws c .answer = ap (λ (o : Out). o .answer) (call-alike ed ws z n c) in
     let words : callOf ed (set ws strideAt 1) c .words ≡ set (callOf ed ws c .words) strideAt 1 = ap (λ (o : Out). o .words) (call-alike ed ws z n c) in
-    let told = measures-alike ws (set ws strideAt 1) (λ m l. getD-set-other ws strideAt m 1 0 (λ u. omega arith)) c in
+    let told = measures-set ws 1 c in
     let later : run ed (callOf ed (set ws strideAt 1) c .words) cs ≡ run ed (callOf ed ws c .words) cs = ap (λ (vs : List ℕ). run ed vs cs) words ∙ rest .answers in
     record {
       answers = λ u. record { call = c; answer = answer u; measures = (ap (measuresAt (set ws strideAt 1) c) answer ∙ told (callOf ed ws c .answer)) u } ∷ later u;
@@ -135,14 +144,16 @@ made-is ws g limits enough = rw (limits, le-ltb (length ws) (needed g) enough) r
 
 -- the stride is a word of the head that make stores
 made-set : (ws : List ℕ) (g : Settings) (x : ℕ) → madeWords ws (withStride g x) ≡ set (madeWords ws (withStride g 0)) strideAt x
-unfolding madeWords
+unfolding madeWords windowed
 made-set ws g x =
     let head : List ℕ = sets (zeroed ws (needed g)) 0 (take strideAt (newHead g)) in
     let again : set (set head strideAt x) editionAt (g .edition) ≡ set (set (set head strideAt 0) editionAt (g .edition)) strideAt x =
     ap (λ (vs : List ℕ). set vs editionAt (g .edition)) (sym (set-set head strideAt 0 x))
     ∙ set-comm (set head strideAt 0) strideAt editionAt x (g .edition) (λ u. omega arith) in
-    ap (λ (vs : List ℕ). indexed vs (withStride g x) (g .workers)) again
-    ∙ indexed-commutes strideAt stride-still x (withStride g 0) x (g .workers) (set (set head strideAt 0) editionAt (g .edition))
+    let zero-head : List ℕ = set (set head strideAt 0) editionAt (g .edition) in
+    ap (λ (vs : List ℕ). indexed (sets vs (windowsAt g) (newWindows g)) (withStride g x) (g .workers)) again
+    ∙ ap (λ (vs : List ℕ). indexed vs (withStride g x) (g .workers)) (windows-commute strideAt stride-still x g zero-head)
+    ∙ indexed-commutes strideAt stride-still x (withStride g 0) x (g .workers) (sets zero-head (windowsAt g) (newWindows g))
 
 stride-after : (ed : ℕ) (ws : List ℕ) (cs : List Call) → getD (wordsAfter ed ws cs) strideAt 0 ≡ getD ws strideAt 0
 unfolding wordsAfter

@@ -1,12 +1,21 @@
 -- `fitness::limits::settings_fit` meets its contract: at each return the tests that led there pick the same branch of `settingsFit`, and each call stands for what it ensures.
 use native.Mathlib.Nat.{mul-le-mul-right}
 use native.Mathlib.Omega.{arith}
+use mathlib.Core.Path.{_≡_, refl, sym, _∙_}
+use mathlib.Core.Bool.{true}
+use borrow.Author.Tests.{eq-eqb}
 use borrow.Author.Needs.{needs}
-use Rattle.rules.specs.Limits.{settingsFit}
+use Rattle.rules.specs.Limits.{limits, queueLimits, settingsFit}
 use Rattle.laws.specs.Tests.{tests}
-use Rattle.laws.specs.Choice.{cond}
+use Rattle.laws.specs.Choice.{cond, all}
+use Rattle.rules.specs.declared.Settings.{Settings}
 use Rattle.fitness.proofs.limits.settings_fit.Statement.{statement}
 use Rattle.fitness.proofs.limits.settings_fit.Tie as tie
+
+-- a queue has limits of its own behind those of every pool
+queue-by : (g : Settings) → all (limits g) ≡ true → g .kind ≡ 0 → settingsFit g ≡ all (queueLimits g)
+unfolding settingsFit cond
+queue-by g e k = rw (e, eq-eqb (g .kind) 0 k) refl
 
 returns : tie.Need-returns
 unfolding settingsFit cond
@@ -68,24 +77,17 @@ returns-13 : tie.Need-returns-13
 unfolding settingsFit cond
 returns-13 c = search tests
 
-returns-14 : tie.Need-returns-14
-unfolding settingsFit cond
-returns-14 c = search tests
+queue-fit-requires : tie.Need-queue-fit-requires
+queue-fit-requires c κs = search needs
 
-rem-if16 : tie.Need-rem-if16
-rem-if16 c = search needs
+returns-14 : tie.Need-returns-14
+returns-14 c =
+    let g = c .before .before .before .before .before .before .before .before .before .before .before .before .before .before .before .args .g in
+    c .queue-fit .ensures ∙ sym (queue-by g (search tests) (c .before .if14 .taken))
 
 returns-15 : tie.Need-returns-15
 unfolding settingsFit cond
 returns-15 c = search tests
-
-returns-16 : tie.Need-returns-16
-unfolding settingsFit cond
-returns-16 c = search tests
-
-returns-17 : tie.Need-returns-17
-unfolding settingsFit cond
-returns-17 c = search tests
 
 pub settings-fit-spec : {M : Type 1} → statement M
 settings-fit-spec =
@@ -106,8 +108,6 @@ settings-fit-spec =
     mul-if12
     returns-12
     returns-13
+    queue-fit-requires
     returns-14
-    rem-if16
-    returns-15
-    returns-16
-    returns-17)
+    returns-15)

@@ -1,8 +1,8 @@
 -- `fitness::subs::sub_fit` meets its contract: the kind picks the same branch of `subFit`.
-use borrow.Author.Tests.{eq-eqb, ne-eqb}
-use mathlib.Core.Path.{_∙_}
-use Rattle.laws.specs.Choice.{cond}
 use Rattle.rules.specs.Fit.{subFit}
+use Rattle.laws.specs.Choice.{cond}
+use mathlib.Core.Path.{_∙_}
+use borrow.Author.Tests.{eq-eqb, ne-eqb}
 use borrow.Author.Needs.{needs}
 use Rattle.fitness.proofs.subs.sub_fit.Statement.{statement}
 use Rattle.fitness.proofs.subs.sub_fit.Tie as tie

@@ -1,28 +1,70 @@
--- `fitness::workers::workers_fit` meets its contract: the settings that are handed on are those it was given, in either branch.
-use mathlib.Core.Path.{ap, _∙_}
-use borrow.Author.Needs.{needs}
-use Rattle.rules.specs.Fit.{workersFit}
+-- `fitness::workers::workers_fit` meets its contract: every worker passed is fit, and the first that is not decides the whole.
+use Rattle.rules.proofs.Workers.{worker-within}
 use Rattle.rules.specs.declared.Settings.{Settings}
+use Rattle.rules.specs.Worker.{slotAt}
+use Rattle.rules.specs.Layout.{workerAt}
+use Rattle.rules.specs.Fit.{workerFit, workersFit}
+use Rattle.laws.specs.Choice.{allBelow, allBelow-fails, allBelow-more, allBelow-none}
+use borrow.Author.Needs.{needs}
+use native.Mathlib.Omega.{arith}
+use mathlib.Core.Bool.{Bool, true}
+use mathlib.Core.List.{List}
+use mathlib.Core.Path.{_≡_, sym, ap, _∙_}
+use Prim.Native.Nat.{ℕ, _+_, _-_, _≤_}
 use Rattle.fitness.proofs.workers.workers_fit.Statement.{statement}
 use Rattle.fitness.proofs.workers.workers_fit.Tie as tie
 
-as-shipped-requires : tie.Need-as-shipped-requires
-as-shipped-requires c κs = search needs
+-- whether worker i is fit
+abbrev isFit : List ℕ → Settings → ℕ → Bool
+isFit ws g i = workerFit g (slotAt g ws (workerAt g i))
 
-every-fit-requires : tie.Need-every-fit-requires
-every-fit-requires c κs = rw (c .as-shipped .ensures) (c .before .before .before .before .pre)
+-- what was asked of the worker at its place
+here : (ws : List ℕ) (g : Settings) (i : ℕ) {at : ℕ} {b : Bool} → at ≡ workerAt g i → b ≡ workerFit g (slotAt g ws at) → b ≡ isFit ws g i
+here ws g i e f = f ∙ ap (λ (x : ℕ). workerFit g (slotAt g ws x)) e
 
-returns : tie.Need-returns
-returns c =
-    c .every-fit .ensures ∙ ap (λ (g : Settings). workersFit (c .before .before .before .before .before .args .words .now) g) (c .before .as-shipped .ensures)
+abbrev Inv-loop : tie.InvT-loop
+Inv-loop words g n i₀ i = (i ≤ g .workers) × (allBelow i (isFit words g) ≡ true)
 
-every-fit-requires-2 : tie.Need-every-fit-requires-2
-every-fit-requires-2 c κs = search needs
+abbrev μ-loop : tie.MeasureT-loop
+μ-loop words g n i₀ i = g .workers - i
 
-returns-2 : tie.Need-returns-2
-returns-2 c = search needs
+loop-holds : tie.Need-loop-holds Inv-loop μ-loop
+loop-holds c = (search needs, allBelow-none _)
+
+worker-at-requires : tie.Need-worker-at-requires Inv-loop μ-loop
+worker-at-requires c κs = search needs
+
+worker-fit-requires : tie.Need-worker-fit-requires Inv-loop μ-loop
+worker-fit-requires c κs = let s = c .before .before .before .before in rw (c .worker-at .ensures) (omega (arith, worker-within (s .args .g) (c .before .before .loop .i) (c .before .loop-test .taken), s .pre .1))
+
+add-i : tie.Need-add-i Inv-loop μ-loop
+add-i c = search needs
+
+loop-less : tie.Need-loop-less Inv-loop μ-loop
+loop-less c = search needs
+
+loop-again : tie.Need-loop-again Inv-loop μ-loop
+loop-again c = let l = c .before .before .before .before .loop in let a = c .before .before .before .before .before .before .args in (omega arith, allBelow-more (l .i) (isFit (a .words .now) (a .g)) (l .inv .1) (sym (here (a .words .now) (a .g) (l .i) (c .before .before .worker-at .ensures) (c .before .worker-fit .ensures)) ∙ c .if1 .taken))
+
+returns : tie.Need-returns Inv-loop μ-loop
+unfolding workersFit
+returns c = let l = c .before .before .before .before .loop in let a = c .before .before .before .before .before .before .args in sym (allBelow-fails (a .g .workers) (isFit (a .words .now) (a .g)) (l .i) (omega arith) (sym (here (a .words .now) (a .g) (l .i) (c .before .before .worker-at .ensures) (c .before .worker-fit .ensures)) ∙ c .if1 .left))
+
+returns-2 : tie.Need-returns-2 Inv-loop μ-loop
+unfolding workersFit
+returns-2 c = let all : c .before .loop .i ≡ c .before .before .before .args .g .workers = omega arith in sym (rw all at (c .before .loop .inv .1))
 
 pub workers-fit-spec : {M : Type 1} → statement M
 workers-fit-spec =
     tie.close
-    (tie.spec as-shipped-requires every-fit-requires returns every-fit-requires-2 returns-2)
+    (tie.spec
+    Inv-loop
+    μ-loop
+    loop-holds
+    worker-at-requires
+    worker-fit-requires
+    add-i
+    loop-less
+    loop-again
+    returns
+    returns-2)

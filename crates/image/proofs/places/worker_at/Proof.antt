@@ -3,12 +3,12 @@ use Prim.Native.Nat.{_+_, _*_, _≤_}
 use native.Mathlib.Nat.{mul-le-mul-right}
 use native.Mathlib.Omega.{arith}
 use borrow.Author.Needs.{needs}
-use Rattle.rules.specs.Layout.{lostWord}
+use Rattle.rules.specs.Layout.{widthWord}
 use Rattle.rules.proofs.Workers.{words-few}
 use Rattle.image.proofs.places.worker_at.Statement.{statement}
 use Rattle.image.proofs.places.worker_at.Tie as tie
 
-few : (c : tie.After-worker-words) → c .worker-words .result * c .before .before .args .i ≤ (lostWord + 1) * c .before .before .args .i
+few : (c : tie.After-worker-words) → c .worker-words .result * c .before .before .args .i ≤ (widthWord + 1) * c .before .before .args .i
 few c = mul-le-mul-right (c .before .before .args .i) (rw (c .worker-words .ensures) (words-few (c .before .before .args .g .edition)))
 
 sub-at-requires : tie.Need-sub-at-requires

@@ -1,72 +1,58 @@
--- `image::slot::store` meets its contract: the eight stores, one after the other, are the run of stores that the definition makes.
-use mathlib.Core.Path.{_∙_}
-use native.Mathlib.Nat.{add-zero}
-use native.Mathlib.Numerals.{towards-suc}
+-- `image::slot::store` meets its contract: the first stores, and in an edition that has them the two behind the failed commits, are `putSlot`.
+use mathlib.Core.Path.{sym, _∙_}
+use native.Mathlib.Numerals.{add-one, towards-suc}
 use borrow.Author.Needs.{needs}
+use Rattle.laws.specs.Choice.{cond}
 use Rattle.rules.specs.Worker.{putSlot}
+use Rattle.rules.proofs.Workers.{slot-within, windowed-is, words-two}
 use Rattle.image.proofs.slot.store.Statement.{statement}
 use Rattle.image.proofs.slot.store.Tie as tie
 
-put-word-requires : tie.Need-put-word-requires
-put-word-requires c κs = search needs
+store-first-requires : tie.Need-store-first-requires
+store-first-requires c κs = let low = slot-within (c .before .before .args .g .edition) in search needs
 
-put-word-requires-2 : tie.Need-put-word-requires-2
-put-word-requires-2 c κs = search needs
+is-windowed-requires : tie.Need-is-windowed-requires
+is-windowed-requires c κs = search needs
 
-put-word-requires-3 : tie.Need-put-word-requires-3
-put-word-requires-3 c κs = search needs
+add-put-pair : tie.Need-add-put-pair
+add-put-pair c = search needs
 
-put-word-requires-4 : tie.Need-put-word-requires-4
-put-word-requires-4 c κs = search needs
-
-put-word-requires-5 : tie.Need-put-word-requires-5
-put-word-requires-5 c κs = search needs
-
-put-word-requires-6 : tie.Need-put-word-requires-6
-put-word-requires-6 c κs = search needs
-
-put-word-requires-7 : tie.Need-put-word-requires-7
-put-word-requires-7 c κs = search needs
-
-put-word-requires-8 : tie.Need-put-word-requires-8
-put-word-requires-8 c κs = search needs
+put-pair-requires : tie.Need-put-pair-requires
+put-pair-requires c κs =
+    let asked = c .before .before in
+    let stored = asked .before .before .before in
+    let e = sym (asked .is-windowed .ensures) ∙ c .before .if1 .taken in
+    let has = words-two _ (windowed-is (stored .before .before .before .args .g) e) in
+    rw (stored .store-first .kept .0) (search needs)
 
 same-length : tie.Need-same-length
 same-length c = search needs
 
 returns : tie.Need-returns
-unfolding putSlot
+unfolding putSlot cond
 returns c =
-    let w7 = c .before .before .before .before in
-    let w6 = w7 .before .before .before .before in
-    let w5 = w6 .before .before .before .before in
-    let w4 = w5 .before .before .before .before in
-    let w3 = w4 .before .before .before .before in
-    let w2 = w3 .before .before .before .before in
-    let w1 = w2 .before .before .before .before in
-    c .before .before .put-word8 .ensures
-    ∙ rw (
-      w7 .before .before .put-word7 .ensures,
-      w6 .before .before .put-word6 .ensures,
-      w5 .before .before .put-word5 .ensures,
-      w4 .before .before .put-word4 .ensures,
-      w3 .before .before .put-word3 .ensures,
-      w2 .before .before .put-word2 .ensures,
-      w1 .before .before .put-word .ensures,
-    )
-    (simp (add-zero, towards-suc))
+    let asked = c .before .before .before .before .before in
+    let e = sym (asked .is-windowed .ensures) ∙ c .before .before .before .before .if1 .taken in
+    c .before .before .put-pair .ensures ∙ rw (asked .before .before .before .store-first .ensures, e) (simp (towards-suc, add-one))
+
+same-length-2 : tie.Need-same-length-2
+same-length-2 c = search needs
+
+returns-2 : tie.Need-returns-2
+unfolding putSlot cond
+returns-2 c =
+    let e = sym (c .before .is-windowed .ensures) ∙ c .if1 .left in
+    c .before .before .before .before .store-first .ensures ∙ rw e
 
 pub store-spec : {M : Type 1} → statement M
 store-spec =
     tie.close
     (tie.spec
-    put-word-requires
-    put-word-requires-2
-    put-word-requires-3
-    put-word-requires-4
-    put-word-requires-5
-    put-word-requires-6
-    put-word-requires-7
-    put-word-requires-8
+    store-first-requires
+    is-windowed-requires
+    add-put-pair
+    put-pair-requires
     same-length
-    returns)
+    returns
+    same-length-2
+    returns-2)

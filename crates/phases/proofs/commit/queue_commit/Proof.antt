@@ -1,4 +1,4 @@
--- `phases::commit::queue_commit` meets its contract: at each side the arguments of `commit_by` are those of `queueCommit`.
+-- `phases::commit::queue_commit` meets its contract: each side has its clause, with the row that it goes above.
 use mathlib.Core.Path.{_∙_}
 use borrow.Author.Needs.{needs}
 use Rattle.rules.specs.Commit.{queueCommit}
@@ -11,37 +11,32 @@ queue-view-requires c κs = search needs
 enum-told : tie.Need-enum-told
 enum-told c = search needs
 
-minus-requires : tie.Need-minus-requires
-minus-requires c κs = search needs
+level-of-requires : tie.Need-level-of-requires
+level-of-requires c κs = search needs
 
-plus-requires : tie.Need-plus-requires
-plus-requires c κs = search needs
-
-landed-requires : tie.Need-landed-requires
-landed-requires c κs = search needs
-
-commit-by-requires : tie.Need-commit-by-requires
-commit-by-requires c κs = search needs
+queue-put-commit-requires : tie.Need-queue-put-commit-requires
+queue-put-commit-requires c κs = search needs
 
 enum-told-2 : tie.Need-enum-told-2
 enum-told-2 c = search needs
 
-plus-requires-2 : tie.Need-plus-requires-2
-plus-requires-2 c κs = search needs
+level-of-requires-2 : tie.Need-level-of-requires-2
+level-of-requires-2 c κs = search needs
 
-removed-requires : tie.Need-removed-requires
-removed-requires c κs = search needs
-
-commit-by-requires-2 : tie.Need-commit-by-requires-2
-commit-by-requires-2 c κs = search needs
+queue-take-commit-requires : tie.Need-queue-take-commit-requires
+queue-take-commit-requires c κs = search needs
 
 returns : tie.Need-returns
 unfolding queueCommit
-returns c = c .commit-by .ensures ∙ simp (c .before .before .before .before .before .enum-told .given .1, c .before .landed .ensures, c .before .before .plus .ensures, c .before .before .before .before .minus .ensures, c .before .before .before .before .before .before .before .queue-view .ensures)
+returns c =
+    c .queue-put-commit .ensures
+    ∙ simp (c .before .level-of .ensures, c .before .before .enum-told .given .1, c .before .before .before .before .queue-view .ensures)
 
 returns-2 : tie.Need-returns-2
 unfolding queueCommit
-returns-2 c = c .commit-by2 .ensures ∙ simp (c .before .before .before .enum-told2 .given .1, c .before .removed .ensures, c .before .before .plus2 .ensures, c .before .before .before .before .before .queue-view .ensures)
+returns-2 c =
+    c .queue-take-commit .ensures
+    ∙ simp (c .before .level-of2 .ensures, c .before .before .enum-told2 .given .1, c .before .before .before .before .queue-view .ensures)
 
 pub queue-commit-spec : {M : Type 1} → statement M
 queue-commit-spec =
@@ -49,13 +44,10 @@ queue-commit-spec =
     (tie.spec
     queue-view-requires
     enum-told
-    minus-requires
-    plus-requires
-    landed-requires
-    commit-by-requires
+    level-of-requires
+    queue-put-commit-requires
     enum-told-2
-    plus-requires-2
-    removed-requires
-    commit-by-requires-2
+    level-of-requires-2
+    queue-take-commit-requires
     returns
     returns-2)

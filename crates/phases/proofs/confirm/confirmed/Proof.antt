@@ -18,7 +18,8 @@ finished-requires c κs = search needs
 
 returns : tie.Need-returns
 unfolding confirmedOf cond
-returns c = c .finished .ensures ∙ simp (eq-eqb _ _ (c .before .before .if1 .taken), c .before .nothing-for .ensures, c .before .before .before .next .ensures)
+returns c =
+    c .finished .ensures ∙ simp (c .before .before .if1 .taken, c .before .nothing-for .ensures, c .before .before .before .next .ensures)
 
 with-pass-requires : tie.Need-with-pass-requires
 with-pass-requires c κs = search needs
@@ -28,7 +29,8 @@ moved-requires c κs = search needs
 
 returns-2 : tie.Need-returns-2
 unfolding confirmedOf cond
-returns-2 c = c .moved .ensures ∙ simp (ne-eqb _ _ (c .before .before .before .if1 .left), c .before .with-pass .ensures, c .before .before .before .before .next .ensures)
+returns-2 c =
+    c .moved .ensures ∙ simp (c .before .before .before .if1 .left, c .before .with-pass .ensures, c .before .before .before .before .next .ensures)
 
 pub confirmed-spec : {M : Type 1} → statement M
 confirmed-spec =

@@ -23,7 +23,7 @@ returns c =
     let a = c .before .before .before .args in
     c .moved .ensures
     ∙ simp (c .before .missed .ensures, c .before .before .next .ensures)
-    (cond-under (λ (p : Phase). movedOf (a .v) (nextOf (a .width) (a .v .worker .index)) p (a .kept)) _ (a .again) (a .after))
+    (cond-under (λ (p : Phase). movedOf (a .g) (a .v) (nextOf (a .width) (a .v .worker .index)) p (a .kept)) _ (a .again) (a .after))
 
 pub miss-spec : {M : Type 1} → statement M
 miss-spec = tie.close (tie.spec next-requires missed-requires moved-requires returns)

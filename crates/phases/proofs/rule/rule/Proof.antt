@@ -15,19 +15,19 @@ enum-known-phase : tie.Need-enum-known-phase
 enum-known-phase c = search needs
 
 window-requires : tie.Need-window-requires
-window-requires c κs = search needs
+window-requires c κs = rw (c .before .phase .given .1) at (c .before .before .before .before .pre .1 .1)
 
 enum-known-phase-2 : tie.Need-enum-known-phase-2
 enum-known-phase-2 c = search needs
 
 queue-put-read-requires : tie.Need-queue-put-read-requires
-queue-put-read-requires c κs = rw (c .before .phase2 .given .1) at (c .before .before .before .before .pre .1 .1 .seen)
+queue-put-read-requires c κs = rw (c .before .phase2 .given .1) at (c .before .before .before .before .pre .1 .1)
 
 enum-known-phase-3 : tie.Need-enum-known-phase-3
 enum-known-phase-3 c = search needs
 
 queue-take-read-requires : tie.Need-queue-take-read-requires
-queue-take-read-requires c κs = rw (c .before .phase3 .given .1) at (c .before .before .before .before .pre .1 .1 .seen)
+queue-take-read-requires c κs = rw (c .before .phase3 .given .1) at (c .before .before .before .before .pre .1 .1)
 
 enum-known-phase-4 : tie.Need-enum-known-phase-4
 enum-known-phase-4 c = search needs
@@ -69,7 +69,7 @@ enum-known-phase-10 : tie.Need-enum-known-phase-10
 enum-known-phase-10 c = search needs
 
 queue-confirm-requires : tie.Need-queue-confirm-requires
-queue-confirm-requires c κs = rw (c .before .phase10 .given .1) at (c .before .before .before .before .pre .1 .1 .seen)
+queue-confirm-requires c κs = rw (c .before .phase10 .given .1) at (c .before .before .before .before .pre .1 .1)
 
 enum-known-phase-11 : tie.Need-enum-known-phase-11
 enum-known-phase-11 c = search needs

@@ -7,8 +7,8 @@ use Rattle.phases.proofs.shift.queue_put_shift.Tie as tie
 plus-requires : tie.Need-plus-requires
 plus-requires c κs = search needs
 
-minus-requires : tie.Need-minus-requires
-minus-requires c κs = search needs
+room-for-requires : tie.Need-room-for-requires
+room-for-requires c κs = search needs
 
 shifted-requires : tie.Need-shifted-requires
 shifted-requires c κs = search needs
@@ -23,14 +23,23 @@ shift-by-requires : tie.Need-shift-by-requires
 shift-by-requires c κs = search needs
 
 returns : tie.Need-returns
-returns c = c .shift-by .ensures ∙ simp (c .before .before .finished .ensures, c .before .before .before .nothing-for .ensures, c .before .before .before .before .shifted .ensures, c .before .before .before .before .before .before .minus .ensures, c .before .before .before .before .before .before .before .plus .ensures)
+returns c =
+    let moved = c .before .before .before .before in
+    c .shift-by .ensures
+    ∙ simp (
+      c .before .before .finished .ensures,
+      c .before .before .before .nothing-for .ensures,
+      moved .shifted .ensures,
+      moved .before .room-for .ensures,
+      moved .before .before .plus .ensures,
+    )
 
 pub queue-put-shift-spec : {M : Type 1} → statement M
 queue-put-shift-spec =
     tie.close
     (tie.spec
     plus-requires
-    minus-requires
+    room-for-requires
     shifted-requires
     nothing-for-requires
     finished-requires

@@ -40,11 +40,33 @@ shift-by-requires-2 c κs = search needs
 
 returns : tie.Need-returns
 unfolding stackShift
-returns c = c .shift-by .ensures ∙ simp (c .before .before .before .before .enum-told .given .1, c .before .shifted .ensures, c .before .before .before .plus2 .ensures, c .before .before .before .before .before .before .moved .ensures, c .before .before .before .before .before .before .before .before .plus .ensures, c .before .before .before .before .before .before .before .before .before .before .before .stack-view .ensures)
+returns c =
+    let told = c .before .before .before .before in
+    let stuck = told .before .before in
+    c .shift-by .ensures
+    ∙ rw (
+      c .before .shifted .ensures,
+      c .before .before .before .plus2 .ensures,
+      stuck .moved .ensures,
+      stuck .before .before .plus .ensures,
+      stuck .before .before .before .before .before .stack-view .ensures,
+      told .enum-told .given .1,
+    )
 
 returns-2 : tie.Need-returns-2
 unfolding stackShift
-returns-2 c = c .shift-by2 .ensures ∙ simp (c .before .before .before .before .before .enum-told2 .given .1, c .before .shifted2 .ensures, c .before .before .before .before .minus .ensures, c .before .before .before .before .before .before .before .moved .ensures, c .before .before .before .before .before .before .before .before .before .plus .ensures, c .before .before .before .before .before .before .before .before .before .before .before .before .stack-view .ensures)
+returns-2 c =
+    let told = c .before .before .before .before .before in
+    let stuck = told .before .before in
+    c .shift-by2 .ensures
+    ∙ rw (
+      c .before .shifted2 .ensures,
+      c .before .before .before .before .minus .ensures,
+      stuck .moved .ensures,
+      stuck .before .before .plus .ensures,
+      stuck .before .before .before .before .before .stack-view .ensures,
+      told .enum-told2 .given .1,
+    )
 
 pub stack-shift-spec : {M : Type 1} → statement M
 stack-shift-spec =

@@ -1,20 +1,11 @@
--- `phases::window::window` meets its contract: the test of each branch is the definition's, and each call stands for what it ensures. Either window is wide enough for a remainder.
+-- `phases::window::window` meets its contract: the test of each branch is the definition's, and each call stands for what it ensures.
 use mathlib.Core.Path.{_∙_}
 use borrow.Author.Tests.{eq-eqb, ne-eqb}
-use Prim.Native.Nat.{_≤_}
 use borrow.Author.Needs.{needs}
 use Rattle.laws.specs.Choice.{cond}
-use Rattle.rules.specs.Window.{windowFor, windowRule}
-use Rattle.rules.specs.declared.QueueView.{QueueView}
-use Rattle.rules.specs.declared.Side.{Side}
-use Rattle.rules.specs.declared.Side.the-variants.{Putting, Taking}
+use Rattle.rules.specs.Window.{windowRule}
 use Rattle.phases.proofs.window.window.Statement.{statement}
 use Rattle.phases.proofs.window.window.Tie as tie
-
--- the window of a side is as wide as the narrower of the two
-wide : (q : QueueView) (side : Side) → 1 ≤ q .put .width → 1 ≤ q .take .width → 1 ≤ windowFor q side .width
-wide q Putting p t = p
-wide q Taking p t = t
 
 queue-view-requires : tie.Need-queue-view-requires
 queue-view-requires c κs = search needs
@@ -23,7 +14,7 @@ window-for-requires : tie.Need-window-for-requires
 window-for-requires c κs = search needs
 
 queue-seen-requires : tie.Need-queue-seen-requires
-queue-seen-requires c κs = let p = c .before .before .before .before .pre in rw (c .window-for .ensures, c .before .queue-view .ensures) (wide _ (c .before .before .before .before .args .side) (p .put1) (p .take1))
+queue-seen-requires c κs = rw (c .window-for .ensures, c .before .queue-view .ensures) (c .before .before .before .before .pre)
 
 returns : tie.Need-returns
 unfolding cond windowRule

@@ -11,6 +11,9 @@ zero-requires c κs = search needs
 put-head-requires : tie.Need-put-head-requires
 put-head-requires c κs = search needs
 
+put-windows-requires : tie.Need-put-windows-requires
+put-windows-requires c κs = search needs
+
 put-indices-requires : tie.Need-put-indices-requires
 put-indices-requires c κs = search needs
 
@@ -19,8 +22,12 @@ same-length c = search needs
 
 returns : tie.Need-returns
 unfolding madeWords
-returns c = c .before .before .put-indices .ensures ∙ simp (c .before .before .before .before .before .before .put-head .ensures, c .before .before .before .before .before .before .before .before .before .before .zero .ensures, c .before .before .before .before .before .before .before .before .before .before .before .before .before .pre .1 .0)
+returns c =
+    let put = c .before .before .before .before .before .before in
+    let headed = put .before .before .before .before in
+    let zeros = headed .before .before .before .before in
+    c .before .before .put-indices .ensures ∙ simp (put .put-windows .ensures, headed .put-head .ensures, zeros .zero .ensures, zeros .before .before .before .pre .1 .0)
 
 pub fill-spec : {M : Type 1} → statement M
 fill-spec =
-    tie.close (tie.spec zero-requires put-head-requires put-indices-requires same-length returns)
+    tie.close (tie.spec zero-requires put-head-requires put-windows-requires put-indices-requires same-length returns)

@@ -7,6 +7,9 @@ use borrow.Author.Needs.{needs}
 use Rattle.printing.proofs.tally.bound_in.Statement.{statement}
 use Rattle.printing.proofs.tally.bound_in.Tie as tie
 
+in-edition-requires : tie.Need-in-edition-requires
+in-edition-requires c κs = search needs
+
 settings-fit-requires : tie.Need-settings-fit-requires
 settings-fit-requires c κs = search needs
 
@@ -15,11 +18,11 @@ most-passed-requires c κs = settings-bounds _ (sym (c .before .settings-fit .en
 
 returns : tie.Need-returns
 unfolding boundIn cond
-returns c = c .most-passed .ensures ∙ simp (← c .before .before .settings-fit .ensures, c .before .if1 .taken)
+returns c = c .most-passed .ensures ∙ simp (← c .before .before .before .in-edition .ensures, ← c .before .before .settings-fit .ensures, c .before .if1 .taken)
 
 returns-2 : tie.Need-returns-2
 unfolding boundIn cond
-returns-2 c = simp (← c .before .settings-fit .ensures, c .if1 .left)
+returns-2 c = simp (← c .before .before .in-edition .ensures, ← c .before .settings-fit .ensures, c .if1 .left)
 
 pub bound-in-spec : {M : Type 1} → statement M
-bound-in-spec = tie.close (tie.spec settings-fit-requires most-passed-requires returns returns-2)
+bound-in-spec = tie.close (tie.spec in-edition-requires settings-fit-requires most-passed-requires returns returns-2)

@@ -6,7 +6,7 @@ use mathlib.Core.Path.{_≡_, refl, sym, ap, _∙_}
 use native.Mathlib.Omega.{arith}
 use borrow.Author.Needs.{needs}
 use lib.ListN.{length}
-use Rattle.rules.specs.Layout.{workerWords}
+use Rattle.rules.specs.Layout.{workerWords, windowsWords}
 use Rattle.program.specs.Kept.{Left, over, mostReads}
 use Rattle.program.specs.declared.run.Run.{Run}
 use Rattle.program.proofs.Keeping.{started, over-going, ran}
@@ -34,7 +34,7 @@ start-requires : tie.Need-start-requires Inv-loop μ-loop
 start-requires c κs = search needs
 
 loop-holds : tie.Need-loop-holds Inv-loop μ-loop
-unfolding workerWords
+unfolding workerWords windowsWords
 loop-holds c =
     let s = c .start .ensures in (
       ap length (c .before .before .before .lent-words .ensures),

@@ -7,13 +7,12 @@ use native.Mathlib.Omega.{arith}
 use borrow.Author.Needs.{needs}
 use lib.ListN.{length, replicate}
 use Rattle.rules.specs.Answers.{Returned, numberOf}
-use Rattle.rules.specs.Layout.{workerWords, settingsOf, needed}
-use Rattle.rules.specs.Limits.{Bounds}
+use Rattle.rules.specs.Layout.{workerWords, windowsWords, settingsOf}
 use Rattle.rules.specs.Move.{moveOf}
 use Rattle.saved.specs.Bytes.{wordsIn, bytesFor}
 use Rattle.saved.specs.File.{saved, savedOf, poolWords, filed, filedIn}
 use Rattle.saved.proofs.Largest.{needed-most}
-use Rattle.saved.proofs.Moving.{refused-nothing, moved-bytes, moved-pool}
+use Rattle.saved.proofs.Moving.{refused-nothing, moved-bytes, MovedPool, moved-pool}
 use Rattle.saved.proofs.file.move_file.Statement.{statement}
 use Rattle.saved.proofs.file.move_file.Tie as tie
 
@@ -24,7 +23,7 @@ move-words-requires : tie.Need-move-words-requires
 move-words-requires c κs = search needs
 
 returns : tie.Need-returns
-unfolding workerWords savedOf
+unfolding workerWords windowsWords savedOf
 returns c =
     let a = c .before .before .before .before .before .args in
     let m = c .before .before .move-words in
@@ -36,7 +35,7 @@ slice-aggregate-put-pool : tie.Need-slice-aggregate-put-pool
 slice-aggregate-put-pool c = search needs
 
 put-pool-requires : tie.Need-put-pool-requires
-unfolding workerWords
+unfolding workerWords windowsWords
 put-pool-requires c κs =
     let a = c .before .before .before .before .before .before .before .args in
     let m = c .before .before .before .before .move-words in
@@ -44,11 +43,11 @@ put-pool-requires c κs =
     let number : m .result ≡ numberOf (o .answer) = ap (λ (x : Returned). x .number) (m .ensures) in
     let words : m .last .1 .1 .0 ≡ o .words = ap (λ (x : Returned). x .words) (m .ensures) in
     let pool = moved-pool (a .old) (a .new) (wordsIn (a .src .now)) (replicate 8524 0) (sym number ∙ c .before .before .if1 .left) in
-    let here = subst (λ (ws : List ℕ). Bounds (settingsOf ws) × (needed (settingsOf ws) ≤ length ws)) (sym words) pool in
-    (here .0, (here .1, omega (arith, needed-most (settingsOf (m .last .1 .1 .0)) (here .0))))
+    let here = subst (λ (ws : List ℕ). MovedPool ws (settingsOf ws)) (sym words) pool in
+    (here .bounds, (here .enough, omega (arith, needed-most (settingsOf (m .last .1 .1 .0)) (here .old) (here .bounds))))
 
 returns-2 : tie.Need-returns-2
-unfolding workerWords savedOf
+unfolding workerWords windowsWords savedOf
 returns-2 c =
     let a = c .before .before .before .before .before .before .before .before .args in
     let m = c .before .before .before .before .before .move-words in

@@ -7,7 +7,7 @@ use borrow.Author.Needs.{needs}
 use lib.ListN.{length, take}
 use lib.Seq.{length-take-le, take-at}
 use Rattle.rules.specs.Answers.{returnedAlone}
-use Rattle.rules.specs.Layout.{workerWords}
+use Rattle.rules.specs.Layout.{workerWords, windowsWords}
 use Rattle.rules.specs.Move.{moveOf}
 use Rattle.saved.specs.Bytes.{wordsIn}
 use Rattle.saved.proofs.Largest.{largest-enough}
@@ -39,7 +39,7 @@ same-length : tie.Need-same-length
 same-length c = search needs
 
 returns : tie.Need-returns
-unfolding workerWords
+unfolding workerWords windowsWords
 returns c =
     let a = c .before .before .before .before .before .before .before .before .before .before .before .args in
     let m = c .before .before .before .move-pool in

@@ -35,7 +35,9 @@ enum-told-4 : tie.Need-enum-told-4
 enum-told-4 c = search needs
 
 put-raised-requires : tie.Need-put-raised-requires
-put-raised-requires c κs = search needs
+put-raised-requires c κs =
+    let s = c .before .before .before .before in
+    (s .pre .0 .bounds, (s .pre .0 .enough, rw (c .before .enum-told4 .given .1) at (s .pre .1 .1 .1)))
 
 put-worker-requires-4 : tie.Need-put-worker-requires-4
 put-worker-requires-4 c κs = search needs
@@ -44,7 +46,9 @@ enum-told-5 : tie.Need-enum-told-5
 enum-told-5 c = search needs
 
 put-dropped-requires : tie.Need-put-dropped-requires
-put-dropped-requires c κs = search needs
+put-dropped-requires c κs =
+    let s = c .before .before .before .before in
+    (s .pre .0 .bounds, (s .pre .0 .enough, rw (c .before .enum-told5 .given .1) at (s .pre .1 .1 .1)))
 
 put-worker-requires-5 : tie.Need-put-worker-requires-5
 put-worker-requires-5 c κs = search needs

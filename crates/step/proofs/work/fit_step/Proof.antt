@@ -19,7 +19,8 @@ slot-step-requires : tie.Need-slot-step-requires
 slot-step-requires c κs =
     let s = c .before .before .before .before .before in
     let l = c .before .before .if1 .left in
-    (s .pre, (rw (c .worker-at .ensures) (worker-lent (s .args .g) _ (s .args .i) l (s .pre .enough)), rw (c .worker-at .ensures) (s .pre .index (s .args .i) l)))
+    let at = c .worker-at .ensures in
+    (s .pre, (rw at (worker-lent (s .args .g) _ (s .args .i) l (s .pre .enough)), (rw at (s .pre .index (s .args .i) l), rw at (s .pre .span (s .args .i) l))))
 
 same-length : tie.Need-same-length
 same-length c = search needs

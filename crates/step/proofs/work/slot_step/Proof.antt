@@ -3,9 +3,11 @@ use mathlib.Core.Path.{ap, sym, _∙_}
 use Rattle.laws.specs.Choice.{cond}
 use Rattle.rules.specs.Worker.{slotAt}
 use Rattle.rules.specs.Effects.{viewOf}
-use Rattle.rules.specs.Step.{slotStep}
+use Rattle.rules.specs.Step.{slotStep, ruleOf}
 use Rattle.rules.specs.declared.View.{View}
 use borrow.Author.Needs.{needs}
+use Rattle.step.proofs.Asked.{rule-asked}
+use Rattle.step.proofs.Moves.{rule-allowed}
 use Rattle.step.proofs.Seen.{view-inside}
 use Rattle.step.proofs.work.slot_step.Statement.{statement}
 use Rattle.step.proofs.work.slot_step.Tie as tie
@@ -40,13 +42,17 @@ rule-requires : tie.Need-rule-requires
 unfolding viewOf slotAt
 rule-requires c κs =
     let s = c .before .before .before .before .before .before .before .before .before .before .before in
-    let b = s .pre .0 .bounds in
-    (b, (rw (ap (λ (v : View). v .worker .index) (c .view .ensures)) (s .pre .1 .1), rw (c .view .ensures) (view-inside (s .args .words .now) (s .args .g) (s .args .at) b (s .pre .1 .1))))
+    let l = s .pre .1 .1 .0 in
+    let inside = view-inside (s .args .words .now) (s .args .g) (s .args .at) (s .pre .0) l (s .pre .1 .1 .1) in
+    (s .pre .0 .bounds, (rw (ap (λ (v : View). v .worker .index) (c .view .ensures)) l, rw (c .view .ensures) inside))
 
 apply-requires : tie.Need-apply-requires
 apply-requires c κs =
     let s = c .before .before .before .before .before .before .before .before .before .before .before .before .before in
-    (s .pre .0, (s .pre .1 .0, rw (c .before .before .before .before .index-of .ensures) (s .pre .1 .1)))
+    let w = s .args in
+    let e = c .before .rule .ensures ∙ ap (ruleOf (w .g)) (c .before .before .view .ensures) ∙ rule-asked (w .g) (viewOf (w .words .now) (w .g) (w .at)) in
+    let allowed = rule-allowed (w .words .now) (w .g) (w .at) (s .pre .0) in
+    (s .pre .0, (s .pre .1 .0, (rw (c .before .before .before .before .index-of .ensures) (s .pre .1 .1 .0), rw e allowed)))
 
 same-length-3 : tie.Need-same-length-3
 same-length-3 c = search needs
@@ -55,10 +61,12 @@ returns-3 : tie.Need-returns-3
 unfolding slotStep cond
 returns-3 c =
     let asked = c .before .before .before .before .before .before .before .before .before in
+    let w = asked .before .before .before .before .before .before .before .args in
     c .before .before .apply .ensures
     ∙ simp (
       c .before .before .before .before .rule .ensures,
       c .before .before .before .before .before .view .ensures,
+      rule-asked (w .g) (viewOf (w .words .now) (w .g) (w .at)),
       c .before .before .before .before .before .before .before .index-of .ensures,
       sym (asked .before .out-of-steps .ensures) ∙ asked .if2 .left,
       sym (asked .before .before .before .before .idle-at .ensures) ∙ asked .before .before .before .if1 .left,

@@ -20,11 +20,17 @@ words-requires-2 c κs = search needs
 enum-known-phase-2 : tie.Need-enum-known-phase-2
 enum-known-phase-2 c = search needs
 
+kept-window-requires : tie.Need-kept-window-requires
+kept-window-requires c κs = search needs
+
 words-requires-3 : tie.Need-words-requires-3
 words-requires-3 c κs = search needs
 
 enum-known-phase-3 : tie.Need-enum-known-phase-3
 enum-known-phase-3 c = search needs
+
+kept-window-requires-2 : tie.Need-kept-window-requires-2
+kept-window-requires-2 c κs = search needs
 
 words-requires-4 : tie.Need-words-requires-4
 words-requires-4 c κs = search needs
@@ -44,6 +50,9 @@ words-requires-6 c κs = search needs
 enum-known-phase-6 : tie.Need-enum-known-phase-6
 enum-known-phase-6 c = search needs
 
+kept-window-requires-3 : tie.Need-kept-window-requires-3
+kept-window-requires-3 c κs = search needs
+
 words-requires-7 : tie.Need-words-requires-7
 words-requires-7 c κs = search needs
 
@@ -56,6 +65,9 @@ words-requires-8 c κs = search needs
 enum-known-phase-8 : tie.Need-enum-known-phase-8
 enum-known-phase-8 c = search needs
 
+kept-window-requires-4 : tie.Need-kept-window-requires-4
+kept-window-requires-4 c κs = search needs
+
 words-requires-9 : tie.Need-words-requires-9
 words-requires-9 c κs = search needs
 
@@ -67,6 +79,9 @@ words-requires-10 c κs = search needs
 
 enum-known-phase-10 : tie.Need-enum-known-phase-10
 enum-known-phase-10 c = search needs
+
+kept-window-requires-5 : tie.Need-kept-window-requires-5
+kept-window-requires-5 c κs = search needs
 
 words-requires-11 : tie.Need-words-requires-11
 words-requires-11 c κs = search needs
@@ -87,11 +102,11 @@ returns-2 c = c .words2 .ensures ∙ simp (c .before .before .phase .given .1)
 
 returns-3 : tie.Need-returns-3
 unfolding encode encodePhase
-returns-3 c = c .words3 .ensures ∙ simp (c .before .before .phase2 .given .1)
+returns-3 c = c .words3 .ensures ∙ simp (c .before .kept-window .ensures, c .before .before .before .phase2 .given .1)
 
 returns-4 : tie.Need-returns-4
 unfolding encode encodePhase
-returns-4 c = c .words4 .ensures ∙ simp (c .before .before .phase3 .given .1)
+returns-4 c = c .words4 .ensures ∙ simp (c .before .kept-window2 .ensures, c .before .before .before .phase3 .given .1)
 
 returns-5 : tie.Need-returns-5
 unfolding encode encodePhase
@@ -103,7 +118,7 @@ returns-6 c = c .words6 .ensures ∙ simp (c .before .before .phase5 .given .1)
 
 returns-7 : tie.Need-returns-7
 unfolding encode encodePhase
-returns-7 c = c .words7 .ensures ∙ simp (c .before .before .phase6 .given .1)
+returns-7 c = c .words7 .ensures ∙ simp (c .before .kept-window3 .ensures, c .before .before .before .phase6 .given .1)
 
 returns-8 : tie.Need-returns-8
 unfolding encode encodePhase
@@ -111,7 +126,7 @@ returns-8 c = c .words8 .ensures ∙ simp (c .before .before .phase7 .given .1)
 
 returns-9 : tie.Need-returns-9
 unfolding encode encodePhase
-returns-9 c = c .words9 .ensures ∙ simp (c .before .before .phase8 .given .1)
+returns-9 c = c .words9 .ensures ∙ simp (c .before .kept-window4 .ensures, c .before .before .before .phase8 .given .1)
 
 returns-10 : tie.Need-returns-10
 unfolding encode encodePhase
@@ -119,7 +134,7 @@ returns-10 c = c .words10 .ensures ∙ simp (c .before .before .phase9 .given .1
 
 returns-11 : tie.Need-returns-11
 unfolding encode encodePhase
-returns-11 c = c .words11 .ensures ∙ simp (c .before .before .phase10 .given .1)
+returns-11 c = c .words11 .ensures ∙ simp (c .before .kept-window5 .ensures, c .before .before .before .phase10 .given .1)
 
 returns-12 : tie.Need-returns-12
 unfolding encode encodePhase
@@ -134,22 +149,27 @@ slot-of-spec =
     enum-known-phase
     words-requires-2
     enum-known-phase-2
+    kept-window-requires
     words-requires-3
     enum-known-phase-3
+    kept-window-requires-2
     words-requires-4
     enum-known-phase-4
     words-requires-5
     enum-known-phase-5
     words-requires-6
     enum-known-phase-6
+    kept-window-requires-3
     words-requires-7
     enum-known-phase-7
     words-requires-8
     enum-known-phase-8
+    kept-window-requires-4
     words-requires-9
     enum-known-phase-9
     words-requires-10
     enum-known-phase-10
+    kept-window-requires-5
     words-requires-11
     enum-known-phase-11
     words-requires-12

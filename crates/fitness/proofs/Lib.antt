@@ -1,0 +1,4 @@
+-- What the proofs of the functions cite.
+pub mod Looks
+pub mod Pairs
+pub mod Seen

@@ -1,0 +1,158 @@
+// A queue's windows: how many are live, how large they are and the next one is, and that they lead from T up to P.
+use crate::limits::size_fit;
+use image::MARK;
+use image::PAIR_WORDS;
+use image::PAIRS;
+use image::TOP;
+use image::WINDOWS_WORDS;
+use image::is_windowed;
+use image::live_of;
+use image::next_size;
+use image::nth_size;
+use image::size_set;
+use image::take_bottom;
+use image::windows_at;
+use rules::Settings;
+use rules::Size;
+use rules::numbers::MOST_LIVE;
+ghost use mathlib.Core.Path.{_≡_};
+ghost use Prim.Native.Nat.{_+_, _-_, _<_, _≤_};
+ghost use lib.Dec.{leb, eqb};
+ghost use lib.ListN.{length, getD};
+ghost use Rattle.fitness.specs.Alike.{wantedSize, sameSize};
+ghost use Rattle.laws.specs.Choice.{both, all, allBelow};
+ghost use Rattle.rules.specs.Fit.{pairFit, sizesFit, topsFit, windowsFit};
+ghost use Rattle.rules.specs.Layout.{markAt, topAt, setAt, pairAt, needed};
+ghost use Rattle.rules.specs.Limits.{Bounds, mostLive, sizeFit};
+ghost use Rattle.rules.specs.Windows.{nthSize, bottomOf, liveOf};
+
+// Whether the words from one place up to another are zero: one look at all of them together.
+fn zeros(words: &[u32], from: usize, to: usize) -> bool
+    requires { ⌜ (from ≤ to) × (to ≤ length (now words)) ⌝ }
+    ensures { λ r. ⌜ r ≡ allBelow (to - from) (λ k. eqb (getD (now (words .entry)) (from + k) 0) 0) ⌝ }
+{
+    let mut any: u32 = 0;
+    let mut at = from;
+    while at < to {
+        any = any | words[at];
+        at += 1;
+    }
+    any == 0
+}
+
+// The size of the pair `k`, where all live windows are so large.
+fn wanted(live: u32, size: Size, k: u32) -> Size
+    ensures { λ r. ⌜ r ≡ wantedSize live size k ⌝ }
+{
+    if k < live {
+        return size;
+    }
+    Size { width: 0, depth: 0 }
+}
+
+// Whether the live windows are all so large, and no pair beyond has a size. It goes through all pairs and asks once: that is vector code.
+fn alike(words: &[u32], g: Settings, live: u32, size: Size) -> bool
+    requires { ⌜ Bounds g ⌝ }
+    requires { ⌜ pairAt g mostLive ≤ length (now words) ⌝ }
+    ensures { λ r. ⌜ r ≡ allBelow mostLive (λ k. sameSize (nthSize (now (words .entry)) g k) (wantedSize live size k)) ⌝ }
+{
+    let mut any: u32 = 0;
+    let mut k: u32 = 0;
+    while k < MOST_LIVE {
+        let is = nth_size(words, g, k);
+        let want = wanted(live, size, k);
+        any = any | ((is.width ^ want.width) | (is.depth ^ want.depth));
+        k += 1;
+    }
+    any == 0
+}
+
+// Whether each live window's size is within limits, and they lead from the bottom of the first up to P.
+fn live_fit(words: &[u32], g: Settings, live: u32) -> bool
+    requires { ⌜ Bounds g ⌝ }
+    requires { ⌜ (pairAt g mostLive ≤ length (now words)) × (nthSize (now words) g 0 .depth ≤ getD (now words) markAt 0) ⌝ }
+    requires { ⌜ live ≤ mostLive ⌝ }
+    ensures { λ r. ⌜ r ≡ both (allBelow live (λ k. sizeFit g (nthSize (now (words .entry)) g k))) (eqb (bottomOf (now (words .entry)) g live) (getD (now (words .entry)) topAt 0)) ⌝ }
+{
+    let mut top: u64 = take_bottom(words, g) as u64;
+    let mut k: u32 = 0;
+    while k < live {
+        let size = nth_size(words, g, k);
+        if size_fit(g, size) {
+            top += size.depth as u64;
+            k += 1;
+        } else {
+            return false;
+        }
+    }
+    top == (words[TOP] as u64)
+}
+
+// The same with the pairs beyond, which are zero.
+fn mixed_fit(words: &[u32], g: Settings, live: u32) -> bool
+    requires { ⌜ Bounds g ⌝ }
+    requires { ⌜ (pairAt g mostLive ≤ length (now words)) × (nthSize (now words) g 0 .depth ≤ getD (now words) markAt 0) ⌝ }
+    requires { ⌜ (live ≤ mostLive) × (live ≡ liveOf (now words) g) ⌝ }
+    ensures { λ r. ⌜ r ≡ both (allBelow mostLive (pairFit (now (words .entry)) g)) (eqb (bottomOf (now (words .entry)) g live) (getD (now (words .entry)) topAt 0)) ⌝ }
+{
+    let pairs = windows_at(g) + PAIRS;
+    if zeros(
+        words,
+        pairs + PAIR_WORDS * (live as usize),
+        pairs + PAIR_WORDS * (MOST_LIVE as usize),
+    ) {
+        return live_fit(words, g, live);
+    }
+    false
+}
+
+// The same, by one look where the live windows are all as large as the take window: then they are together as often as deep as it.
+fn pairs_fit(words: &[u32], g: Settings, live: u32) -> bool
+    requires { ⌜ Bounds g ⌝ }
+    requires { ⌜ (pairAt g mostLive ≤ length (now words)) × (nthSize (now words) g 0 .depth ≤ getD (now words) markAt 0) ⌝ }
+    requires { ⌜ (1 ≤ live) × (live ≤ mostLive) × (live ≡ liveOf (now words) g) ⌝ }
+    ensures { λ r. ⌜ r ≡ both (allBelow mostLive (pairFit (now (words .entry)) g)) (eqb (bottomOf (now (words .entry)) g live) (getD (now (words .entry)) topAt 0)) ⌝ }
+{
+    let first = nth_size(words, g, 0);
+    if alike(words, g, live, first) {
+        let top = (take_bottom(words, g) as u64) + (live as u64) * (first.depth as u64);
+        return size_fit(g, first) & (top == (words[TOP] as u64));
+    }
+    mixed_fit(words, g, live)
+}
+
+// Whether a queue's windows are fit.
+fn sizes_fit(words: &[u32], g: Settings) -> bool
+    requires { ⌜ Bounds g ⌝ }
+    requires { ⌜ pairAt g mostLive ≤ length (now words) ⌝ }
+    ensures { λ r. ⌜ r ≡ both (leb (getD (now (words .entry)) (setAt g) 0) 1) (both (all (sizesFit (now (words .entry)) g)) (all (topsFit (now (words .entry)) g))) ⌝ }
+{
+    let live = live_of(words, g);
+    if live < 1 {
+        return false;
+    }
+    if MOST_LIVE < live {
+        return false;
+    }
+    let first = nth_size(words, g, 0);
+    if words[MARK] < first.depth {
+        return false;
+    }
+    ((size_set(words, g) <= 1) & size_fit(g, next_size(words, g))) & pairs_fit(words, g, live)
+}
+
+// Whether the words of windows are fit, where the edition has them: a stack's are zero.
+pub fn windows_fit(words: &[u32], g: Settings) -> bool
+    requires { ⌜ Bounds g ⌝ }
+    requires { ⌜ needed g ≤ length (now words) ⌝ }
+    ensures { λ r. ⌜ r ≡ windowsFit (now (words .entry)) g ⌝ }
+{
+    if is_windowed(g) {
+        if g.kind == 0 {
+            return sizes_fit(words, g);
+        }
+        let at = windows_at(g);
+        return zeros(words, at, at + WINDOWS_WORDS);
+    }
+    true
+}

@@ -1,0 +1,177 @@
+-- What a rule's effect may write of a queue's windows: a window moves on in the shift phase of a queue alone, and a put window only where there may be one
+-- more. So the words have a pair for it, and a take window that goes has one to give up.
+use Prim.Native.Nat.{ℕ, _<_}
+use mathlib.Core.Bool.{Bool, true}
+use mathlib.Core.List.{List}
+use mathlib.Core.Path.{_≡_, refl}
+use lib.Dec.{leb}
+use borrow.Author.Tests.{eq-eqb, ltb-true}
+use Rattle.laws.specs.Choice.{cond, cases, both-true}
+use Rattle.laws.specs.Wrap.{sub32}
+use Rattle.rules.specs.Limits.{windowed, mostLive}
+use Rattle.rules.specs.Windows.{hasWindows, liveOf, sizesOf}
+use Rattle.rules.specs.Fit.{FitPool}
+use Rattle.rules.specs.Worker.{slotAt, phaseOf}
+use Rattle.rules.specs.Effects.{queueView, viewOf, nothingFor}
+use Rattle.rules.specs.Window.{windowRule}
+use Rattle.rules.specs.Read.{missOf, queuePutRead, queueTakeRead, stackRead}
+use Rattle.rules.specs.Check.{checkRule}
+use Rattle.rules.specs.Commit.{commitBy, queuePutCommit, queueTakeCommit, queueCommit, stackCommit}
+use Rattle.rules.specs.Shift.{shiftBy, newTop, mayRise, queueShift, stackShift}
+use Rattle.rules.specs.Confirm.{confirmedOf, confirmBy, queueConfirm, stackConfirm}
+use Rattle.rules.specs.Step.{ruleBy, ruleOf}
+use Rattle.rules.specs.declared.Settings.{Settings}
+use Rattle.rules.specs.declared.Slot.{Slot}
+use Rattle.rules.specs.declared.Span.{Span}
+use Rattle.rules.specs.declared.Side.{Side}
+use Rattle.rules.specs.declared.Side.the-variants.{Putting, Taking}
+use Rattle.rules.specs.declared.Phase.{Phase}
+use Rattle.rules.specs.declared.Phase.the-variants.{Idle, Window, QueuePutRead, QueueTakeRead, StackRead, Check, QueueCommit, StackCommit, QueueShift, StackShift, QueueConfirm, StackConfirm}
+use Rattle.rules.specs.declared.Version.{Version}
+use Rattle.rules.specs.declared.View.{View}
+use Rattle.rules.specs.declared.Effect.{Effect}
+use Rattle.rules.specs.declared.Outcome.{Outcome}
+use Rattle.rules.specs.declared.Outcome.the-variants.{Refused, Moving, Lost, Shifted, Raised, Dropped, Landed, Removed, Empty, Full}
+use Rattle.step.specs.Allowed.{Allowed}
+use Rattle.step.proofs.Seen.{OfQueue, OfStack, of-phase}
+
+-- ---- the phases
+-- a queue alone has a shift phase of this name
+abbrev Shifts : Settings → Phase → Type 0
+Shifts g Idle = Unit {0}
+Shifts g (Window side) = Unit {0}
+Shifts g (QueuePutRead window scan) = Unit {0}
+Shifts g (QueueTakeRead window bare scan sum) = Unit {0}
+Shifts g (StackRead side window version scan sum) = Unit {0}
+Shifts g (Check side version seen) = Unit {0}
+Shifts g (QueueCommit side window seen) = Unit {0}
+Shifts g (StackCommit side seen) = Unit {0}
+Shifts g (QueueShift side window) = g .kind ≡ 0
+Shifts g (StackShift side version scan sum) = Unit {0}
+Shifts g (QueueConfirm window scan sum) = Unit {0}
+Shifts g (StackConfirm side scan sum) = Unit {0}
+
+in-queue : (g : Settings) (s : Slot) → Shifts g (phaseOf g s)
+in-queue g s =
+    of-phase (Shifts g) g s
+    (λ queue. record { window = λ side. tt; put-read = λ e. tt; take-read = λ e. tt; commit = λ side. tt; shift = λ side. queue; confirm = λ e. tt; idle = tt })
+    (record { window = λ side. tt; read = λ side. tt; check = λ side. tt; commit = λ side. tt; shift = λ side. tt; confirm = λ side. tt; idle = tt })
+
+-- ---- the rules
+abbrev Moves : Settings → View → Outcome → Type 0
+Moves g v (Refused n) = Unit {0}
+Moves g v Moving = Unit {0}
+Moves g v Lost = Unit {0}
+Moves g v Shifted = Unit {0}
+Moves g v Raised = (g .kind ≡ 0) × (mayRise g (queueView v) ≡ true)
+Moves g v Dropped = g .kind ≡ 0
+Moves g v (Landed value row stamp) = Unit {0}
+Moves g v (Removed row) = Unit {0}
+Moves g v Empty = Unit {0}
+Moves g v Full = Unit {0}
+
+module _ (g : Settings) (v : View) where
+  abbrev To : Effect → Type 0
+  To e = Moves g v (e .outcome)
+
+  nothing : (side : Side) → Moves g v (nothingFor side)
+  nothing Putting = tt
+  nothing Taking = tt
+
+  window-moves : (side : Side) → To (windowRule g v side)
+  unfolding windowRule
+  window-moves side = cases To _ _ _ (λ e. tt) (λ e. tt)
+
+  miss-moves : (width scan : ℕ) (again after : Phase) (kept : Slot) → To (missOf g width v scan again after kept)
+  unfolding missOf
+  miss-moves width scan again after kept = cases To _ _ _ (λ e. tt) (λ e. tt)
+
+  put-read-moves : (window : Span) (scan : ℕ) → To (queuePutRead g v window scan)
+  unfolding queuePutRead
+  put-read-moves window scan = cases To _ _ _ (λ e. tt) (λ e. miss-moves _ _ _ _ _)
+
+  take-read-moves : (window : Span) (bare scan sum : ℕ) → To (queueTakeRead g v window bare scan sum)
+  unfolding queueTakeRead
+  take-read-moves window bare scan sum =
+      cases To _ _ _ (λ e. miss-moves _ _ _ _ _) (λ e. cases To _ _ _ (λ e′. miss-moves _ _ _ _ _) (λ e′. tt))
+
+  stack-read-moves : (side : Side) (window : ℕ) (version : Version) (scan sum : ℕ) → To (stackRead g v side window version scan sum)
+  unfolding stackRead
+  stack-read-moves side window version scan sum = cases To _ _ _ (λ e. tt) (λ e. miss-moves _ _ _ _ _)
+
+  check-moves : (side : Side) (version seen : Version) → To (checkRule g v side version seen)
+  unfolding checkRule
+  check-moves side version seen = cases To _ _ _ (λ e. tt) (λ e. tt)
+
+  commit-by-moves : (side : Side) (matches able : Bool) (done : Effect) → To done → To (commitBy g v side matches able done)
+  unfolding commitBy
+  commit-by-moves side matches able done d = cases To _ _ _ (λ e. cases To _ _ _ (λ e′. d) (λ e′. tt)) (λ e. tt)
+
+  queue-commit-moves : (side : Side) (window : Span) (seen : ℕ) → To (queueCommit g v side window seen)
+  unfolding queueCommit queuePutCommit queueTakeCommit
+  queue-commit-moves Putting window seen = commit-by-moves Putting _ _ _ tt
+  queue-commit-moves Taking window seen = commit-by-moves Taking _ _ _ tt
+
+  stack-commit-moves : (side : Side) (seen : Version) → To (stackCommit g v side seen)
+  unfolding stackCommit
+  stack-commit-moves Putting seen = commit-by-moves Putting _ _ _ tt
+  stack-commit-moves Taking seen = commit-by-moves Taking _ _ _ tt
+
+  shift-by-moves : (side : Side) (same able : Bool) (moved stuck : Effect) → (able ≡ true → To moved) → To stuck → To (shiftBy g v side same able moved stuck)
+  unfolding shiftBy
+  shift-by-moves side same able moved stuck m s = cases To _ _ _ (λ e. cases To _ _ _ m (λ e′. s)) (λ e. tt)
+
+  -- here one does
+  queue-shift-moves : g .kind ≡ 0 → (side : Side) (window : Span) → To (queueShift g v side window)
+  unfolding queueShift
+  queue-shift-moves queue Putting window = shift-by-moves Putting _ _ _ _ (λ e. (queue, both-true (leb (sub32 (newTop (queueView v)) (queueView v .take .bottom)) (g .rows)) _ e .1)) tt
+  queue-shift-moves queue Taking window = shift-by-moves Taking _ _ _ _ (λ e. queue) tt
+
+  stack-shift-moves : (side : Side) (version : Version) (scan sum : ℕ) → To (stackShift g v side version scan sum)
+  unfolding stackShift
+  stack-shift-moves Putting version scan sum = shift-by-moves Putting _ _ _ _ (λ e. tt) tt
+  stack-shift-moves Taking version scan sum = shift-by-moves Taking _ _ _ _ (λ e. tt) tt
+
+  confirm-by-moves : (side : Side) (width scan left : ℕ) (again : Phase) (sure : Bool) → To (confirmBy g v side width scan left again sure)
+  unfolding confirmBy confirmedOf
+  confirm-by-moves side width scan left again sure = cases To _ _ _ (λ e. tt) (λ e. cases To _ _ _ (λ e′. nothing side) (λ e′. tt))
+
+  rule-moves : (p : Phase) → Shifts g p → To (ruleBy g v p)
+  unfolding ruleBy queueConfirm stackConfirm
+  rule-moves Idle q = tt
+  rule-moves (Window side) q = window-moves side
+  rule-moves (QueuePutRead window scan) q = put-read-moves window scan
+  rule-moves (QueueTakeRead window bare scan sum) q = take-read-moves window bare scan sum
+  rule-moves (StackRead side window version scan sum) q = stack-read-moves side window version scan sum
+  rule-moves (Check side version seen) q = check-moves side version seen
+  rule-moves (QueueCommit side window seen) q = queue-commit-moves side window seen
+  rule-moves (StackCommit side seen) q = stack-commit-moves side seen
+  rule-moves (QueueShift side window) q = queue-shift-moves q side window
+  rule-moves (StackShift side version scan sum) q = stack-shift-moves side version scan sum
+  rule-moves (QueueConfirm window scan sum) q = confirm-by-moves Taking _ _ _ _ _
+  rule-moves (StackConfirm side scan sum) q = confirm-by-moves side _ _ _ _ _
+
+-- ---- the words
+module _ (ws : List ℕ) (g : Settings) (at : ℕ) (f : FitPool g ws) where
+  has : windowed g ≡ true → g .kind ≡ 0 → hasWindows g ≡ true
+  has e queue = rw (e, eq-eqb _ _ queue) refl
+
+  free : g .kind ≡ 0 → mayRise g (queueView (viewOf ws g at)) ≡ true → windowed g ≡ true → liveOf ws g < mostLive
+  unfolding viewOf sizesOf cond
+  free queue may e = ltb-true _ _ (rw (has e queue, e) at may)
+
+  allowed-by : (o : Outcome) → Moves g (viewOf ws g at) o → Allowed ws g o
+  allowed-by (Refused n) m = tt
+  allowed-by Moving m = tt
+  allowed-by Lost m = tt
+  allowed-by Shifted m = tt
+  allowed-by Raised m = free (m .0) (m .1)
+  allowed-by Dropped m = λ e. f .windows (has e m) .live1
+  allowed-by (Landed value row stamp) m = tt
+  allowed-by (Removed row) m = tt
+  allowed-by Empty m = tt
+  allowed-by Full m = tt
+
+  pub rule-allowed : Allowed ws g (ruleOf g (viewOf ws g at) .outcome)
+  unfolding ruleOf viewOf
+  rule-allowed = allowed-by (ruleOf g (viewOf ws g at) .outcome) (rule-moves g (viewOf ws g at) (phaseOf g (slotAt g ws at)) (in-queue g (slotAt g ws at)))
