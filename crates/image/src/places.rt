@@ -79,11 +79,12 @@ pub const WORKER_WORDS: usize = SEEN_WIDTH + 1;
 // A cell: value, stamp.
 pub const CELL_WORDS: usize = 2;
 
-// Enough for every pool of the edition of the shipped calls, whose workers have no words behind their failed commits and whose windows have none.
+// Enough for every pool of the edition of the shipped calls.
 pub const MOST_WORDS: usize = HEAD_WORDS
     + SUB_WORDS * (WIDEST as usize)
-    + BOTTOM * (MOST_WORKERS as usize)
-    + CELL_WORDS * (MOST_CELLS as usize);
+    + WORKER_WORDS * (MOST_WORKERS as usize)
+    + CELL_WORDS * (MOST_CELLS as usize)
+    + WINDOWS_WORDS;
 
 // Where sub `j` lies.
 pub fn sub_at(j: u32) -> usize

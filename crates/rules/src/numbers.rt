@@ -55,7 +55,7 @@ pub const TAKE_SHIFT: u32 = TAKING + SHIFT;
 pub const TAKE_CONFIRM: u32 = TAKING + CONFIRM;
 
 // The edition of the shipped calls.
-pub const SHIPPED: u32 = 1;
+pub const SHIPPED: u32 = 2;
 
 // The first edition whose windows have sizes of their own.
 pub const WINDOWED: u32 = 2;

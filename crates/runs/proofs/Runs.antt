@@ -47,7 +47,7 @@ use Rattle.runs.specs.Solos.{solos}
 use Rattle.runs.specs.Stretches.{Stretch, Unanswered, stretches}
 use Rattle.rules.specs.Move.{workerMoved, workersMoved, headMoved, cellsMoved, movedWords, fitMove, checkedMove, moveOf}
 use Rattle.runs.specs.Moves.{MovesByHand}
-use Rattle.runs.specs.Cards.{Cards, Says, carded, editionZero, EditionsByHand}
+use Rattle.runs.specs.Cards.{Cards, Says, carded, editionZero, editionOne, EditionsByHand}
 use Rattle.runs.specs.Tests.{every, sameList, lineTests, sameLine, holds, gives, reaches, says, unanswered}
 
 pub make-number : (ws : List ℕ) (g : Settings) → numberOf (makeOf ws g .answer) ≡ makeNumber g (length ws)
@@ -111,11 +111,11 @@ stretch-unanswered s t =
     }
 
 -- ---- the tables
-tables-pass : (every holds table ≡ true) × (every holds strides ≡ true) × (every reaches extremes ≡ true) × (every reaches spacers ≡ true) × (every reaches solos ≡ true) × (every unanswered stretches ≡ true) × (every says carded ≡ true) × (every holds editionZero ≡ true)
-unfolding table strides extremes spacers solos stretches carded editionZero wordsAfter mostPassed leastFull frameworkBound exactBound thesisBound k14Bound countedSteps eventsOf runOf linesOf makeNumber windowed settingsFit workerWords windowsWords sizesOf levelOf seenBy run callOf cond allBelow slotAt putSlot queuePhase stackPhase phaseOf encode encodePhase subFit subsFit phaseFit seenFit workerFit workersFit windowsFit bodyChecked headChecked checkedBy zeroed indexed madeWords makeOf slotBegin fitBegin checkedBegin beginOf viewOf nextOf hopOf windowRule missOf queuePutRead queueTakeRead stackRead checkRule commitBy queuePutCommit queueTakeCommit queueCommit stackCommit shiftBy queueShift stackShift confirmedOf confirmBy queueConfirm stackConfirm bandCount bandOf itemsAbove heldBands heldSub heldBelow countItems passedOf distanceOf putItem putSub putLanded putShifted putRaised putDropped countLost putWorker takenOf applyBy applyOf ruleBy ruleOf slotStep fitStep checkedStep stepOf
-tables-pass = (refl, refl, refl, refl, refl, refl, refl, refl)
+tables-pass : (every holds table ≡ true) × (every holds strides ≡ true) × (every reaches extremes ≡ true) × (every reaches spacers ≡ true) × (every reaches solos ≡ true) × (every unanswered stretches ≡ true) × (every says carded ≡ true) × (every holds editionZero ≡ true) × (every holds editionOne ≡ true)
+unfolding table strides extremes spacers solos stretches carded editionZero editionOne wordsAfter mostPassed leastFull frameworkBound exactBound thesisBound k14Bound countedSteps eventsOf runOf linesOf makeNumber windowed settingsFit workerWords windowsWords sizesOf levelOf seenBy run callOf cond allBelow slotAt putSlot queuePhase stackPhase phaseOf encode encodePhase subFit subsFit phaseFit seenFit workerFit workersFit windowsFit bodyChecked headChecked checkedBy zeroed indexed madeWords makeOf slotBegin fitBegin checkedBegin beginOf viewOf nextOf hopOf windowRule missOf queuePutRead queueTakeRead stackRead checkRule commitBy queuePutCommit queueTakeCommit queueCommit stackCommit shiftBy queueShift stackShift confirmedOf confirmBy queueConfirm stackConfirm bandCount bandOf itemsAbove heldBands heldSub heldBelow countItems passedOf distanceOf putItem putSub putLanded putShifted putRaised putDropped countLost putWorker takenOf applyBy applyOf ruleBy ruleOf slotStep fitStep checkedStep stepOf
+tables-pass = (refl, refl, refl, refl, refl, refl, refl, refl, refl)
 
-pub runs-hold : AllHold table × AllHold strides × All Reaches extremes × All Reaches spacers × All Reaches solos × All Unanswered stretches × All Says carded × AllHold editionZero
+pub runs-hold : AllHold table × AllHold strides × All Reaches extremes × All Reaches spacers × All Reaches solos × All Unanswered stretches × All Says carded × AllHold editionZero × AllHold editionOne
 runs-hold = (
   all-from-tests holds row-holds table (tables-pass .0),
   all-from-tests holds row-holds strides (tables-pass .1),
@@ -125,6 +125,7 @@ runs-hold = (
   all-from-tests unanswered stretch-unanswered stretches (tables-pass .5),
   all-from-tests says cards-say carded (tables-pass .6),
   all-from-tests holds row-holds editionZero (tables-pass .7),
+  all-from-tests holds row-holds editionOne (tables-pass .8),
 )
 
 -- ---- a sub's segments
@@ -146,7 +147,7 @@ segments-by-hand = (
 -- ---- editions
 pub editions-by-hand : EditionsByHand
 unfolding makeOf madeWords zeroed indexed workerWords windowsWords windowed settingsFit headChecked checkedBy bodyChecked windowsFit subsFit subFit levelOf workersFit workerFit slotAt seenFit phaseFit allBelow cond
-editions-by-hand = (refl, refl, refl, refl, refl, refl, refl, refl, refl, refl, refl)
+editions-by-hand = (refl, refl, refl, refl, refl, refl, refl, refl, refl, refl, refl, refl, refl)
 
 -- ---- moves
 pub moves-by-hand : MovesByHand

@@ -1,4 +1,4 @@
--- K5 by hand: what the workers' cards say after a run; runs in edition 0, which has no cards and needs a word less for each worker; and what the check says of
+-- K5 by hand: what the workers' cards say after a run; runs in editions 0 and 1, of which the first has no cards and needs a word less for each worker; and what the check says of
 -- the number in word 11.
 use Prim.Native.Nat.{ℕ, zero, suc}
 use mathlib.Core.List.{List, [], _∷_, _++_, map}
@@ -62,10 +62,17 @@ editionZero =
     makes (inEdition 0 (queue 2 1 4 2)) 47 21 ∷
     map (λ (x : Cards). rowIn 0 (x .row)) carded
 
--- ---- "Word 11 becomes the edition, set to 1 by make, and must be 1; an image with 0 there isn't fit"
+-- K5's: 50 words, and 49 gives 21
+unfoldable pub editionOne : List Row
+editionOne =
+    makes (inEdition 1 (queue 2 1 4 2)) 50 0 ∷
+    makes (inEdition 1 (queue 2 1 4 2)) 49 21 ∷
+    map (λ (x : Cards). rowIn 1 (x .row)) carded
+
+-- ---- "Word 11 becomes the edition" (K5); "Edition 2, made by make and then the only fit one" (K8)
 -- the words of a make, as its caller names the settings of the first run by hand, with all that are needed lent
 abbrev made : List ℕ
-made = makeOf (replicate 50 0) (settingsFrom 0 2 1 1 4 2 0) .words
+made = makeOf (replicate 90 0) (settingsFrom 0 2 1 1 4 2 0) .words
 
 -- what the check of the shipped calls comes to where a number stands in word 11
 abbrev checkedWith : ℕ → List ℕ → ℕ
@@ -73,16 +80,18 @@ checkedWith edition ws = refusalOf (checkedOf shipped (set ws editionAt edition)
 
 abbrev pub EditionsByHand : Type 0
 EditionsByHand =
-    (getD made editionAt 0 ≡ 1)
-    × (checkedWith 1 made ≡ 0)
+    (getD made editionAt 0 ≡ 2)
+    × (checkedWith 2 made ≡ 0)
     × (checkedWith 0 made ≡ 23)
-    × (checkedWith 2 made ≡ 23)
+    × (checkedWith 1 made ≡ 23)
+    × (checkedWith 3 made ≡ 23)
     × (checkedWith 4294967295 made ≡ 23)
     -- one word short, and with the first 12 alone: 23 comes before the needed words' 21; 11 are too few for either
-    × (checkedWith 1 (cut 49 made) ≡ 21)
-    × (checkedWith 0 (cut 49 made) ≡ 23)
-    × (checkedWith 1 (cut 12 made) ≡ 21)
-    × (checkedWith 0 (cut 12 made) ≡ 23)
-    × (checkedWith 0 (cut 11 made) ≡ 21)
-    -- nor is it fit for the calls of edition 0
+    × (checkedWith 2 (cut 89 made) ≡ 21)
+    × (checkedWith 1 (cut 89 made) ≡ 23)
+    × (checkedWith 2 (cut 12 made) ≡ 21)
+    × (checkedWith 1 (cut 12 made) ≡ 23)
+    × (checkedWith 1 (cut 11 made) ≡ 21)
+    -- nor is it fit for the calls of editions 0 and 1
     × (refusalOf (checkedOf 0 made) ≡ 23)
+    × (refusalOf (checkedOf 1 made) ≡ 23)

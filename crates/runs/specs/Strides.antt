@@ -30,10 +30,10 @@ stackTakes stride second =
 unfoldable pub strides : List Row
 strides =
     -- w 3 has strides 0 to 2; w 1 has only 0
-    makes (withStride (queue 3 1 2 1) 2) 39 0 ∷
-    makes (withStride (queue 3 1 2 1) 3) 39 22 ∷
-    makes (withStride (queue 1 1 2 1) 0) 27 0 ∷
-    makes (withStride (queue 1 1 2 1) 1) 27 22 ∷
+    makes (withStride (queue 3 1 2 1) 2) 77 0 ∷
+    makes (withStride (queue 3 1 2 1) 3) 77 22 ∷
+    makes (withStride (queue 1 1 2 1) 0) 65 0 ∷
+    makes (withStride (queue 1 1 2 1) 1) 65 22 ∷
     -- stride 2: from sub 0 to 2; strides 0 and 1: from sub 0 to 1
     queuePuts 2 2 ∷
     queuePuts 0 1 ∷

@@ -21,13 +21,13 @@ twoLines = landed 0 3 5 0 1 1 ∷ landed 1 9 6 0 2 2 ∷ []
 
 unfoldable pub table : List Row
 table =
-    -- w 2, R 4, n 2 need 50 words; 49 gives 21 (paper 02, K5)
-    makes (queue 2 1 4 2) 50 0 ∷
-    makes (queue 2 1 4 2) 49 21 ∷
+    -- w 2, R 4, n 2 need 90 words; 89 gives 21 (paper 02, K8)
+    makes (queue 2 1 4 2) 90 0 ∷
+    makes (queue 2 1 4 2) 89 21 ∷
     -- w 16, R 256 is made, R 257 (d = 1) gives 22; w 17 gives 22
-    makes (queue 16 1 256 1) 8245 0 ∷
-    makes (queue 16 1 257 1) 8277 22 ∷
-    makes (queue 17 1 2 1) 123 22 ∷
+    makes (queue 16 1 256 1) 8283 0 ∷
+    makes (queue 16 1 257 1) 8315 22 ∷
+    makes (queue 17 1 2 1) 161 22 ∷
     -- line w 2, d 1, R 2, one worker: four puts land at sub/row 0/1, 1/1, 1/2, 0/2 in 3, 4, 7, 4 steps; the fifth is full in 4
     runs (queue 2 1 2 1) fivePuts fiveLines ∷
     -- then a take: stamp 1, distance 0, 3 steps

@@ -15,7 +15,7 @@ use Rattle.program.proofs.run.print_file.Tie as tie
 
 abbrev Inv-loop : tie.InvT-loop
 Inv-loop mode words₀ src₀ out₀ run₀ words src out run =
-    (length words ≡ 8524) × (length src ≡ 65536) × (length out ≡ 65536) × (run .stretch .used ≤ 65536) × (run .ended ≡ false → (run .stretch .at ≡ 0) × (run .carried ≤ 65536))
+    (length words ≡ 8624) × (length src ≡ 65536) × (length out ≡ 65536) × (run .stretch .used ≤ 65536) × (run .ended ≡ false → (run .stretch .at ≡ 0) × (run .carried ≤ 65536))
     × (run .ended ≡ true → run .stretch .complete ≡ true) × (run .reads ≤ mostReads) × (Left mode run₀ src₀ words₀ out₀ → Left mode run src words out)
 
 abbrev μ-loop : tie.MeasureT-loop

@@ -27,7 +27,7 @@ unfolding workerWords windowsWords savedOf
 returns c =
     let a = c .before .before .before .before .before .args in
     let m = c .before .before .move-words in
-    let o = moveOf (a .old) (a .new) (wordsIn (a .src .now)) (replicate 8524 0) in
+    let o = moveOf (a .old) (a .new) (wordsIn (a .src .now)) (replicate 8624 0) in
     let number : m .result ≡ numberOf (o .answer) = ap (λ (x : Returned). x .number) (m .ensures) in
     (ap (λ (n : ℕ). filedIn (a .out .now) (saved n [])) number ∙ ap (filedIn (a .out .now)) (sym (refused-nothing o (λ z. c .if1 .taken (number ∙ z)))), omega arith)
 
@@ -39,10 +39,10 @@ unfolding workerWords windowsWords
 put-pool-requires c κs =
     let a = c .before .before .before .before .before .before .before .args in
     let m = c .before .before .before .before .move-words in
-    let o = moveOf (a .old) (a .new) (wordsIn (a .src .now)) (replicate 8524 0) in
+    let o = moveOf (a .old) (a .new) (wordsIn (a .src .now)) (replicate 8624 0) in
     let number : m .result ≡ numberOf (o .answer) = ap (λ (x : Returned). x .number) (m .ensures) in
     let words : m .last .1 .1 .0 ≡ o .words = ap (λ (x : Returned). x .words) (m .ensures) in
-    let pool = moved-pool (a .old) (a .new) (wordsIn (a .src .now)) (replicate 8524 0) (sym number ∙ c .before .before .if1 .left) in
+    let pool = moved-pool (a .old) (a .new) (wordsIn (a .src .now)) (replicate 8624 0) (sym number ∙ c .before .before .if1 .left) in
     let here = subst (λ (ws : List ℕ). MovedPool ws (settingsOf ws)) (sym words) pool in
     (here .bounds, (here .enough, omega (arith, needed-most (settingsOf (m .last .1 .1 .0)) (here .old) (here .bounds))))
 
@@ -51,7 +51,7 @@ unfolding workerWords windowsWords savedOf
 returns-2 c =
     let a = c .before .before .before .before .before .before .before .before .args in
     let m = c .before .before .before .before .before .move-words in
-    let o = moveOf (a .old) (a .new) (wordsIn (a .src .now)) (replicate 8524 0) in
+    let o = moveOf (a .old) (a .new) (wordsIn (a .src .now)) (replicate 8624 0) in
     let number : m .result ≡ numberOf (o .answer) = ap (λ (x : Returned). x .number) (m .ensures) in
     let words : m .last .1 .1 .0 ≡ o .words = ap (λ (x : Returned). x .words) (m .ensures) in
     let p = c .put-pool in

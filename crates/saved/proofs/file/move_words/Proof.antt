@@ -46,9 +46,9 @@ returns c =
     let to = a .to .now in
     let words = wordsIn (a .src .now) in
     let g = c .before .before .before .before .before .before .before .get-words in
-    let first : take (g .result) (g .last .1 .0) ≡ take 8524 words = rw (g .ensures .0) (take-at (take 8524 words) _ (g .result) (sym (g .ensures .1 .0))) in
+    let first : take (g .result) (g .last .1 .0) ≡ take 8624 words = rw (g .ensures .0) (take-at (take 8624 words) _ (g .result) (sym (g .ensures .1 .0))) in
     rw (c .number .ensures)
-    (ap returnedAlone (m .ensures ∙ ap (λ (ws : List ℕ). moveOf (a .old) (a .new) ws to) first ∙ largest-enough (a .old) (a .new) 8524 words to (omega arith)))
+    (ap returnedAlone (m .ensures ∙ ap (λ (ws : List ℕ). moveOf (a .old) (a .new) ws to) first ∙ largest-enough (a .old) (a .new) 8624 words to (omega arith)))
 
 pub move-words-spec : {M : Type 1} → statement M
 move-words-spec =
