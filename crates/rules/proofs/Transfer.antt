@@ -1,5 +1,5 @@
--- From a kind's law of one step to demand 3 over the words: the machine's run has its order (Order), and the run over the
--- words has the same events, since the words follow the machine from make on.
+-- From a kind's law of one step to demand 3 over the words: the run over the words is one of the machine's, since the words follow the machine from
+-- make on, and a run of the machine has its order (Order).
 use mathlib.Core.Path.{_≡_, refl, sym, ap, _∙_, subst}
 use mathlib.Core.Bool.{true}
 use mathlib.Core.List.{List, [], _∷_}
@@ -19,7 +19,7 @@ use Rattle.rules.specs.Spacers.{NoSpacer}
 use Rattle.rules.proofs.order.Closest.{OneAtATime}
 use Rattle.rules.proofs.Types.{Settings, Answer}
 use Rattle.rules.proofs.counts.Held.{count-none}
-use Rattle.rules.proofs.order.Law.{Next, events, Status, idle, pending, tried, AllSame, refused, passes, opened, walks, tries, stays, loses, ends, wins, Others}
+use Rattle.rules.proofs.order.Law.{Next, Status, idle, pending, tried, AllSame, refused, passes, opened, walks, tries, stays, loses, ends, wins, Others, Runs, none, calls}
 use Rattle.rules.proofs.order.Order.{one-at-a-time}
 use Rattle.rules.proofs.order.NoSpacers.{NoSpacerUnderWay, NoSpacers as NoSpacersOf, no-spacers-next, begun-no-spacer, no-spacer-joins}
 use Rattle.rules.proofs.Fitness.{settings-bounds}
@@ -140,9 +140,6 @@ module _ (g : Settings) (limits : settingsFit g ≡ true) (k : Kind g) where
   pub made-no-spacers : NoSpacers (madeIn g) noItems
   made-no-spacers = record { listed = count-none isSpacer; under-way = λ i. rw (made-idle i) tt }
 
-  machine-order : (cs : List Call) → OneAtATime g (events (nextIn g) (madeIn g) cs)
-  machine-order cs = one-at-a-time g (nextIn g) (statusIn g) Whole (k .Snap) whole-turn (madeIn g) made-whole made-idle cs
-
   -- ---- the words
   pub record Related (ws : List ℕ) (s : State) : Type 0 where
     pub says : Says g ws s
@@ -179,13 +176,11 @@ module _ (g : Settings) (limits : settingsFit g ≡ true) (k : Kind g) where
         no-spacers = n .no-spacers;
       }
 
-  pub events-same : {ws : List ℕ} {s : State} → Related ws s → (cs : List Call) → run (g .edition) ws cs ≡ events (nextIn g) s cs
-  unfolding run events
-  events-same r [] = refl
-  events-same r (c ∷ cs) =
-      let n = next-related r c in
-      let rest = events-same (n .related) cs in
-      λ u. record { call = c; answer = n .answer u; measures = n .measures u } ∷ rest u
+  -- the run over the words is one of the machine
+  runs : {ws : List ℕ} {s : State} → Related ws s → (cs : List Call) → Runs g (nextIn g) (statusIn g) Whole (k .Snap) s (run (g .edition) ws cs)
+  unfolding run
+  runs r [] = none
+  runs r (c ∷ cs) = let n = next-related r c in calls c (λ u. record { call = c; answer = n .answer u; measures = n .measures u }) (runs (n .related) cs)
 
   -- the words after a list of calls
   pub record After-calls (ws : List ℕ) : Type 0 where
@@ -202,4 +197,4 @@ module _ (g : Settings) (limits : settingsFit g ≡ true) (k : Kind g) where
       record { says = rw (a .words) (made-says ws g (a .enough)); list = noItems; whole = made-whole }
 
   pub words-order : (ws : List ℕ) → Accepted ws g → (cs : List Call) → OneAtATime g (run (g .edition) (makeOf ws g .words) cs)
-  words-order ws a cs = rw (events-same (made-related ws a) cs) (machine-order cs)
+  words-order ws a cs = one-at-a-time g (nextIn g) (statusIn g) Whole (k .Snap) whole-turn (madeIn g) made-whole made-idle _ (runs (made-related ws a) cs)
