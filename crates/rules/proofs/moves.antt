@@ -5,3 +5,5 @@ pub mod Dispatches
 pub mod Moved
 pub mod Back
 pub mod Over
+pub mod Machine
+pub mod Kept

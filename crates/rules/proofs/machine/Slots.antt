@@ -25,15 +25,15 @@ OfKind g p = (g .kind ≡ 0 → OfQueue g p) × (g .kind ≢ 0 → OfStack p)
 abbrev pub FromSlot : Settings → Slot → Phase → Type 0
 FromSlot g o p = (scanIn p (o .scan) ≡ o .scan) × WindowIn (λ window. (window ≡ seenBy g o) × (pastWindow (o .number) ≡ true)) p
 
-past : (o : Slot) (n : ℕ) → pastWindow n ≡ true → eqb (o .number) n ≡ true → pastWindow (o .number) ≡ true
+pub past : (o : Slot) (n : ℕ) → pastWindow n ≡ true → eqb (o .number) n ≡ true → pastWindow (o .number) ≡ true
 past o n h e = subst (λ (x : ℕ). pastWindow x ≡ true) (sym (eqb-true (o .number) n e)) h
 
 -- the numbers of a queue's phases that have a window
-past-put : (pastWindow 2 ≡ true) × (pastWindow 4 ≡ true) × (pastWindow 5 ≡ true)
+pub past-put : (pastWindow 2 ≡ true) × (pastWindow 4 ≡ true) × (pastWindow 5 ≡ true)
 unfolding cond
 past-put = (refl, refl, refl)
 
-past-take : (pastWindow 10 ≡ true) × (pastWindow 12 ≡ true) × (pastWindow 13 ≡ true) × (pastWindow 14 ≡ true)
+pub past-take : (pastWindow 10 ≡ true) × (pastWindow 12 ≡ true) × (pastWindow 13 ≡ true) × (pastWindow 14 ≡ true)
 unfolding cond
 past-take = (refl, refl, refl, refl)
 
@@ -180,7 +180,7 @@ module _ (g : Settings) where
   span-limits s h =
       rw (le-leb 1 (s .width) (h .width1), le-leb (s .width) (g .width) (h .width-most), lt-ltb (s .index) (s .width) (h .index), lt-ltb (s .scan) (s .width) (h .scan)) refl
 
-  seen-fits : (s : Slot) → (windowed g ≡ true → g .kind ≡ 0 → pastWindow (s .number) ≡ true → SpanFits g s) → Blank g s → seenFit g s ≡ true
+  pub seen-fits : (s : Slot) → (windowed g ≡ true → g .kind ≡ 0 → pastWindow (s .number) ≡ true → SpanFits g s) → Blank g s → seenFit g s ≡ true
   unfolding seenFit cond
   seen-fits s span blank =
       cases P (windowed g) _ _
