@@ -3,5 +3,6 @@ pub mod Stores
 pub mod InStep
 pub mod Dispatches
 pub mod Moved
+pub mod Related
 pub mod Back
 pub mod Over
