@@ -8,11 +8,12 @@ use Rattle.rules.specs.Answers.{numberOf}
 use Rattle.rules.specs.Layout.{bottomWord, widthWord}
 use Rattle.rules.specs.Limits.{settingsFit}
 use Rattle.rules.specs.Make.{inEdition}
+use Rattle.rules.specs.Sequential.{Contents}
 use Rattle.rules.specs.Move.{newWord, moveOf}
 use Rattle.rules.specs.Worker.{kept}
 use Rattle.rules.proofs.Types.{Settings, Slot}
 use Rattle.rules.proofs.machine.Machine.{State, phaseIn}
-use Rattle.rules.proofs.Transfer.{Related}
+use Rattle.rules.proofs.Transfer.{Whole, Related}
 use Rattle.rules.proofs.Theorem.{kindOf}
 
 -- ---- the state after a move, from settings g to settings h
@@ -47,12 +48,14 @@ movedIn g h s =
       slot = λ i. slotMoved g h (s .slot i);
     }
 
--- ---- what a move leaves, with the same list
+-- ---- what a move leaves, with the same list: every worker is in the phase that it was in, and whatever list it is, what holds goes on holding
 pub record MovedRelated (g : Settings) (limits : settingsFit g ≡ true) (b : ℕ) {ws : List ℕ} {s : State} (r : Related g limits (kindOf g limits) ws s) (vs : List ℕ) : Type 0 where
   pub fits : settingsFit (inEdition b g) ≡ true
   pub related : Related (inEdition b g) fits (kindOf (inEdition b g) fits) vs (movedIn g (inEdition b g) s)
   pub list : related .list ≡ r .list
   pub phase : (i : ℕ) → phaseIn (inEdition b g) (movedIn g (inEdition b g) s) i ≡ phaseIn g s i
+  pub whole : (q : Contents) → Whole g limits (kindOf g limits) s q → Whole (inEdition b g) fits (kindOf (inEdition b g) fits) (movedIn g (inEdition b g) s) q
+  pub snap : (s₀ : State) (q₀ : Contents) (i : ℕ) → kindOf g limits .Snap s₀ q₀ i s → kindOf (inEdition b g) fits .Snap s₀ q₀ i (movedIn g (inEdition b g) s)
 
 abbrev pub MoveRelated : Type 0
 MoveRelated =
