@@ -3,6 +3,7 @@ pub mod Stores
 pub mod InStep
 pub mod Dispatches
 pub mod Moved
+pub mod Related
 pub mod Back
 pub mod Over
 pub mod Machine
