@@ -8,17 +8,15 @@ use mathlib.Core.Logic.{_⊎_}
 use mathlib.Core.Bool.{Bool, true, false, false≢true}
 use Prim.Native.Nat.{ℕ, suc, _+_, _*_, _≤_, _<_}
 use native.Mathlib.Nat.{le-refl, lt-of-mul-lt-mul-right}
+use native.Mathlib.Decide.{ℕ-discrete}
 use native.Mathlib.Omega.{arith}
-use Rattle.laws.specs.Wrap.{sub32}
-use Rattle.rules.specs.Limits.{windowed, mostLive}
-use Rattle.rules.specs.Windows.{hasWindows, sizeOf, spanOf}
+use Rattle.rules.specs.Limits.{windowed, mostLive, settingsFit}
 use Rattle.rules.specs.Make.{inEdition}
 use Rattle.rules.specs.Sequential.{Contents}
 use Rattle.rules.proofs.Types.{Settings, Side, Putting, Taking, Phase, Idle, Window, QueuePutRead, QueueTakeRead, StackRead, Check, QueueCommit, StackCommit, QueueShift, StackShift, QueueConfirm, StackConfirm, Span, Slot}
-use Rattle.rules.proofs.counts.Wraps.{sub32-is}
 use Rattle.rules.proofs.machine.Machine.{Frame, State, topOf, subIn, phaseIn}
-use Rattle.rules.proofs.machine.Good.{Good}
-use Rattle.rules.proofs.machine.Phases.{statusOf}
+use Rattle.rules.proofs.machine.Good.{Good, good}
+use Rattle.rules.proofs.machine.Phases.{WindowIn}
 use Rattle.rules.proofs.machine.Slots.{has-windows}
 use Rattle.rules.proofs.machine.Turns.{Kind, Holding, statusIn}
 use Rattle.rules.proofs.machine.Ways.{Snap, SnapAt}
@@ -26,6 +24,7 @@ use Rattle.rules.proofs.queue.Inv.{Windows, Plain, Pool, Sees, Knows, I
 use Rattle.rules.proofs.queue.Turn.{queueKind}
 use Rattle.rules.proofs.stack.Inv.{Ghost, Sight, sight, versionsIn, Knows as StackKnows, Inv as StackInv, Pool as StackPool, Passed}
 use Rattle.rules.proofs.stack.Turn.{stackKind}
+use Rattle.rules.proofs.Theorem.{kindBy, kindOf}
 use Rattle.rules.proofs.moves.Machine.{movedIn, Movable, OwnSpan, phase-moved}
 
 -- ---- what a kind shows of a move
@@ -34,6 +33,26 @@ pub record KindMoves (g : Settings) (b : ℕ) (k : Kind g) (k′ : Kind (inEditi
   pub kept : (s : State) (q : Contents) → k .Inv s q → Movable g (inEdition b g) s → k′ .Inv (movedIn g (inEdition b g) s) q
   pub snap : (s : State) (q : Contents) → k .Inv s q → Movable g (inEdition b g) s
       → (j : ℕ) (s₀ : State) (q₀ : Contents) → k .Snap s₀ q₀ j s → k′ .Snap s₀ q₀ j (movedIn g (inEdition b g) s)
+
+-- a link is of a phase, and of no edition
+snap-kept : (g : Settings) (b : ℕ) (h₀ : ℕ → ℕ) (q₀ : Contents) (now : ℕ → ℕ) (index : ℕ) (p : Phase) → SnapAt g h₀ q₀ now index p → SnapAt (inEdition b g) h₀ q₀ now index p
+snap-kept g b h₀ q₀ now index Idle z = z
+snap-kept g b h₀ q₀ now index (Window side) z = z
+snap-kept g b h₀ q₀ now index (QueuePutRead window scan) z = z
+snap-kept g b h₀ q₀ now index (QueueTakeRead window bare scan sum) z = z
+snap-kept g b h₀ q₀ now index (StackRead side window version scan sum) z = z
+snap-kept g b h₀ q₀ now index (Check side version seen) z = z
+snap-kept g b h₀ q₀ now index (QueueCommit side window seen) z = z
+snap-kept g b h₀ q₀ now index (StackCommit side seen) z = z
+snap-kept g b h₀ q₀ now index (QueueShift side window) z = z
+snap-kept g b h₀ q₀ now index (StackShift side version scan sum) z = z
+snap-kept g b h₀ q₀ now index (QueueConfirm window scan sum) z = z
+snap-kept g b h₀ q₀ now index (StackConfirm Putting scan sum) z = z
+snap-kept g b h₀ q₀ now index (StackConfirm Taking scan sum) z = z
+
+snap-moved : (g : Settings) (b : ℕ) (h₀ : ℕ → ℕ) (q₀ : Contents) (now : ℕ → ℕ) (index : ℕ) {p p′ : Phase} → p′ ≡ p → SnapAt g h₀ q₀ now index p
+    → SnapAt (inEdition b g) h₀ q₀ now index p′
+snap-moved g b h₀ q₀ now index {p} same z = subst (SnapAt (inEdition b g) h₀ q₀ now index) (sym same) (snap-kept g b h₀ q₀ now index p z)
 
 -- ---- a queue
 module _ (g : Settings) (b : ℕ) (kind : g .kind ≡ 0) (s : State) (q : Contents) (inv : Inv g s q) (able : Movable g (inEdition b g) s) where
@@ -49,58 +68,57 @@ module _ (g : Settings) (b : ℕ) (kind : g .kind ≡ 0) (s : State) (q : Conten
   abbrev o : Pool g s q
   o = inv .pool
 
-  -- an edition whose windows have the pool's size alone
-  not-set : windowed h ≡ false → s .set ≡ 0
-  not-set old = go (windowed g) refl
+  -- windows have the pool's size, of the edition that it comes from or of the one that it leads to
+  not-set : s .set ≡ 0
+  not-set = go (windowed g) refl
     where
       go : (x : Bool) → windowed g ≡ x → s .set ≡ 0
-      go true e = able .back (has-windows g e kind) old
+      go true e = able .back (has-windows g e kind)
       go false e = o .old e .not-set
 
-  own-span : windowed h ≡ false → (window : Span) (limit : ℕ) → limit ≤ f .tail → Sees f limit window → spanOf (window .top) (sizeOf g) ≡ window
-  own-span old window limit l k =
-      let p = o .plain (not-set old) in
-      let at-le : k .at ≤ f .tail = omega (arith, k .at-le) in
-      let top = p .base-is (suc (k .at)) (omega arith) in
-      let bottom = p .base-is (k .at) (omega arith) in
-      let few = base-le (o .windows) (suc (k .at)) (suc (f .tail)) (omega arith) (le-refl _) in
-      let less = sub32-is (window .top) (g .depth) (omega (arith, k .top)) (omega (arith, k .top, top-few o)) in
-      let low : sub32 (window .top) (g .depth) ≡ window .bottom = omega (arith, k .top, k .bottom) in
-      let wide : g .width ≡ window .width = sym (k .wide ∙ p .wide-is (k .at) at-le) in
-      λ u. record { top = window .top; bottom = low u; width = wide u }
+  abbrev plain : Plain g f (s .next) (s .first) (s .puts)
+  plain = o .plain not-set
 
-  own-spans : windowed h ≡ false → (index : ℕ) (p : Phase) → Knows s index p → OwnSpan g p
-  own-spans old index Idle k = tt
-  own-spans old index (Window side) k = tt
-  own-spans old index (QueuePutRead window scan) k = own-span old window (f .tail) (le-refl _) (k .sees)
-  own-spans old index (QueueTakeRead window bare scan sum) k = own-span old window (f .head) (o .windows .order) (k .read .sees)
-  own-spans old index (StackRead side window version scan sum) k = tt
-  own-spans old index (Check side version seen) k = tt
-  own-spans old index (QueueCommit Putting window seen) k = own-span old window (f .tail) (le-refl _) (k .sees)
-  own-spans old index (QueueCommit Taking window seen) k = own-span old window (f .head) (o .windows .order) (k .sees)
-  own-spans old index (StackCommit side seen) k = tt
-  own-spans old index (QueueShift Putting window) k = own-span old window (f .tail) (le-refl _) (k .sees)
-  own-spans old index (QueueShift Taking window) k = own-span old window (f .head) (o .windows .order) (k .sees)
-  own-spans old index (StackShift side version scan sum) k = tt
-  own-spans old index (QueueConfirm window scan sum) k = own-span old window (f .head) (o .windows .order) (k .sees)
-  own-spans old index (StackConfirm side scan sum) k = tt
+  own-span : (window : Span) (limit : ℕ) → limit ≤ f .tail → Sees f limit window → OwnSpan g window
+  own-span window limit l k =
+      let at-le : k .at ≤ f .tail = omega (arith, k .at-le) in
+      let top = plain .base-is (suc (k .at)) (omega arith) in
+      let bottom = plain .base-is (k .at) (omega arith) in
+      let few = base-le (o .windows) (suc (k .at)) (suc (f .tail)) (omega arith) (le-refl _) in
+      record {
+        wide = k .wide ∙ plain .wide-is (k .at) at-le;
+        deep = omega (arith, k .top, k .bottom);
+        few = omega (arith, k .top, top-few o);
+      }
+
+  own-spans : (index : ℕ) (p : Phase) → Knows s index p → WindowIn (OwnSpan g) p
+  own-spans index Idle k = tt
+  own-spans index (Window side) k = tt
+  own-spans index (QueuePutRead window scan) k = own-span window (f .tail) (le-refl _) (k .sees)
+  own-spans index (QueueTakeRead window bare scan sum) k = own-span window (f .head) (o .windows .order) (k .read .sees)
+  own-spans index (StackRead side window version scan sum) k = tt
+  own-spans index (Check side version seen) k = tt
+  own-spans index (QueueCommit Putting window seen) k = own-span window (f .tail) (le-refl _) (k .sees)
+  own-spans index (QueueCommit Taking window seen) k = own-span window (f .head) (o .windows .order) (k .sees)
+  own-spans index (StackCommit side seen) k = tt
+  own-spans index (QueueShift Putting window) k = own-span window (f .tail) (le-refl _) (k .sees)
+  own-spans index (QueueShift Taking window) k = own-span window (f .head) (o .windows .order) (k .sees)
+  own-spans index (StackShift side version scan sum) k = tt
+  own-spans index (QueueConfirm window scan sum) k = own-span window (f .head) (o .windows .order) (k .sees)
+  own-spans index (StackConfirm side scan sum) k = tt
 
   queue-phase : (i : ℕ) → phaseIn h t i ≡ phaseIn g s i
-  queue-phase i = phase-moved g b (s .slot i) (λ old. own-spans old (subIn s i) (phaseIn g s i) (inv .knows i))
+  queue-phase i = phase-moved g b (s .slot i) (own-spans (subIn s i) (phaseIn g s i) (inv .knows i))
 
-  -- P minus T is a multiple of d, and so is what is live
-  live : 1 ≤ g .depth → windowed h ≡ true → f .tail < f .head + mostLive
-  live depth1 new = go (windowed g) refl
-    where
-      go : (x : Bool) → windowed g ≡ x → f .tail < f .head + mostLive
-      go true e = o .live e
-      go false e =
-          let p = o .plain (o .old e .not-set) in
-          let top = p .base-is (suc (f .tail)) (le-refl _) in
-          let mark = p .base-is (suc (f .head)) (omega (arith, o .windows .order)) in
-          let most = able .on e (has-windows h new kind) in
-          let less : f .tail * g .depth < (f .head + mostLive) * g .depth = omega (arith, o .top, o .mark) in
-          lt-of-mul-lt-mul-right (g .depth) less
+  -- P minus T is d for each window that is live but one
+  live : windowed h ≡ true → f .tail < f .head + mostLive
+  live new =
+      let top = plain .base-is (suc (f .tail)) (le-refl _) in
+      let mark = plain .base-is (suc (f .head)) (omega (arith, o .windows .order)) in
+      let most = able .on (has-windows h new kind) in
+      let deep = plain .next-deep in
+      let less : f .tail * g .depth < (f .head + mostLive) * g .depth = omega (arith, o .top, o .mark, o .size .depth1) in
+      lt-of-mul-lt-mul-right (g .depth) less
 
   same : Grown s t
   same =
@@ -128,8 +146,8 @@ module _ (g : Settings) (b : ℕ) (kind : g .kind ≡ 0) (s : State) (q : Conten
           size = record { width1 = o .size .width1; width-most = o .size .width-most; depth1 = o .size .depth1; depth64 = o .size .depth64; depth-half = o .size .depth-half };
           plain = λ e. let p = o .plain e in record { base-is = p .base-is; wide-is = p .wide-is; next-wide = p .next-wide; next-deep = p .next-deep; total = p .total };
           set-most = o .set-most;
-          old = λ e. record { not-set = not-set e; times = good .times; rows-is = good .queue-rows kind e };
-          live = live (good .bounds .depth1);
+          old = λ e. record { not-set = not-set; times = good .times; rows-is = good .queue-rows kind e };
+          live = live;
           first-few = o .first-few;
           puts-few = o .puts-few;
           steps-few = o .steps-few;
@@ -146,5 +164,87 @@ queue-moves g b good good′ kind =
     record {
       phase = λ s q inv able. queue-phase g b kind s q inv able;
       kept = λ s q inv able. queue-moved g b kind s q inv able good′;
-      snap = λ s q inv able j s₀ q₀ z. subst (SnapAt g (s₀ .first) q₀ (s .first) (subIn s j)) (sym (queue-phase g b kind s q inv able j)) z;
+      snap = λ s q inv able j s₀ q₀ z. snap-moved g b (s₀ .first) q₀ (s .first) (subIn s j) (queue-phase g b kind s q inv able j) z;
     }
+
+-- ---- a stack
+module _ (g : Settings) (b : ℕ) where
+  abbrev h′ : Settings
+  h′ = inEdition b g
+
+  passed-kept : {v : Sight} {ghost : Ghost} {side : Side} {version index scan sum : ℕ} → Passed g v ghost side version index scan sum → Passed h′ v ghost side version index scan sum
+  passed-kept {side = Putting} k = record { began = k .began; summed = k .summed; left = k .left }
+  passed-kept {side = Taking} k = record { began = k .began; summed = k .summed; left = k .left }
+
+  knows-kept : (v : Sight) (ghost : Ghost) (index : ℕ) (p : Phase) → StackKnows g v ghost index p → StackKnows h′ v ghost index p
+  knows-kept v ghost index Idle k = k
+  knows-kept v ghost index (Window side) k = k
+  knows-kept v ghost index (QueuePutRead window scan) k = k
+  knows-kept v ghost index (QueueTakeRead window bare scan sum) k = k
+  knows-kept v ghost index (StackRead side window version scan sum) k =
+      record { scan-lt = k .scan-lt; depth-le = k .depth-le; le-rows = k .le-rows; same = k .same; passed = passed-kept (k .passed) }
+  knows-kept v ghost index (Check Putting version seen) k = record { began = k .began; seen-le = k .seen-le; hit = k .hit }
+  knows-kept v ghost index (Check Taking version seen) k = record { began = k .began; seen-le = k .seen-le; hit = k .hit }
+  knows-kept v ghost index (QueueCommit side window seen) k = k
+  knows-kept v ghost index (StackCommit Putting seen) k = record { seen-le = k .seen-le; checked = k .checked; fits = k .fits }
+  knows-kept v ghost index (StackCommit Taking seen) k = record { seen-le = k .seen-le; checked = k .checked; fits = k .fits }
+  knows-kept v ghost index (QueueShift side window) k = k
+  knows-kept v ghost index (StackShift side version scan sum) k = record { scan-is = k .scan-is; passed = passed-kept (k .passed) }
+  knows-kept v ghost index (QueueConfirm window scan sum) k = k
+  knows-kept v ghost index (StackConfirm side scan sum) k = k
+
+  no-span : (v : Sight) (ghost : Ghost) (index : ℕ) (p : Phase) → StackKnows g v ghost index p → WindowIn (OwnSpan g) p
+  no-span v ghost index Idle k = tt
+  no-span v ghost index (Window side) k = tt
+  no-span v ghost index (QueuePutRead window scan) k = absurd k
+  no-span v ghost index (QueueTakeRead window bare scan sum) k = absurd k
+  no-span v ghost index (StackRead side window version scan sum) k = tt
+  no-span v ghost index (Check side version seen) k = tt
+  no-span v ghost index (QueueCommit side window seen) k = absurd k
+  no-span v ghost index (StackCommit side seen) k = tt
+  no-span v ghost index (QueueShift side window) k = absurd k
+  no-span v ghost index (StackShift side version scan sum) k = tt
+  no-span v ghost index (QueueConfirm window scan sum) k = absurd k
+  no-span v ghost index (StackConfirm side scan sum) k = tt
+
+  stack-phase : (s : State) (q : Contents) → StackInv g s q → (i : ℕ) → phaseIn h′ (movedIn g h′ s) i ≡ phaseIn g s i
+  stack-phase s q inv i = phase-moved g b (s .slot i) (no-span (sight s) (inv .ghost) (subIn s i) (phaseIn g s i) (inv .knows i))
+
+  stack-moved : (s : State) (q : Contents) → StackInv g s q → StackInv h′ (movedIn g h′ s) q
+  stack-moved s q inv =
+      let o = inv .pool in
+      let w = o .window in
+      record {
+        ghost = inv .ghost;
+        pool = record {
+          window = record { shifts = w .shifts; window-is = w .window-is; lo-shifts = w .lo-shifts; lo-is = w .lo-is; depth-lo = w .depth-lo; lo-window = w .lo-window; window-lo = w .window-lo; lo-rows = w .lo-rows };
+          corridor = record { high = o .corridor .high; low = o .corridor .low };
+          eras = o .eras;
+          few = record { puts = o .few .puts; changes = o .few .changes; steps = o .few .steps };
+          stamps = o .stamps;
+          pairs = record { near = o .pairs .near };
+          holding = record { held = o .holding .held; count = o .holding .count };
+        };
+        knows = λ i.
+            subst (StackKnows h′ (sight s) (inv .ghost) (subIn s i)) (sym (stack-phase s q inv i))
+            (knows-kept (sight s) (inv .ghost) (subIn s i) (phaseIn g s i) (inv .knows i));
+      }
+
+pub stack-moves : (g : Settings) (b : ℕ) (good : Good g) (good′ : Good (inEdition b g)) (kind kind′ : g .kind ≡ 1)
+    → KindMoves g b (stackKind g good kind) (stackKind (inEdition b g) good′ kind′)
+unfolding stackKind
+stack-moves g b good good′ kind kind′ =
+    record {
+      phase = λ s q inv able. stack-phase g b s q inv;
+      kept = λ s q inv able. stack-moved g b s q inv;
+      snap = λ s q inv able j s₀ q₀ z. snap-moved g b (s₀ .second) q₀ (s .second) (subIn s j) (stack-phase g b s q inv j) z;
+    }
+
+-- ---- either
+pub kind-moves : (g : Settings) (b : ℕ) (limits : settingsFit g ≡ true) (limits′ : settingsFit (inEdition b g) ≡ true) → KindMoves g b (kindOf g limits) (kindOf (inEdition b g) limits′)
+unfolding kindBy
+kind-moves g b limits limits′ = by (ℕ-discrete (g .kind) 0)
+  where
+    by : (d : Dec (g .kind ≡ 0)) → KindMoves g b (kindBy g limits d) (kindBy (inEdition b g) limits′ d)
+    by (yes e) = queue-moves g b (good g limits) (good (inEdition b g) limits′) e
+    by (no n) = stack-moves g b (good g limits) (good (inEdition b g) limits′) _ _

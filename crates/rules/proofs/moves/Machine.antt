@@ -1,31 +1,31 @@
 -- A move as the abstract machine has it: the pool stays as it is, in settings of another edition. Of a worker's words only the bottom and the width of
 -- the window that it has seen come or go, for editions 0 and 1 have no such words: there every window has the pool's size. So every worker is in the
--- phase that it was in, if it leads to no such edition with a window of another size.
+-- phase that it was in, if the windows seen have that size.
 use mathlib.Core.Path.{_≡_, refl, sym, ap, _∙_}
-use mathlib.Core.Bool.{Bool, true, false}
-use Prim.Native.Nat.{ℕ, _+_, _*_, _≤_}
+use mathlib.Core.Bool.{Bool, true, false, false≢true}
+use Prim.Native.Nat.{ℕ, _+_, _-_, _*_, _^_, _≤_, _<_}
 use native.Mathlib.Omega.{arith}
 use lib.Dec.{eqb}
 use borrow.Author.Tests.{eq-eqb, eqb-true, eqb-false}
-use Rattle.laws.specs.Choice.{cond, cond-both, both, both-true}
+use Rattle.laws.specs.Choice.{cond, cond-both}
+use Rattle.laws.specs.Wrap.{sub32}
+use Rattle.rules.specs.Layout.{bottomWord, widthWord}
 use Rattle.rules.specs.Limits.{windowed}
 use Rattle.rules.specs.Windows.{hasWindows, sizeOf, spanOf}
-use Rattle.rules.specs.Worker.{seenBy, phaseOf, queuePhase, stackPhase}
+use Rattle.rules.specs.Worker.{kept, seenBy, phaseOf, queuePhase, stackPhase}
 use Rattle.rules.specs.Fit.{pastWindow, SpanFits}
 use Rattle.rules.specs.Make.{inEdition}
+use Rattle.rules.specs.Move.{newWord}
 use Rattle.rules.proofs.Types.{Settings, Phase, Putting, Taking, QueuePutRead, QueueTakeRead, QueueCommit, QueueShift, QueueConfirm, Span, Slot}
-use Rattle.rules.proofs.Fitness.{WorkerFits, span-fits}
-use Rattle.rules.proofs.machine.Machine.{State, phaseIn}
-use Rattle.rules.proofs.machine.Phases.{WindowIn}
+use Rattle.rules.proofs.Fitness.{WorkerFits}
+use Rattle.rules.proofs.machine.Machine.{State}
+use Rattle.rules.proofs.machine.Phases.{WindowIn, same-either}
 use Rattle.rules.proofs.machine.Slots.{Blank, past, past-put, past-take, seen-fits, has-windows}
 use Rattle.rules.proofs.machine.Turns.{Common}
 
--- a word of the window seen, in an edition h
-abbrev pub seenWord : Settings → Slot → ℕ → ℕ
-seenWord h o x = cond (both (hasWindows h) (pastWindow (o .number))) x 0
-
-abbrev pub movedSlot : Settings → Settings → Slot → Slot
-movedSlot g h o =
+-- ---- the state after a move, from settings g to settings h
+abbrev pub slotMoved : Settings → Settings → Slot → Slot
+slotMoved g h o =
     record {
       number = o .number;
       value = o .value;
@@ -35,11 +35,10 @@ movedSlot g h o =
       scan = o .scan;
       seen = o .seen;
       sum = o .sum;
-      bottom = seenWord h o (seenBy g o .bottom);
-      width = seenWord h o (seenBy g o .width);
+      bottom = kept h (newWord g o bottomWord);
+      width = kept h (newWord g o widthWord);
     }
 
--- from settings g to settings h
 abbrev pub movedIn : Settings → Settings → State → State
 movedIn g h s =
     record {
@@ -53,19 +52,22 @@ movedIn g h s =
       first = s .first;
       second = s .second;
       item = s .item;
-      slot = λ i. movedSlot g h (s .slot i);
+      slot = λ i. slotMoved g h (s .slot i);
     }
 
--- what a move asks of a queue: back, that no next size was ever set; on, that P minus T is at most 15 times d. That R is a multiple of d is a limit of
--- the settings that it leads to, and all else that K8 asks is so of every pool from make
+-- what a move asks: it does not lead from edition 2 to edition 2; of a queue, back, that no next size was ever set; on, that P minus T is at most 15
+-- times d. That R is a multiple of d is a limit of the settings that it leads to, and all else that K8 asks is so of every pool from make
 pub record Movable (g h : Settings) (s : State) : Type 0 where
-  pub back : hasWindows g ≡ true → windowed h ≡ false → s .set ≡ 0
-  pub on : windowed g ≡ false → hasWindows h ≡ true → s .top ≤ s .mark + 15 * g .depth
+  pub other : windowed h ≡ true → windowed g ≡ false
+  pub back : hasWindows g ≡ true → s .set ≡ 0
+  pub on : hasWindows h ≡ true → s .top ≤ s .mark + 15 * g .depth
 
 -- ---- a worker's phase
 -- the window that it has seen has the pool's size
-abbrev pub OwnSpan : Settings → Phase → Type 0
-OwnSpan g p = WindowIn (λ window. spanOf (window .top) (sizeOf g) ≡ window) p
+pub record OwnSpan (g : Settings) (window : Span) : Type 0 where
+  pub wide : window .width ≡ g .width
+  pub deep : window .bottom + g .depth ≡ window .top
+  pub few : window .top < 2 ^ 32
 
 seen-new : (g : Settings) (o : Slot) → windowed g ≡ true → seenBy g o ≡ record { top = o .window; bottom = o .bottom; width = o .width }
 unfolding seenBy cond
@@ -83,30 +85,41 @@ seen-top g o = go (windowed g) refl
     go true e = ap (λ (w : Span). w .top) (seen-new g o e)
     go false e = ap (λ (w : Span). w .top) (seen-old g o e)
 
+own-told : (g : Settings) (window : Span) → OwnSpan g window → spanOf (window .top) (sizeOf g) ≡ window
+own-told g window own =
+    let low : sub32 (window .top) (g .depth) ≡ window .bottom = omega (arith, own .deep, own .few) in
+    let wide : g .width ≡ window .width = sym (own .wide) in
+    λ u. record { top = window .top; bottom = low u; width = wide u }
+
 module _ (g : Settings) (b : ℕ) (o : Slot) where
   abbrev h : Settings
   h = inEdition b g
 
   abbrev m : Slot
-  m = movedSlot g h o
+  m = slotMoved g h o
 
-  word-kept : windowed h ≡ true → g .kind ≡ 0 → pastWindow (o .number) ≡ true → (x : ℕ) → seenWord h o x ≡ x
-  unfolding cond
-  word-kept new kind late x = rw (has-windows h new kind, late) refl
+  -- the new words
+  new-bottom : windowed h ≡ true → g .kind ≡ 0 → pastWindow (o .number) ≡ true → m .bottom ≡ o .window - g .depth
+  unfolding newWord cond
+  new-bottom new kind late = rw (new, eq-eqb (g .kind) 0 kind, late) refl
 
-  seen-moved : g .kind ≡ 0 → pastWindow (o .number) ≡ true → (windowed h ≡ false → spanOf (seenBy g o .top) (sizeOf g) ≡ seenBy g o) → seenBy h m ≡ seenBy g o
-  seen-moved kind late told = go (windowed h) refl
+  new-width : windowed h ≡ true → g .kind ≡ 0 → pastWindow (o .number) ≡ true → m .width ≡ g .width
+  unfolding newWord cond
+  new-width new kind late = rw (new, eq-eqb (g .kind) 0 kind, late) refl
+
+  seen-moved : g .kind ≡ 0 → pastWindow (o .number) ≡ true → OwnSpan g (seenBy g o) → seenBy h m ≡ seenBy g o
+  seen-moved kind late own = go (windowed h) refl
     where
       go : (t : Bool) → windowed h ≡ t → seenBy h m ≡ seenBy g o
       go true e =
-          let low = word-kept e kind late (seenBy g o .bottom) in
-          let wide = word-kept e kind late (seenBy g o .width) in
+          let low : m .bottom ≡ seenBy g o .bottom = omega (arith, new-bottom e kind late, seen-top g o, own .deep) in
+          let wide : m .width ≡ seenBy g o .width = new-width e kind late ∙ sym (own .wide) in
           seen-new h m e ∙ (λ u. record { top = sym (seen-top g o) u; bottom = low u; width = wide u })
-      go false e = seen-old h m e ∙ ap (λ (x : ℕ). spanOf x (sizeOf g)) (sym (seen-top g o)) ∙ told e
+      go false e = seen-old h m e ∙ ap (λ (x : ℕ). spanOf x (sizeOf g)) (sym (seen-top g o)) ∙ own-told g (seenBy g o) own
 
   -- so every phase is as it was
   abbrev Same : Phase → Phase → Type 0
-  Same p p′ = (windowed h ≡ false → OwnSpan g p) → p′ ≡ p
+  Same p p′ = WindowIn (OwnSpan g) p → p′ ≡ p
 
   queue-moved : g .kind ≡ 0 → Same (queuePhase g o) (queuePhase h m)
   unfolding queuePhase
@@ -121,7 +134,7 @@ module _ (g : Settings) (b : ℕ) (o : Slot) where
       (λ e. cond-both Same _ (λ e t. ap (QueueShift Taking) (at 13 (past-take .2) e t))
       (λ e. cond-both Same _ (λ e t. ap (λ (w : Span). QueueConfirm w (o .scan) (o .sum)) (at 14 (past-take .3) e t)) (λ e t. refl)))))))))
     where
-      at : (n : ℕ) → pastWindow n ≡ true → eqb (o .number) n ≡ true → (windowed h ≡ false → spanOf (seenBy g o .top) (sizeOf g) ≡ seenBy g o) → seenBy h m ≡ seenBy g o
+      at : (n : ℕ) → pastWindow n ≡ true → eqb (o .number) n ≡ true → OwnSpan g (seenBy g o) → seenBy h m ≡ seenBy g o
       at n x e t = seen-moved kind (past o n x e) t
 
   pub phase-moved : Same (phaseOf g o) (phaseOf h m)
@@ -129,28 +142,38 @@ module _ (g : Settings) (b : ℕ) (o : Slot) where
   phase-moved = cond-both Same (eqb (g .kind) 0) (λ e. queue-moved (eqb-true _ _ e)) (λ e t. refl)
 
   -- ---- the words of the window seen
-  pub blank-moved : Blank h m
+  zero-old : windowed h ≡ false → (x : ℕ) → kept h x ≡ 0
   unfolding cond
-  blank-moved none = rw none (refl, refl)
+  zero-old old x = rw old refl
 
-  span-moved : WorkerFits g o → windowed h ≡ true → g .kind ≡ 0 → pastWindow (o .number) ≡ true → SpanFits h m
-  span-moved fits new kind late = go (windowed g) refl
+  zero-stack : eqb (g .kind) 0 ≡ false → (k : ℕ) → newWord g o k ≡ 0
+  unfolding newWord cond
+  zero-stack stack k = rw stack refl
+
+  kept-zero : kept h 0 ≡ 0
+  kept-zero = same-either (windowed h) 0
+
+  pub blank-moved : Blank h m
+  blank-moved none = (zero-word bottomWord, zero-word widthWord)
     where
-      wide : m .width ≡ seenBy g o .width
-      wide = word-kept new kind late (seenBy g o .width)
-
-      go : (t : Bool) → windowed g ≡ t → SpanFits h m
-      go true e =
-          let f = span-fits g o (has-windows g e kind) late (fits .seen) in
-          let w : m .width ≡ o .width = wide ∙ ap (λ (z : Span). z .width) (seen-new g o e) in
-          record { width1 = rw w (f .width1); width-most = rw w (f .width-most); index = rw w (f .index); scan = rw w (f .scan) }
-      go false e =
-          let w : m .width ≡ g .width = wide ∙ ap (λ (z : Span). z .width) (seen-old g o e) in
-          record { width1 = omega (arith, fits .index); width-most = omega arith; index = omega (arith, fits .index); scan = omega (arith, fits .scan) }
+      zero-word : (k : ℕ) → kept h (newWord g o k) ≡ 0
+      zero-word k = go (windowed h) (eqb (g .kind) 0) refl refl
+        where
+          go : (x y : Bool) → windowed h ≡ x → eqb (g .kind) 0 ≡ y → kept h (newWord g o k) ≡ 0
+          go true true e u = absurd (false≢true (sym none ∙ has-windows h e (eqb-true _ _ u)))
+          go true false e u = ap (kept h) (zero-stack u k) ∙ kept-zero
+          go false y e u = zero-old e (newWord g o k)
 
   pub worker-moved : WorkerFits g o → WorkerFits h m
   worker-moved fits =
-      record { number = fits .number; index = fits .index; scan = fits .scan; seen = seen-fits h m (span-moved fits) blank-moved }
+      record {
+        number = fits .number;
+        index = fits .index;
+        scan = fits .scan;
+        seen = seen-fits h m (λ new kind late.
+            let w = new-width new kind late in
+            record { width1 = omega (arith, fits .index); width-most = omega arith; index = omega (arith, fits .index); scan = omega (arith, fits .scan) }) blank-moved;
+      }
 
 pub common-moved : (g : Settings) (b : ℕ) (s : State) → Common g s → Common (inEdition b g) (movedIn g (inEdition b g) s)
 common-moved g b s c =

@@ -5,48 +5,15 @@ use mathlib.Core.Path.{_≡_}
 use mathlib.Core.Bool.{true}
 use mathlib.Core.List.{List}
 use Rattle.rules.specs.Answers.{numberOf}
-use Rattle.rules.specs.Layout.{bottomWord, widthWord}
 use Rattle.rules.specs.Limits.{settingsFit}
 use Rattle.rules.specs.Make.{inEdition}
 use Rattle.rules.specs.Sequential.{Contents}
-use Rattle.rules.specs.Move.{newWord, moveOf}
-use Rattle.rules.specs.Worker.{kept}
-use Rattle.rules.proofs.Types.{Settings, Slot}
+use Rattle.rules.specs.Move.{moveOf}
+use Rattle.rules.proofs.Types.{Settings}
 use Rattle.rules.proofs.machine.Machine.{State, phaseIn}
 use Rattle.rules.proofs.Transfer.{Whole, Related}
 use Rattle.rules.proofs.Theorem.{kindOf}
-
--- ---- the state after a move, from settings g to settings h
-abbrev pub slotMoved : Settings → Settings → Slot → Slot
-slotMoved g h o =
-    record {
-      number = o .number;
-      value = o .value;
-      index = o .index;
-      window = o .window;
-      extra = o .extra;
-      scan = o .scan;
-      seen = o .seen;
-      sum = o .sum;
-      bottom = kept h (newWord g o bottomWord);
-      width = kept h (newWord g o widthWord);
-    }
-
-abbrev pub movedIn : Settings → Settings → State → State
-movedIn g h s =
-    record {
-      steps = s .steps;
-      puts = s .puts;
-      top = s .top;
-      mark = s .mark;
-      next = s .next;
-      set = s .set;
-      frame = s .frame;
-      first = s .first;
-      second = s .second;
-      item = s .item;
-      slot = λ i. slotMoved g h (s .slot i);
-    }
+use Rattle.rules.proofs.moves.Machine.{movedIn}
 
 -- ---- what a move leaves, with the same list: every worker is in the phase that it was in, and whatever list it is, what holds goes on holding
 pub record MovedRelated (g : Settings) (limits : settingsFit g ≡ true) (b : ℕ) {ws : List ℕ} {s : State} (r : Related g limits (kindOf g limits) ws s) (vs : List ℕ) : Type 0 where
