@@ -68,20 +68,32 @@ module _ (g : Settings) (limits : settingsFit g ≡ true) (k : Kind g) where
       λ j l. held-order g _ (s .first j) (s .second j) (k .counts s (r .list) (r .whole .inv) .sub j l) in
       held-same g ws s (r .says) (k .counts s (r .list) (r .whole .inv)) p ∙ sym (held-count (k .holding s (r .list) (r .whole .inv) .held) order p)
 
+  -- one call more: with so many held in the end
+  pub one-accounted : {ws : List ℕ} {s : State} (r : Rel ws s) (c : Call) (es : List Event) (held : ℕ) (p : Item → Bool)
+      → held + countItems p (itemsIn 2 es) ≡ countItems p (next-related g limits k r c .related .list .items) + countItems p (itemsIn 1 es)
+      → held + countItems p (itemsIn 2 (eventOf ws c (callOf (g .edition) ws c .answer) ∷ es))
+      ≡ countItems p (r .list .items) + countItems p (itemsIn 1 (eventOf ws c (callOf (g .edition) ws c .answer) ∷ es))
+  unfolding itemsIn
+  one-accounted {ws} r c es held p rest =
+      omega (
+        arith,
+        next-related g limits k r c .changed .counts p,
+        count-append p (itemIn 1 (callOf (g .edition) ws c .answer)) (itemsIn 1 es),
+        count-append p (itemIn 2 (callOf (g .edition) ws c .answer)) (itemsIn 2 es),
+      )
+
+  -- and none
+  pub none-accounted : {ws : List ℕ} {s : State} (r : Rel ws s) (p : Item → Bool)
+      → countItems p (heldItems ws g) + countItems p (itemsIn 2 []) ≡ countItems p (r .list .items) + countItems p (itemsIn 1 [])
+  unfolding itemsIn
+  none-accounted r p = omega (arith, held-listed r p, count-none p)
+
   pub accounted : {ws : List ℕ} {s : State} (r : Rel ws s) (cs : List Call) (p : Item → Bool)
       → countItems p (heldItems (wordsAfter (g .edition) ws cs) g) + countItems p (itemsIn 2 (run (g .edition) ws cs))
       ≡ countItems p (r .list .items) + countItems p (itemsIn 1 (run (g .edition) ws cs))
-  unfolding wordsAfter run itemsIn
-  accounted r [] p = omega (arith, held-listed r p, count-none p)
-  accounted {ws} r (c ∷ cs) p =
-      let n = next-related g limits k r c in
-      omega (
-        arith,
-        accounted (n .related) cs p,
-        n .changed .counts p,
-        count-append p (itemIn 1 (callOf (g .edition) ws c .answer)) (itemsIn 1 (run (g .edition) (callOf (g .edition) ws c .words) cs)),
-        count-append p (itemIn 2 (callOf (g .edition) ws c .answer)) (itemsIn 2 (run (g .edition) (callOf (g .edition) ws c .words) cs)),
-      )
+  unfolding wordsAfter run
+  accounted r [] p = none-accounted r p
+  accounted r (c ∷ cs) p = one-accounted r c _ _ p (accounted (next-related g limits k r c .related) cs p)
 
   -- ---- both counts of a take are those of the pool just before
   taken-within : {ws : List ℕ} {s : State} (r : Rel ws s) (i : ℕ) → numberOf (callOf (g .edition) ws (step i) .answer) ≡ 2

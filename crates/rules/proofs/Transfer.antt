@@ -68,7 +68,7 @@ module _ (g : Settings) (limits : settingsFit g ≡ true) (k : Kind g) where
   with-common m (ends i op u n a b w q′ give h) = ends i op u n a b (rest w) q′ give (whole m h)
   with-common m (wins i op u n l a b w h z) = wins i op u n l a b (rest w) (whole m h) z
 
-  whole-turn : (s : State) (q : Contents) → Whole s q → (c : Call) → After s q c (nextIn g s c)
+  pub whole-turn : (s : State) (q : Contents) → Whole s q → (c : Call) → After s q c (nextIn g s c)
   whole-turn s q h c =
       with-common (common-next g (settings-bounds g limits) s (h .common) (sized-in g s (λ has. k .counts s q (h .inv) .windows has .fits)) c) (turn g k s q (h .common) (h .inv) c)
 
@@ -133,7 +133,7 @@ module _ (g : Settings) (limits : settingsFit g ≡ true) (k : Kind g) where
   pub made-whole : Whole (madeIn g) noItems
   made-whole = record { common = common-made g width1; inv = k .at-first }
 
-  made-idle : (i : ℕ) → statusIn g (madeIn g) i ≡ idle
+  pub made-idle : (i : ℕ) → statusIn g (madeIn g) i ≡ idle
   unfolding madeIn
   made-idle i = ap (statusOf 0) (idle-phase g _ refl)
 

@@ -8,3 +8,4 @@ pub mod Back
 pub mod Over
 pub mod Machine
 pub mod Kept
+pub mod Acts
