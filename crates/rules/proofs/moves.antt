@@ -2,6 +2,12 @@
 pub mod Stores
 pub mod InStep
 pub mod Dispatches
+pub mod Only
+pub mod Windows
+pub mod May
+pub mod Slots
+pub mod Words
+pub mod Fits
 pub mod Moved
 pub mod Related
 pub mod Back

@@ -124,6 +124,7 @@ movedWords from g to h = windowsMoved from (cellsMoved from g (workersMoved from
 pub record MovesOn (from : List ℕ) (g : Settings) : Type 0 where
   pub order : getD from markAt 0 ≤ getD from topAt 0
   pub most : apart from ≤ (mostLive - 1) * g .depth
+  pub whole : apart from % g .depth ≡ 0
   pub deep : g .depth ≤ getD from markAt 0
   pub seen : (i : ℕ) → i < g .workers → pastWindow (getD from (phaseAt (workerAt g i)) 0) ≡ true → g .depth ≤ getD from (windowAt (workerAt g i)) 0
 

@@ -21,7 +21,7 @@ use Rattle.rules.specs.Dispatch.{DispatchOut, dispatchOf}
 use Rattle.rules.specs.Untouched.{Beyond}
 use Rattle.rules.specs.Sequential.{Operation, demand3Rows}
 use Rattle.rules.specs.Run.{Call, begin, callOf, Event, eventOf, run}
-use Rattle.rules.specs.Statement.{OneAtATimeWithin}
+use Rattle.rules.specs.Statement.{All, OneAtATimeWithin}
 use Rattle.rules.specs.Solo.{Begun, Solo, EndsWithin, k3Steps, soloSteps}
 use Rattle.rules.specs.Consequences.{wordsAfter, OfEveryRun, itemsIn}
 use Rattle.rules.specs.declared.Settings.{Settings}
@@ -49,13 +49,16 @@ SameItems = (g : Settings) (ws : List ℕ) (h : Settings) (vs : List ℕ) → Sa
 
 -- ---- what a move that answers 0 has done
 pub record Moved (a b : ℕ) (from : List ℕ) (g : Settings) (to vs : List ℕ) : Type 0 where
-  -- it was a fit pool of edition a, and is one of edition b, the same
+  -- it was a fit pool of edition a, and is one of edition b
   pub fit-before : checkedOf a from ≡ Fit g
   pub fit-after : checkedOf b vs ≡ Fit (inEdition b g)
-  pub pool : SamePool g from (inEdition b g) vs
-  -- the workers' words that both editions have are kept; "forward, the new words are zero"
+  -- the words of the head but the edition, of the subs and of the cells are kept, and of the workers those that both editions have
+  pub head : (m : ℕ) → m < workersAt g → m ≢ editionAt → getD vs m 0 ≡ getD from m 0
   pub kept : (i k : ℕ) → i < g .workers → k < workerWords a → k < workerWords b → getD vs (workerAt (inEdition b g) i + k) 0 ≡ getD from (workerAt g i + k) 0
-  pub new : (i k : ℕ) → i < g .workers → workerWords a ≤ k → k < workerWords b → getD vs (workerAt (inEdition b g) i + k) 0 ≡ 0
+  pub cell : (m : ℕ) → m < cellWords * (g .width * g .rows) → getD vs (cellsAt (inEdition b g) + m) 0 ≡ getD from (cellsAt g + m) 0
+  -- of K6's editions it is the same pool, and "forward, the new words are zero"; those of edition 2 are in specs/Widening
+  pub pool : a < 2 → b < 2 → SamePool g from (inEdition b g) vs
+  pub new : b < 2 → (i k : ℕ) → i < g .workers → workerWords a ≤ k → k < workerWords b → getD vs (workerAt (inEdition b g) i + k) 0 ≡ 0
   -- the target's words beyond the needed ones are as they were
   pub beyond : Beyond (needed (inEdition b g)) to vs
 
@@ -96,7 +99,7 @@ Lockstep = (g : Settings) (ws : List ℕ) (h : Settings) (vs : List ℕ) (cs : L
 -- "operations under way go on", in whichever phase the move found them: after a move, either way
 abbrev pub OperationsGoOn : Type 0
 OperationsGoOn =
-    (a b : ℕ) (from to : List ℕ) (cs : List Call) → numberOf (moveOf a b from to .answer) ≡ 0
+    (a b : ℕ) (from to : List ℕ) (cs : List Call) → a < 2 → b < 2 → numberOf (moveOf a b from to .answer) ≡ 0
     → InStep (settingsOf from) from (inEdition b (settingsOf from)) (moveOf a b from to .words) cs
 
 -- so do the dispatcher's turns: whom it names, from whichever worker and with whichever count
@@ -152,18 +155,23 @@ unfoldable pub runOver : Place → List Act → List Event
 runOver p [] = []
 runOver p (x ∷ xs) = eventIn p x ++ runOver (placeAfter p x) xs
 
--- no call sees a move: the run from a place on, over any number of moves, is that of the pool in `ws`, which never moves, and it ends as that pool
+-- K6's moves: none leads to edition 2
+abbrev pub Low : Act → Type 0
+Low (call c) = Unit {0}
+Low (move a b area) = b < 2
+
+-- no call sees such a move: the run from a place on, over any number of moves, is that of the pool in `ws`, which never moves, and it ends as that pool
 pub record Unseen (g : Settings) (ws : List ℕ) (p : Place) (xs : List Act) : Type 0 where
   pub answers : runOver p xs ≡ run (g .edition) ws (callsIn xs)
   pub ends : SamePool g (wordsAfter (g .edition) ws (callsIn xs)) (inEdition (placeOver p xs .edition) g) (placeOver p xs .words)
 
 abbrev pub MovesUnseen : Type 0
-MovesUnseen = (g : Settings) (ws : List ℕ) (xs : List Act) → g .edition < 2 → checkedOf (g .edition) ws ≡ Fit g → Unseen g ws (here g ws) xs
+MovesUnseen = (g : Settings) (ws : List ℕ) (xs : List Act) → g .edition < 2 → All Low xs → checkedOf (g .edition) ws ≡ Fit g → Unseen g ws (here g ws) xs
 
--- a claim about a new pool of edition 0 or 1, and any begins, steps and moves of it
+-- a claim about a new pool of edition 0 or 1, and any begins, steps and moves of it between these
 abbrev pub OfEveryTurnaround : (Settings → List ℕ → List Act → Type 0) → Type 0
 OfEveryTurnaround P =
-    (ws : List ℕ) (g : Settings) (xs : List Act) → g .edition < 2 → numberOf (makeOf ws g .answer) ≡ 0 → P g (makeOf ws g .words) xs
+    (ws : List ℕ) (g : Settings) (xs : List Act) → g .edition < 2 → All Low xs → numberOf (makeOf ws g .answer) ≡ 0 → P g (makeOf ws g .words) xs
 
 -- whatever is so of the run of every list of calls on a new pool is so over any moves
 abbrev pub RunsOverMoves : Type 1
@@ -187,7 +195,7 @@ SoloFrom p i o n ys =
     Begun (p .edition) (p .words) i o n → Solo i (runOver (placeAfter p (call (begin i o))) ys) → EndsWithin i n (runOver (placeAfter p (call (begin i o))) ys)
 
 abbrev pub SoloOverMoves : (Settings → Operation → ℕ) → Type 0
-SoloOverMoves most = OfEveryTurnaround (λ g ws xs. (i : ℕ) (o : Operation) (ys : List Act) → SoloFrom (placeOver (here g ws) xs) i o (most g o) ys)
+SoloOverMoves most = OfEveryTurnaround (λ g ws xs. (i : ℕ) (o : Operation) (ys : List Act) → All Low ys → SoloFrom (placeOver (here g ws) xs) i o (most g o) ys)
 
 abbrev pub K3OverMoves : Type 0
 K3OverMoves = SoloOverMoves k3Steps × SoloOverMoves soloSteps
