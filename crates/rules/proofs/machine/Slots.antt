@@ -180,7 +180,7 @@ module _ (g : Settings) where
   span-limits s h =
       rw (le-leb 1 (s .width) (h .width1), le-leb (s .width) (g .width) (h .width-most), lt-ltb (s .index) (s .width) (h .index), lt-ltb (s .scan) (s .width) (h .scan)) refl
 
-  pub seen-fits : (s : Slot) → (windowed g ≡ true → g .kind ≡ 0 → pastWindow (s .number) ≡ true → SpanFits g s) → Blank g s → seenFit g s ≡ true
+  seen-fits : (s : Slot) → (windowed g ≡ true → g .kind ≡ 0 → pastWindow (s .number) ≡ true → SpanFits g s) → Blank g s → seenFit g s ≡ true
   unfolding seenFit cond
   seen-fits s span blank =
       cases P (windowed g) _ _

@@ -6,39 +6,24 @@ use mathlib.Core.Bool.{Bool, true, false, false≢true}
 use Prim.Native.Nat.{ℕ, _+_, _-_, _*_, _^_, _≤_, _<_}
 use native.Mathlib.Omega.{arith}
 use lib.Dec.{eqb}
-use borrow.Author.Tests.{eq-eqb, eqb-true, eqb-false}
+use borrow.Author.Tests.{eqb-true}
 use Rattle.laws.specs.Choice.{cond, cond-both}
 use Rattle.laws.specs.Wrap.{sub32}
 use Rattle.rules.specs.Layout.{bottomWord, widthWord}
-use Rattle.rules.specs.Limits.{windowed}
+use Rattle.rules.specs.Limits.{windowed, Bounds}
 use Rattle.rules.specs.Windows.{hasWindows, sizeOf, spanOf}
 use Rattle.rules.specs.Worker.{kept, seenBy, phaseOf, queuePhase, stackPhase}
-use Rattle.rules.specs.Fit.{pastWindow, SpanFits}
+use Rattle.rules.specs.Fit.{pastWindow}
 use Rattle.rules.specs.Make.{inEdition}
 use Rattle.rules.specs.Move.{newWord}
 use Rattle.rules.proofs.Types.{Settings, Phase, Putting, Taking, QueuePutRead, QueueTakeRead, QueueCommit, QueueShift, QueueConfirm, Span, Slot}
-use Rattle.rules.proofs.Fitness.{WorkerFits}
 use Rattle.rules.proofs.machine.Machine.{State}
 use Rattle.rules.proofs.machine.Phases.{WindowIn, same-either}
-use Rattle.rules.proofs.machine.Slots.{Blank, past, past-put, past-take, seen-fits, has-windows}
+use Rattle.rules.proofs.machine.Slots.{Blank, past, past-put, past-take, has-windows}
 use Rattle.rules.proofs.machine.Turns.{Common}
+use Rattle.rules.proofs.moves.Slots.{slotMoved, bottom-given, width-given, stack-given, worker-moved}
 
 -- ---- the state after a move, from settings g to settings h
-abbrev pub slotMoved : Settings → Settings → Slot → Slot
-slotMoved g h o =
-    record {
-      number = o .number;
-      value = o .value;
-      index = o .index;
-      window = o .window;
-      extra = o .extra;
-      scan = o .scan;
-      seen = o .seen;
-      sum = o .sum;
-      bottom = kept h (newWord g o bottomWord);
-      width = kept h (newWord g o widthWord);
-    }
-
 abbrev pub movedIn : Settings → Settings → State → State
 movedIn g h s =
     record {
@@ -100,12 +85,12 @@ module _ (g : Settings) (b : ℕ) (o : Slot) where
 
   -- the new words
   new-bottom : windowed h ≡ true → g .kind ≡ 0 → pastWindow (o .number) ≡ true → m .bottom ≡ o .window - g .depth
-  unfolding newWord cond
-  new-bottom new kind late = rw (new, eq-eqb (g .kind) 0 kind, late) refl
+  unfolding cond
+  new-bottom new kind late = rw new (bottom-given g o kind late)
 
   new-width : windowed h ≡ true → g .kind ≡ 0 → pastWindow (o .number) ≡ true → m .width ≡ g .width
-  unfolding newWord cond
-  new-width new kind late = rw (new, eq-eqb (g .kind) 0 kind, late) refl
+  unfolding cond
+  new-width new kind late = rw new (width-given g o kind late)
 
   seen-moved : g .kind ≡ 0 → pastWindow (o .number) ≡ true → OwnSpan g (seenBy g o) → seenBy h m ≡ seenBy g o
   seen-moved kind late own = go (windowed h) refl
@@ -146,10 +131,6 @@ module _ (g : Settings) (b : ℕ) (o : Slot) where
   unfolding cond
   zero-old old x = rw old refl
 
-  zero-stack : eqb (g .kind) 0 ≡ false → (k : ℕ) → newWord g o k ≡ 0
-  unfolding newWord cond
-  zero-stack stack k = rw stack refl
-
   kept-zero : kept h 0 ≡ 0
   kept-zero = same-either (windowed h) 0
 
@@ -161,20 +142,9 @@ module _ (g : Settings) (b : ℕ) (o : Slot) where
         where
           go : (x y : Bool) → windowed h ≡ x → eqb (g .kind) 0 ≡ y → kept h (newWord g o k) ≡ 0
           go true true e u = absurd (false≢true (sym none ∙ has-windows h e (eqb-true _ _ u)))
-          go true false e u = ap (kept h) (zero-stack u k) ∙ kept-zero
+          go true false e u = ap (kept h) (stack-given g o k u) ∙ kept-zero
           go false y e u = zero-old e (newWord g o k)
 
-  pub worker-moved : WorkerFits g o → WorkerFits h m
-  worker-moved fits =
-      record {
-        number = fits .number;
-        index = fits .index;
-        scan = fits .scan;
-        seen = seen-fits h m (λ new kind late.
-            let w = new-width new kind late in
-            record { width1 = omega (arith, fits .index); width-most = omega arith; index = omega (arith, fits .index); scan = omega (arith, fits .scan) }) blank-moved;
-      }
-
-pub common-moved : (g : Settings) (b : ℕ) (s : State) → Common g s → Common (inEdition b g) (movedIn g (inEdition b g) s)
-common-moved g b s c =
-    record { slots = λ i. worker-moved g b (s .slot i) (c .slots i); blank = λ i. blank-moved g b (s .slot i); steps-few = c .steps-few }
+pub common-moved : (g : Settings) (b : ℕ) (s : State) → Bounds g → Common g s → Common (inEdition b g) (movedIn g (inEdition b g) s)
+common-moved g b s bounds c =
+    record { slots = λ i. worker-moved g b (s .slot i) bounds (c .slots i); blank = λ i. blank-moved g b (s .slot i); steps-few = c .steps-few }
