@@ -19,7 +19,8 @@ use Rattle.rules.proofs.figures.Figures.{bound-le, exact-most}
 use Rattle.rules.proofs.Transfer.{made-related, made-no-spacers}
 use Rattle.rules.proofs.Runs.{accounted, takes-within-after, no-spacers-after, stamped-once, sizes-at, places-at, safe-after, fine-at, full-after}
 use Rattle.rules.proofs.order.Orders.{bounded, in-real-time}
-use Rattle.rules.proofs.Theorem.{kindOf, exact, demand3}
+use Rattle.rules.proofs.BothKinds.{kindOf}
+use Rattle.rules.proofs.Theorem.{exact, demand3}
 use Rattle.rules.proofs.words.Made.{accepted}
 
 -- no item is lost or invented

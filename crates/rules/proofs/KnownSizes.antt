@@ -31,7 +31,7 @@ use Rattle.rules.proofs.machine.Calls.{Called, refuses, does, Steps, Be
 use Rattle.rules.proofs.machine.Turns.{Framed, ItemIn, Counts, Kind}
 use Rattle.rules.proofs.machine.Does.{SharedAfter, Counted, Rises, Sized, sized-in, rule-in, counted-in}
 use Rattle.rules.proofs.Transfer.{Related, next-related, made-related}
-use Rattle.rules.proofs.Theorem.{kindOf}
+use Rattle.rules.proofs.BothKinds.{kindOf}
 use Rattle.rules.proofs.Corollaries.{own-sizes}
 use Rattle.rules.proofs.words.Made.{Accepted, accepted}
 

@@ -1,5 +1,5 @@
--- From a kind's law of one step to demand 3 over the words: the run over the words is one of the machine's, since the words follow the machine from
--- make on, and a run of the machine has its order (Order).
+-- From a kind's law of one step to the words: every call keeps the machine's invariant, with the specification's list, and the words follow the machine
+-- from make on. So the run over the words is one of the machine's, which has its order (Course).
 use mathlib.Core.Path.{_≡_, refl, sym, ap, _∙_, subst}
 use mathlib.Core.Bool.{true}
 use mathlib.Core.List.{List, [], _∷_}
@@ -12,15 +12,13 @@ use Rattle.rules.specs.Fit.{Fit, checkedOf}
 use Rattle.rules.specs.Make.{makeOf}
 use Rattle.rules.specs.Measures.{Measures}
 use Rattle.rules.specs.Sequential.{Contents, noItems, boundBy}
-use Rattle.rules.specs.Run.{Call, callOf, measuresAt, run}
+use Rattle.rules.specs.Run.{Call, callOf, measuresAt}
 use Rattle.rules.specs.Consequences.{wordsAfter}
 use Rattle.rules.specs.Newer.{exactRows}
 use Rattle.rules.specs.Spacers.{NoSpacer}
-use Rattle.rules.proofs.order.Closest.{OneAtATime}
 use Rattle.rules.proofs.Types.{Settings, Answer}
 use Rattle.rules.proofs.counts.Held.{count-none}
-use Rattle.rules.proofs.order.Law.{Next, Status, idle, pending, tried, AllSame, refused, passes, opened, walks, tries, stays, loses, ends, wins, Others, Runs, none, calls}
-use Rattle.rules.proofs.order.Order.{one-at-a-time}
+use Rattle.rules.proofs.order.Law.{Next, Status, idle, pending, tried, AllSame, refused, passes, opened, walks, tries, stays, loses, ends, wins, Others}
 use Rattle.rules.proofs.order.NoSpacers.{NoSpacerUnderWay, NoSpacers as NoSpacersOf, no-spacers-next, begun-no-spacer, no-spacer-joins}
 use Rattle.rules.proofs.Fitness.{settings-bounds}
 use Rattle.rules.proofs.machine.Machine.{State, nextIn, madeIn}
@@ -176,12 +174,6 @@ module _ (g : Settings) (limits : settingsFit g ≡ true) (k : Kind g) where
         no-spacers = n .no-spacers;
       }
 
-  -- the run over the words is one of the machine
-  runs : {ws : List ℕ} {s : State} → Related ws s → (cs : List Call) → Runs g (nextIn g) (statusIn g) Whole (k .Snap) s (run (g .edition) ws cs)
-  unfolding run
-  runs r [] = none
-  runs r (c ∷ cs) = let n = next-related r c in calls c (λ u. record { call = c; answer = n .answer u; measures = n .measures u }) (runs (n .related) cs)
-
   -- the words after a list of calls
   pub record After-calls (ws : List ℕ) : Type 0 where
     pub state : State
@@ -195,6 +187,3 @@ module _ (g : Settings) (limits : settingsFit g ≡ true) (k : Kind g) where
   unfoldable pub made-related : (ws : List ℕ) → Accepted ws g → Related (makeOf ws g .words) (madeIn g)
   made-related ws a =
       record { says = rw (a .words) (made-says ws g (a .enough)); list = noItems; whole = made-whole }
-
-  pub words-order : (ws : List ℕ) → Accepted ws g → (cs : List Call) → OneAtATime g (run (g .edition) (makeOf ws g .words) cs)
-  words-order ws a cs = one-at-a-time g (nextIn g) (statusIn g) Whole (k .Snap) whole-turn (madeIn g) made-whole made-idle _ (runs (made-related ws a) cs)

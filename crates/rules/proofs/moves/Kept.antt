@@ -3,9 +3,8 @@
 -- A queue's invariant is that of its windows, which keep their numbers, and speaks of an edition in two places. Editions 0 and 1 have windows of the
 -- pool's size alone, and R is a multiple of d: a move back asks for both. Edition 2 has 16 live windows at most: a move on asks for that. A window that
 -- a worker has seen is one of the pool's, with the pool's size where no size was ever set. A stack's invariant does not speak of editions.
-use mathlib.Core.Path.{_≡_, refl, sym, ap, _∙_, subst}
-use mathlib.Core.Logic.{_⊎_}
-use mathlib.Core.Bool.{Bool, true, false, false≢true}
+use mathlib.Core.Path.{_≡_, refl, sym, _∙_, subst}
+use mathlib.Core.Bool.{Bool, true, false}
 use Prim.Native.Nat.{ℕ, suc, _+_, _*_, _≤_, _<_}
 use native.Mathlib.Nat.{le-refl, lt-of-mul-lt-mul-right}
 use native.Mathlib.Decide.{ℕ-discrete}
@@ -13,18 +12,18 @@ use native.Mathlib.Omega.{arith}
 use Rattle.rules.specs.Limits.{windowed, mostLive, settingsFit}
 use Rattle.rules.specs.Make.{inEdition}
 use Rattle.rules.specs.Sequential.{Contents}
-use Rattle.rules.proofs.Types.{Settings, Side, Putting, Taking, Phase, Idle, Window, QueuePutRead, QueueTakeRead, StackRead, Check, QueueCommit, StackCommit, QueueShift, StackShift, QueueConfirm, StackConfirm, Span, Slot}
-use Rattle.rules.proofs.machine.Machine.{Frame, State, topOf, subIn, phaseIn}
+use Rattle.rules.proofs.Types.{Settings, Side, Putting, Taking, Phase, Idle, Window, QueuePutRead, QueueTakeRead, StackRead, Check, QueueCommit, StackCommit, QueueShift, StackShift, QueueConfirm, StackConfirm, Span}
+use Rattle.rules.proofs.machine.Machine.{Frame, State, subIn, phaseIn}
 use Rattle.rules.proofs.machine.Good.{Good, good}
 use Rattle.rules.proofs.machine.Phases.{WindowIn}
 use Rattle.rules.proofs.machine.Slots.{has-windows}
-use Rattle.rules.proofs.machine.Turns.{Kind, Holding, statusIn}
+use Rattle.rules.proofs.machine.Turns.{Kind}
 use Rattle.rules.proofs.machine.Ways.{Snap, SnapAt}
-use Rattle.rules.proofs.queue.Inv.{Windows, Plain, Pool, Sees, Knows, Inv, Grown, knows-grown, base-le, top-few, putsIn}
+use Rattle.rules.proofs.queue.Inv.{Plain, Pool, Sees, Knows, Inv, Grown, knows-grown, base-le, top-few}
 use Rattle.rules.proofs.queue.Turn.{queueKind}
-use Rattle.rules.proofs.stack.Inv.{Ghost, Sight, sight, versionsIn, Knows as StackKnows, Inv as StackInv, Pool as StackPool, Passed}
+use Rattle.rules.proofs.stack.Inv.{Ghost, Sight, sight, Knows as StackKnows, Inv as StackInv, Passed}
 use Rattle.rules.proofs.stack.Turn.{stackKind}
-use Rattle.rules.proofs.Theorem.{kindBy, kindOf}
+use Rattle.rules.proofs.BothKinds.{kindBy, kindOf}
 use Rattle.rules.proofs.moves.Machine.{movedIn, Movable, OwnSpan, phase-moved}
 
 -- ---- what a kind shows of a move

@@ -12,7 +12,7 @@ use Rattle.rules.specs.Move.{moveOf}
 use Rattle.rules.proofs.Types.{Settings}
 use Rattle.rules.proofs.machine.Machine.{State, phaseIn}
 use Rattle.rules.proofs.Transfer.{Whole, Related}
-use Rattle.rules.proofs.Theorem.{kindOf}
+use Rattle.rules.proofs.BothKinds.{kindOf}
 use Rattle.rules.proofs.moves.Machine.{movedIn}
 
 -- ---- what a move leaves, with the same list: every worker is in the phase that it was in, and whatever list it is, what holds goes on holding
