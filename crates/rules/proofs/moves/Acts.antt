@@ -15,19 +15,27 @@ use Rattle.rules.specs.Limits.{settingsFit}
 use Rattle.rules.specs.Layout.{settingsOf}
 use Rattle.rules.specs.Make.{makeOf, inEdition}
 use Rattle.rules.specs.Move.{moveOf}
-use Rattle.rules.specs.Sequential.{Contents}
-use Rattle.rules.specs.Run.{Call}
+use Rattle.rules.specs.Sequential.{Operation, Contents, demand3Rows}
+use Rattle.rules.specs.Run.{Call, begin}
 use Rattle.rules.specs.Consequences.{itemsIn}
-use Rattle.rules.specs.Turnaround.{MoveDoes, Act, call, move, Place, here, placeAfter, placeOver, runOver}
+use Rattle.rules.specs.Newer.{exactRows}
+use Rattle.rules.specs.Solo.{soloSteps}
+use Rattle.rules.specs.Turnaround.{MoveDoes, Act, call, move, Place, here, placeAfter, placeOver, runOver, ExactOverMoves, Demand3OverMoves, NothingLostOverMoves, SoloFrom, SoloOverMoves, K3OverMoves}
 use Rattle.rules.proofs.Types.{Settings}
-use Rattle.rules.proofs.Fitness.{fit-head}
+use Rattle.rules.proofs.Fitness.{fit-head, settings-bounds}
 use Rattle.rules.proofs.order.Closest.{OneAtATime}
 use Rattle.rules.proofs.machine.Machine.{State, madeIn}
 use Rattle.rules.proofs.Transfer.{Related, next-related, made-related}
 use Rattle.rules.proofs.Runs.{none-accounted, one-accounted}
 use Rattle.rules.proofs.BothKinds.{kindOf}
 use Rattle.rules.proofs.Course.{At, Course, none, calls, moves, course-order}
-use Rattle.rules.proofs.words.Made.{Accepted}
+use Rattle.rules.proofs.words.Made.{Accepted, accepted}
+use Rattle.rules.proofs.counts.Held.{count-none}
+use Rattle.rules.proofs.figures.Figures.{exact-most}
+use Rattle.rules.proofs.order.Relaxed.{relaxed}
+use Rattle.rules.proofs.progress.Forms.{ends-later}
+use Rattle.rules.proofs.progress.Theorem.{ends-solo, exact-k3}
+use Rattle.rules.proofs.moves.Moved.{move-does}
 use Rattle.rules.proofs.moves.Related.{MovedRelated, MoveRelated}
 
 module _ (g : Settings) where
@@ -112,3 +120,36 @@ module _ (g : Settings) where
     lies-over p l (move a b area ∷ xs) =
         cases (λ (q : Place). Lies (placeOver q xs)) (eqb (numberOf (moveOf a b (p .words) area .answer)) 0) (movedPlace p a b area) p
         (λ e. lies-over (movedPlace p a b area) (moved-lies l a b area (eqb-true _ _ e)) xs) (λ e. lies-over p l xs)
+
+    -- ---- K3
+    solo-over : (ws : List ℕ) (a : Accepted ws g) (xs : List Act) (i : ℕ) (o : Operation) (ys : List Act)
+        → SoloFrom (placeOver (here g (makeOf ws g .words)) xs) i o (soloSteps g o) ys
+    solo-over ws a xs i o ys b solo =
+        let p = placeOver (here g (makeOf ws g .words)) xs in
+        let l = lies-over (here g (makeOf ws g .words)) (made-lies ws a) xs in
+        ends-solo g (atPlace l) (l .related) i o b (course-over (placeAfter p (call (begin i o))) (call-lies l (begin i o)) ys) solo
+
+-- ---- from make on
+module _ (relates : MoveRelated) where
+  pub exact-over-moves : ExactOverMoves
+  exact-over-moves ws g xs made = order-over g move-does relates ws (accepted ws g made) xs
+
+  pub demand3-over-moves : Demand3OverMoves
+  demand3-over-moves ws g xs made =
+      relaxed g (exactRows g) (demand3Rows g) (exact-most g (settings-bounds g (accepted ws g made .limits) .depth1)) _ (exact-over-moves ws g xs made)
+
+  pub nothing-lost-over-moves : NothingLostOverMoves
+  unfolding made-related
+  nothing-lost-over-moves ws g xs made p =
+      omega (arith, accounted-over g move-does relates (here g (makeOf ws g .words)) (made-lies g ws (accepted ws g made)) xs p, count-none p)
+
+  solo-exact-over-moves : SoloOverMoves soloSteps
+  solo-exact-over-moves ws g xs made i o ys = solo-over g move-does relates ws (accepted ws g made) xs i o ys
+
+  pub k3-over-moves : K3OverMoves
+  k3-over-moves = (
+    λ ws g xs made i o ys b solo.
+        let few = exact-k3 g o in
+        ends-later few (solo-exact-over-moves ws g xs made i o ys (record { accepted = b .accepted; enough = omega (arith, b .enough) }) solo),
+    solo-exact-over-moves,
+  )
