@@ -21,11 +21,12 @@ use Rattle.rules.proofs.figures.Figures.{exact-thesis, thesis-k14, k14-
 use Rattle.rules.proofs.order.Relaxed.{relaxed}
 
 -- the law of one step, for settings within limits
-pub kindOf : (g : Settings) → settingsFit g ≡ true → Kind g
-kindOf g limits = elim (ℕ-discrete (g .kind) 0) [
-  | yes e ↦ queueKind g (good g limits) e
-  | no n ↦ stackKind g (good g limits) (omega (arith, settings-bounds g limits .kind1))
-]
+unfoldable pub kindBy : (g : Settings) → settingsFit g ≡ true → Dec (g .kind ≡ 0) → Kind g
+kindBy g limits (yes e) = queueKind g (good g limits) e
+kindBy g limits (no n) = stackKind g (good g limits) (omega (arith, settings-bounds g limits .kind1))
+
+unfoldable pub kindOf : (g : Settings) → settingsFit g ≡ true → Kind g
+kindOf g limits = kindBy g limits (ℕ-discrete (g .kind) 0)
 
 -- with the exact figure, the thesis', K14's and demand 3's own: each is in the order of the one before, for it is not below it
 pub exact : Exact

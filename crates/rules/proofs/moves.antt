@@ -9,6 +9,8 @@ pub mod Slots
 pub mod Words
 pub mod Fits
 pub mod Moved
+pub mod Kept
+pub mod KeptStack
 pub mod Related
 pub mod Back
 pub mod Over
