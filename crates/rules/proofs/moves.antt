@@ -13,4 +13,5 @@ pub mod Kept
 pub mod KeptStack
 pub mod Related
 pub mod Back
+pub mod Widening
 pub mod Over
