@@ -9,9 +9,10 @@ pub mod Slots
 pub mod Words
 pub mod Fits
 pub mod Moved
+pub mod Kept
+pub mod KeptStack
 pub mod Related
 pub mod Back
+pub mod Widening
 pub mod Over
-pub mod Machine
-pub mod Kept
 pub mod Acts

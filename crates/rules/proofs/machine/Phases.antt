@@ -193,7 +193,7 @@ pub encode-scan : (g : Settings) (k : Worker) (o : Slot) → encode g k o .scan 
 unfolding encode
 encode-scan g k o = words-back g (k .phase) (k .value) (k .index) o .2
 
-pub same-either : {A : Type 0} (b : Bool) (x : A) → cond b x x ≡ x
+same-either : {A : Type 0} (b : Bool) (x : A) → cond b x x ≡ x
 unfolding cond
 same-either true x = refl
 same-either false x = refl

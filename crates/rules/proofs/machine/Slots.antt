@@ -25,15 +25,15 @@ OfKind g p = (g .kind ≡ 0 → OfQueue g p) × (g .kind ≢ 0 → OfStack p)
 abbrev pub FromSlot : Settings → Slot → Phase → Type 0
 FromSlot g o p = (scanIn p (o .scan) ≡ o .scan) × WindowIn (λ window. (window ≡ seenBy g o) × (pastWindow (o .number) ≡ true)) p
 
-pub past : (o : Slot) (n : ℕ) → pastWindow n ≡ true → eqb (o .number) n ≡ true → pastWindow (o .number) ≡ true
+past : (o : Slot) (n : ℕ) → pastWindow n ≡ true → eqb (o .number) n ≡ true → pastWindow (o .number) ≡ true
 past o n h e = subst (λ (x : ℕ). pastWindow x ≡ true) (sym (eqb-true (o .number) n e)) h
 
 -- the numbers of a queue's phases that have a window
-pub past-put : (pastWindow 2 ≡ true) × (pastWindow 4 ≡ true) × (pastWindow 5 ≡ true)
+past-put : (pastWindow 2 ≡ true) × (pastWindow 4 ≡ true) × (pastWindow 5 ≡ true)
 unfolding cond
 past-put = (refl, refl, refl)
 
-pub past-take : (pastWindow 10 ≡ true) × (pastWindow 12 ≡ true) × (pastWindow 13 ≡ true) × (pastWindow 14 ≡ true)
+past-take : (pastWindow 10 ≡ true) × (pastWindow 12 ≡ true) × (pastWindow 13 ≡ true) × (pastWindow 14 ≡ true)
 unfolding cond
 past-take = (refl, refl, refl, refl)
 

@@ -20,7 +20,7 @@ use Rattle.rules.specs.Run.{Call, begin}
 use Rattle.rules.specs.Consequences.{itemsIn}
 use Rattle.rules.specs.Newer.{exactRows}
 use Rattle.rules.specs.Solo.{soloSteps}
-use Rattle.rules.specs.Turnaround.{MoveDoes, Act, call, move, Place, here, placeAfter, placeOver, runOver, ExactOverMoves, Demand3OverMoves, NothingLostOverMoves, SoloFrom, SoloOverMoves, K3OverMoves}
+use Rattle.rules.specs.Turnaround.{Act, call, move, Place, here, placeAfter, placeOver, runOver, ExactOverMoves, Demand3OverMoves, NothingLostOverMoves, SoloFrom, SoloOverMoves, K3OverMoves}
 use Rattle.rules.proofs.Types.{Settings}
 use Rattle.rules.proofs.Fitness.{fit-head, settings-bounds}
 use Rattle.rules.proofs.order.Closest.{OneAtATime}
@@ -36,7 +36,7 @@ use Rattle.rules.proofs.order.Relaxed.{relaxed}
 use Rattle.rules.proofs.progress.Forms.{ends-later}
 use Rattle.rules.proofs.progress.Theorem.{ends-solo, exact-k3}
 use Rattle.rules.proofs.moves.Moved.{move-does}
-use Rattle.rules.proofs.moves.Related.{MovedRelated, MoveRelated}
+use Rattle.rules.proofs.moves.Related.{MovedRelated, move-related}
 
 module _ (g : Settings) where
   -- ---- a pool where it lies
@@ -57,99 +57,97 @@ module _ (g : Settings) where
       record { limits = l .limits; state = _; related = next-related (inEdition (p .edition) g) (l .limits) (kindOf (inEdition (p .edition) g) (l .limits)) (l .related) c .related }
 
   -- ---- and a move
-  module _ (does : MoveDoes) (relates : MoveRelated) where
-    abbrev movedPlace : Place → ℕ → ℕ → List ℕ → Place
-    movedPlace p a b area = record { edition = b; words = moveOf a b (p .words) area .words }
+  abbrev movedPlace : Place → ℕ → ℕ → List ℕ → Place
+  movedPlace p a b area = record { edition = b; words = moveOf a b (p .words) area .words }
 
-    abbrev MovedFrom : {p : Place} → Lies p → ℕ → List ℕ → Type 0
-    MovedFrom {p} l b vs = MovedRelated (inEdition (p .edition) g) (l .limits) b (l .related) vs
+  abbrev MovedFrom : {p : Place} → Lies p → ℕ → List ℕ → Type 0
+  MovedFrom {p} l b vs = MovedRelated (inEdition (p .edition) g) (l .limits) b (l .related) vs
 
-    pub moved-from : {p : Place} (l : Lies p) (a b : ℕ) (area : List ℕ) → numberOf (moveOf a b (p .words) area .answer) ≡ 0 → MovedFrom l b (moveOf a b (p .words) area .words)
-    moved-from {p} l a b area done =
-        let own : p .edition ≡ a =
-        ap (λ (h : Settings). h .edition) (sym (l .related .says .settings)) ∙ fit-head a (p .words) (settingsOf (p .words)) (does a b (p .words) area done .fit-before) .1 in
-        subst (λ (x : ℕ). MovedFrom l b (moveOf x b (p .words) area .words)) own
-        (relates (inEdition (p .edition) g) (l .limits) b (p .words) (l .state) (l .related) area
-        (subst (λ (x : ℕ). numberOf (moveOf x b (p .words) area .answer) ≡ 0) (sym own) done))
+  pub moved-from : {p : Place} (l : Lies p) (a b : ℕ) (area : List ℕ) → numberOf (moveOf a b (p .words) area .answer) ≡ 0 → MovedFrom l b (moveOf a b (p .words) area .words)
+  moved-from {p} l a b area done =
+      let own : p .edition ≡ a =
+      ap (λ (h : Settings). h .edition) (sym (l .related .says .settings)) ∙ fit-head a (p .words) (settingsOf (p .words)) (move-does a b (p .words) area done .fit-before) .1 in
+      subst (λ (x : ℕ). MovedFrom l b (moveOf x b (p .words) area .words)) own
+      (move-related (inEdition (p .edition) g) (l .limits) b (p .words) (l .state) (l .related) area
+      (subst (λ (x : ℕ). numberOf (moveOf x b (p .words) area .answer) ≡ 0) (sym own) done))
 
-    abbrev pub moved-lies : {p : Place} (l : Lies p) (a b : ℕ) (area : List ℕ) → numberOf (moveOf a b (p .words) area .answer) ≡ 0 → Lies (movedPlace p a b area)
-    moved-lies l a b area done = let m = moved-from l a b area done in record { limits = m .fits; state = _; related = m .related }
+  abbrev pub moved-lies : {p : Place} (l : Lies p) (a b : ℕ) (area : List ℕ) → numberOf (moveOf a b (p .words) area .answer) ≡ 0 → Lies (movedPlace p a b area)
+  moved-lies l a b area done = let m = moved-from l a b area done in record { limits = m .fits; state = _; related = m .related }
 
-    -- ---- over any acts
-    course-over : (p : Place) (l : Lies p) (xs : List Act) → Course g (atPlace l) (runOver p xs)
-    unfolding runOver
-    course-over p l [] = none
-    course-over p l (call c ∷ xs) =
-        let n = next-related (inEdition (p .edition) g) (l .limits) (kindOf (inEdition (p .edition) g) (l .limits)) (l .related) c in
-        calls c (λ u. record { call = c; answer = n .answer u; measures = n .measures u }) (course-over (placeAfter p (call c)) (call-lies l c) xs)
-    course-over p l (move a b area ∷ xs) =
-        cases (λ (q : Place). Course g (atPlace l) (runOver q xs)) (eqb (numberOf (moveOf a b (p .words) area .answer)) 0) (movedPlace p a b area) p
-        (λ t.
-        let done = eqb-true _ _ t in
-        let m = moved-from l a b area done in
-        moves b (m .fits) (record { phase = m .phase; whole = m .whole; snap = λ x₀ q₀ i z. m .snap (x₀ .state) q₀ i z }) (course-over (movedPlace p a b area) (moved-lies l a b area done) xs))
-        (λ t. course-over p l xs)
+  -- ---- over any acts
+  course-over : (p : Place) (l : Lies p) (xs : List Act) → Course g (atPlace l) (runOver p xs)
+  unfolding runOver
+  course-over p l [] = none
+  course-over p l (call c ∷ xs) =
+      let n = next-related (inEdition (p .edition) g) (l .limits) (kindOf (inEdition (p .edition) g) (l .limits)) (l .related) c in
+      calls c (λ u. record { call = c; answer = n .answer u; measures = n .measures u }) (course-over (placeAfter p (call c)) (call-lies l c) xs)
+  course-over p l (move a b area ∷ xs) =
+      cases (λ (q : Place). Course g (atPlace l) (runOver q xs)) (eqb (numberOf (moveOf a b (p .words) area .answer)) 0) (movedPlace p a b area) p
+      (λ t.
+      let done = eqb-true _ _ t in
+      let m = moved-from l a b area done in
+      moves b (m .fits) (record { phase = m .phase; whole = m .whole; snap = λ x₀ q₀ i z. m .snap (x₀ .state) q₀ i z }) (course-over (movedPlace p a b area) (moved-lies l a b area done) xs))
+      (λ t. course-over p l xs)
 
-    pub order-over : (ws : List ℕ) (a : Accepted ws g) (xs : List Act) → OneAtATime g (runOver (here g (makeOf ws g .words)) xs)
-    order-over ws a xs = course-order g (a .limits) (course-over (here g (makeOf ws g .words)) (made-lies ws a) xs)
+  pub order-over : (ws : List ℕ) (a : Accepted ws g) (xs : List Act) → OneAtATime g (runOver (here g (makeOf ws g .words)) xs)
+  order-over ws a xs = course-order g (a .limits) (course-over (here g (makeOf ws g .words)) (made-lies ws a) xs)
 
-    -- ---- no item is lost or invented
-    pub accounted-over : (p : Place) (l : Lies p) (xs : List Act) (t : Item → Bool)
-        → countItems t (heldItems (placeOver p xs .words) (inEdition (placeOver p xs .edition) g)) + countItems t (itemsIn 2 (runOver p xs))
-        ≡ countItems t (l .related .list .items) + countItems t (itemsIn 1 (runOver p xs))
-    unfolding placeOver runOver
-    accounted-over p l [] t = none-accounted (inEdition (p .edition) g) (l .limits) (kindOf (inEdition (p .edition) g) (l .limits)) (l .related) t
-    accounted-over p l (call c ∷ xs) t =
-        one-accounted (inEdition (p .edition) g) (l .limits) (kindOf (inEdition (p .edition) g) (l .limits)) (l .related) c _ _ t
-        (accounted-over (placeAfter p (call c)) (call-lies l c) xs t)
-    accounted-over p l (move a b area ∷ xs) t =
-        cases (λ (q : Place). countItems t (heldItems (placeOver q xs .words) (inEdition (placeOver q xs .edition) g)) + countItems t (itemsIn 2 (runOver q xs))
-        ≡ countItems t (l .related .list .items) + countItems t (itemsIn 1 (runOver q xs)))
-        (eqb (numberOf (moveOf a b (p .words) area .answer)) 0) (movedPlace p a b area) p
-        (λ e.
-        let done = eqb-true _ _ e in
-        let same = ap (λ (q : Contents). countItems t (q .items)) (moved-from l a b area done .list) in
-        omega (arith, accounted-over (movedPlace p a b area) (moved-lies l a b area done) xs t, same))
-        (λ e. accounted-over p l xs t)
+  -- ---- no item is lost or invented
+  pub accounted-over : (p : Place) (l : Lies p) (xs : List Act) (t : Item → Bool)
+      → countItems t (heldItems (placeOver p xs .words) (inEdition (placeOver p xs .edition) g)) + countItems t (itemsIn 2 (runOver p xs))
+      ≡ countItems t (l .related .list .items) + countItems t (itemsIn 1 (runOver p xs))
+  unfolding placeOver runOver
+  accounted-over p l [] t = none-accounted (inEdition (p .edition) g) (l .limits) (kindOf (inEdition (p .edition) g) (l .limits)) (l .related) t
+  accounted-over p l (call c ∷ xs) t =
+      one-accounted (inEdition (p .edition) g) (l .limits) (kindOf (inEdition (p .edition) g) (l .limits)) (l .related) c _ _ t
+      (accounted-over (placeAfter p (call c)) (call-lies l c) xs t)
+  accounted-over p l (move a b area ∷ xs) t =
+      cases (λ (q : Place). countItems t (heldItems (placeOver q xs .words) (inEdition (placeOver q xs .edition) g)) + countItems t (itemsIn 2 (runOver q xs))
+      ≡ countItems t (l .related .list .items) + countItems t (itemsIn 1 (runOver q xs)))
+      (eqb (numberOf (moveOf a b (p .words) area .answer)) 0) (movedPlace p a b area) p
+      (λ e.
+      let done = eqb-true _ _ e in
+      let same = ap (λ (q : Contents). countItems t (q .items)) (moved-from l a b area done .list) in
+      omega (arith, accounted-over (movedPlace p a b area) (moved-lies l a b area done) xs t, same))
+      (λ e. accounted-over p l xs t)
 
-    -- ---- where it lies after any acts
-    pub lies-over : (p : Place) → Lies p → (xs : List Act) → Lies (placeOver p xs)
-    unfolding placeOver
-    lies-over p l [] = l
-    lies-over p l (call c ∷ xs) = lies-over (placeAfter p (call c)) (call-lies l c) xs
-    lies-over p l (move a b area ∷ xs) =
-        cases (λ (q : Place). Lies (placeOver q xs)) (eqb (numberOf (moveOf a b (p .words) area .answer)) 0) (movedPlace p a b area) p
-        (λ e. lies-over (movedPlace p a b area) (moved-lies l a b area (eqb-true _ _ e)) xs) (λ e. lies-over p l xs)
+  -- ---- where it lies after any acts
+  pub lies-over : (p : Place) → Lies p → (xs : List Act) → Lies (placeOver p xs)
+  unfolding placeOver
+  lies-over p l [] = l
+  lies-over p l (call c ∷ xs) = lies-over (placeAfter p (call c)) (call-lies l c) xs
+  lies-over p l (move a b area ∷ xs) =
+      cases (λ (q : Place). Lies (placeOver q xs)) (eqb (numberOf (moveOf a b (p .words) area .answer)) 0) (movedPlace p a b area) p
+      (λ e. lies-over (movedPlace p a b area) (moved-lies l a b area (eqb-true _ _ e)) xs) (λ e. lies-over p l xs)
 
-    -- ---- K3
-    solo-over : (ws : List ℕ) (a : Accepted ws g) (xs : List Act) (i : ℕ) (o : Operation) (ys : List Act)
-        → SoloFrom (placeOver (here g (makeOf ws g .words)) xs) i o (soloSteps g o) ys
-    solo-over ws a xs i o ys b solo =
-        let p = placeOver (here g (makeOf ws g .words)) xs in
-        let l = lies-over (here g (makeOf ws g .words)) (made-lies ws a) xs in
-        ends-solo g (atPlace l) (l .related) i o b (course-over (placeAfter p (call (begin i o))) (call-lies l (begin i o)) ys) solo
+  -- ---- K3
+  solo-over : (ws : List ℕ) (a : Accepted ws g) (xs : List Act) (i : ℕ) (o : Operation) (ys : List Act)
+      → SoloFrom (placeOver (here g (makeOf ws g .words)) xs) i o (soloSteps g o) ys
+  solo-over ws a xs i o ys b solo =
+      let p = placeOver (here g (makeOf ws g .words)) xs in
+      let l = lies-over (here g (makeOf ws g .words)) (made-lies ws a) xs in
+      ends-solo g (atPlace l) (l .related) i o b (course-over (placeAfter p (call (begin i o))) (call-lies l (begin i o)) ys) solo
 
 -- ---- from make on
-module _ (relates : MoveRelated) where
-  pub exact-over-moves : ExactOverMoves
-  exact-over-moves ws g xs made = order-over g move-does relates ws (accepted ws g made) xs
+pub exact-over-moves : ExactOverMoves
+exact-over-moves ws g xs made = order-over g ws (accepted ws g made) xs
 
-  pub demand3-over-moves : Demand3OverMoves
-  demand3-over-moves ws g xs made =
-      relaxed g (exactRows g) (demand3Rows g) (exact-most g (settings-bounds g (accepted ws g made .limits) .depth1)) _ (exact-over-moves ws g xs made)
+pub demand3-over-moves : Demand3OverMoves
+demand3-over-moves ws g xs made =
+    relaxed g (exactRows g) (demand3Rows g) (exact-most g (settings-bounds g (accepted ws g made .limits) .depth1)) _ (exact-over-moves ws g xs made)
 
-  pub nothing-lost-over-moves : NothingLostOverMoves
-  unfolding made-related
-  nothing-lost-over-moves ws g xs made p =
-      omega (arith, accounted-over g move-does relates (here g (makeOf ws g .words)) (made-lies g ws (accepted ws g made)) xs p, count-none p)
+pub nothing-lost-over-moves : NothingLostOverMoves
+unfolding made-related
+nothing-lost-over-moves ws g xs made p =
+    omega (arith, accounted-over g (here g (makeOf ws g .words)) (made-lies g ws (accepted ws g made)) xs p, count-none p)
 
-  solo-exact-over-moves : SoloOverMoves soloSteps
-  solo-exact-over-moves ws g xs made i o ys = solo-over g move-does relates ws (accepted ws g made) xs i o ys
+solo-exact-over-moves : SoloOverMoves soloSteps
+solo-exact-over-moves ws g xs made i o ys = solo-over g ws (accepted ws g made) xs i o ys
 
-  pub k3-over-moves : K3OverMoves
-  k3-over-moves = (
-    λ ws g xs made i o ys b solo.
-        let few = exact-k3 g o in
-        ends-later few (solo-exact-over-moves ws g xs made i o ys (record { accepted = b .accepted; enough = omega (arith, b .enough) }) solo),
-    solo-exact-over-moves,
-  )
+pub k3-over-moves : K3OverMoves
+k3-over-moves = (
+  λ ws g xs made i o ys b solo.
+      let few = exact-k3 g o in
+      ends-later few (solo-exact-over-moves ws g xs made i o ys (record { accepted = b .accepted; enough = omega (arith, b .enough) }) solo),
+  solo-exact-over-moves,
+)

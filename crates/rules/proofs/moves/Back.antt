@@ -126,11 +126,11 @@ module _ (b : ℕ) (from : List ℕ) (g : Settings) (middle to : List ℕ) (old 
         beyond : Beyond (needed g) to again
         beyond = again-is-moved .beyond
 
-    there-and-back : moveOf b (g .edition) there to ≡ out Moving (paste to 0 ws (needed g))
+    pub there-and-back : moveOf b (g .edition) there to ≡ out Moving (paste to 0 ws (needed g))
     there-and-back = goes-back ∙ ap (out Moving) again-is
 
 -- what the pool that was moved on has of a worker, where the editions have it
-word-kept : (b : ℕ) (from : List ℕ) (g : Settings) (middle : List ℕ) → Movable b from g middle
+pub word-kept : (b : ℕ) (from : List ℕ) (g : Settings) (middle : List ℕ) → Movable b from g middle
     → (i k : ℕ) → i < g .workers → k < workerWords (g .edition) → k < workerWords b
     → wordIn (movedWords from g middle (inEdition b g)) (inEdition b g) i k ≡ getD from (workerAt g i + k) 0
 unfolding cond

@@ -1,128 +1,224 @@
--- A move keeps what holds of a pool from make, of either kind, and no operation under way sees it.
---
--- A queue's invariant is that of its windows, which keep their numbers, and speaks of an edition in two places. Editions 0 and 1 have windows of the
--- pool's size alone, and R is a multiple of d: a move back asks for both. Edition 2 has 16 live windows at most: a move on asks for that. A window that
--- a worker has seen is one of the pool's, with the pool's size where no size was ever set. A stack's invariant does not speak of editions.
-use mathlib.Core.Path.{_≡_, refl, sym, _∙_, subst}
-use mathlib.Core.Bool.{Bool, true, false}
-use Prim.Native.Nat.{ℕ, suc, _+_, _*_, _≤_, _<_}
-use native.Mathlib.Nat.{le-refl, lt-of-mul-lt-mul-right}
-use native.Mathlib.Decide.{ℕ-discrete}
+-- The machine over a move: its state is the same but for the words of the windows seen, so that every worker is in the phase that it was in, and the
+-- invariant goes on holding. What it takes is that no size was ever set, so that all windows are of the pool's size, and that few are live.
+use Prim.Native.Nat.{ℕ, suc, _+_, _-_, _*_, _^_, _≤_, _<_}
+use mathlib.Core.Path.{_≡_, refl, sym, ap, subst, _∙_}
+use mathlib.Core.Logic.{_⊎_, inl, inr}
+use mathlib.Core.Bool.{Bool, true, false, false≢true}
+use native.Mathlib.Nat.{le-refl}
 use native.Mathlib.Omega.{arith}
-use Rattle.rules.specs.Limits.{windowed, mostLive, settingsFit}
+use lib.Dec.{eqb}
+use borrow.Author.Tests.{eqb-true, eqb-false}
+use Rattle.laws.specs.Choice.{cond, cond-both}
+use Rattle.laws.specs.Wrap.{sub32}
+use Rattle.rules.specs.Layout.{bottomWord, widthWord}
+use Rattle.rules.specs.Limits.{settingsFit, windowed, mostLive, Bounds}
 use Rattle.rules.specs.Make.{inEdition}
 use Rattle.rules.specs.Sequential.{Contents}
-use Rattle.rules.proofs.Types.{Settings, Side, Putting, Taking, Phase, Idle, Window, QueuePutRead, QueueTakeRead, StackRead, Check, QueueCommit, StackCommit, QueueShift, StackShift, QueueConfirm, StackConfirm, Span}
-use Rattle.rules.proofs.machine.Machine.{Frame, State, subIn, phaseIn}
-use Rattle.rules.proofs.machine.Good.{Good, good}
+use Rattle.rules.specs.Windows.{hasWindows, sizeOf, spanOf}
+use Rattle.rules.specs.Worker.{seenBy, kept, queuePhase, stackPhase, phaseOf}
+use Rattle.rules.specs.Fit.{pastWindow, SizeFits}
+use Rattle.rules.specs.Move.{newWord}
+use Rattle.rules.proofs.Types.{Settings, Side, Putting, Taking, Phase, Idle, Window, QueuePutRead, QueueTakeRead, StackRead, Check, QueueCommit, StackCommit, QueueShift, StackShift, QueueConfirm, StackConfirm, Slot, Span}
+use Rattle.rules.proofs.counts.Wraps.{sub32-is}
+use Rattle.rules.proofs.machine.Machine.{State, topOf, subIn, phaseIn}
 use Rattle.rules.proofs.machine.Phases.{WindowIn}
-use Rattle.rules.proofs.machine.Slots.{has-windows}
-use Rattle.rules.proofs.machine.Turns.{Kind}
-use Rattle.rules.proofs.machine.Ways.{Snap, SnapAt}
-use Rattle.rules.proofs.queue.Inv.{Plain, Pool, Sees, Knows, Inv, Grown, knows-grown, base-le, top-few}
-use Rattle.rules.proofs.queue.Turn.{queueKind}
-use Rattle.rules.proofs.stack.Inv.{Ghost, Sight, sight, Knows as StackKnows, Inv as StackInv, Passed}
-use Rattle.rules.proofs.stack.Turn.{stackKind}
-use Rattle.rules.proofs.BothKinds.{kindBy, kindOf}
-use Rattle.rules.proofs.moves.Machine.{movedIn, Movable, OwnSpan, phase-moved}
+use Rattle.rules.proofs.machine.Good.{Good}
+use Rattle.rules.proofs.machine.Turns.{Common}
+use Rattle.rules.proofs.machine.Slots.{Blank, phase-from}
+use Rattle.rules.proofs.machine.Ways.{SnapAt}
+use Rattle.rules.proofs.queue.Inv.{Windows, Plain, Pool, Sees, Knows, Inv, Grown, knows-grown, base-le, top-few}
+use Rattle.rules.proofs.moves.Slots.{slotMoved, bottom-given, width-given, stack-given, worker-moved}
 
--- ---- what a kind shows of a move
-pub record KindMoves (g : Settings) (b : ℕ) (k : Kind g) (k′ : Kind (inEdition b g)) : Type 0 where
-  pub phase : (s : State) (q : Contents) → k .Inv s q → Movable g (inEdition b g) s → (i : ℕ) → phaseIn (inEdition b g) (movedIn g (inEdition b g) s) i ≡ phaseIn g s i
-  pub kept : (s : State) (q : Contents) → k .Inv s q → Movable g (inEdition b g) s → k′ .Inv (movedIn g (inEdition b g) s) q
-  pub snap : (s : State) (q : Contents) → k .Inv s q → Movable g (inEdition b g) s
-      → (j : ℕ) (s₀ : State) (q₀ : Contents) → k .Snap s₀ q₀ j s → k′ .Snap s₀ q₀ j (movedIn g (inEdition b g) s)
+-- the state after a move, from settings g to settings h
+abbrev pub movedIn : Settings → Settings → State → State
+movedIn g h s =
+    record {
+      steps = s .steps;
+      puts = s .puts;
+      top = s .top;
+      mark = s .mark;
+      next = s .next;
+      set = s .set;
+      frame = s .frame;
+      first = s .first;
+      second = s .second;
+      item = s .item;
+      slot = λ i. slotMoved g h (s .slot i);
+    }
 
--- a link is of a phase, and of no edition
-snap-kept : (g : Settings) (b : ℕ) (h₀ : ℕ → ℕ) (q₀ : Contents) (now : ℕ → ℕ) (index : ℕ) (p : Phase) → SnapAt g h₀ q₀ now index p → SnapAt (inEdition b g) h₀ q₀ now index p
-snap-kept g b h₀ q₀ now index Idle z = z
-snap-kept g b h₀ q₀ now index (Window side) z = z
-snap-kept g b h₀ q₀ now index (QueuePutRead window scan) z = z
-snap-kept g b h₀ q₀ now index (QueueTakeRead window bare scan sum) z = z
-snap-kept g b h₀ q₀ now index (StackRead side window version scan sum) z = z
-snap-kept g b h₀ q₀ now index (Check side version seen) z = z
-snap-kept g b h₀ q₀ now index (QueueCommit side window seen) z = z
-snap-kept g b h₀ q₀ now index (StackCommit side seen) z = z
-snap-kept g b h₀ q₀ now index (QueueShift side window) z = z
-snap-kept g b h₀ q₀ now index (StackShift side version scan sum) z = z
-snap-kept g b h₀ q₀ now index (QueueConfirm window scan sum) z = z
-snap-kept g b h₀ q₀ now index (StackConfirm Putting scan sum) z = z
-snap-kept g b h₀ q₀ now index (StackConfirm Taking scan sum) z = z
+-- ---- the window seen, where it is of the pool's size
+pub record Own (g : Settings) (window : Span) : Type 0 where
+  pub deep : g .depth ≤ window .top
+  pub few : window .top < 2 ^ 32
+  pub bottom : window .bottom ≡ window .top - g .depth
+  pub wide : window .width ≡ g .width
 
-snap-moved : (g : Settings) (b : ℕ) (h₀ : ℕ → ℕ) (q₀ : Contents) (now : ℕ → ℕ) (index : ℕ) {p p′ : Phase} → p′ ≡ p → SnapAt g h₀ q₀ now index p
-    → SnapAt (inEdition b g) h₀ q₀ now index p′
-snap-moved g b h₀ q₀ now index {p} same z = subst (SnapAt (inEdition b g) h₀ q₀ now index) (sym same) (snap-kept g b h₀ q₀ now index p z)
+-- whatever the edition, the window seen has the top that the slot has
+seen-top : (g : Settings) (o : Slot) → seenBy g o .top ≡ o .window
+unfolding seenBy cond
+seen-top g o = go (windowed g) refl
+  where
+    go : (x : Bool) → windowed g ≡ x → cond x (record { top = o .window; bottom = o .bottom; width = o .width }) (spanOf (o .window) (sizeOf g)) .top ≡ o .window
+    go true e = refl
+    go false e = refl
 
--- ---- a queue
-module _ (g : Settings) (b : ℕ) (kind : g .kind ≡ 0) (s : State) (q : Contents) (inv : Inv g s q) (able : Movable g (inEdition b g) s) where
+module _ (g : Settings) (b : ℕ) (o : Slot) where
   abbrev h : Settings
   h = inEdition b g
 
-  abbrev t : State
-  t = movedIn g h s
+  -- a window of the pool's size by its top
+  abbrev spanBy : ℕ → Span
+  spanBy top = record { top = top; bottom = top - g .depth; width = g .width }
 
-  abbrev f : Frame
-  f = s .frame
+  own-by : (window : Span) → Own g window → spanBy (window .top) ≡ window
+  own-by window own = let low = sym (own .bottom) in let wide = sym (own .wide) in λ u. record { top = window .top; bottom = low u; width = wide u }
 
-  abbrev o : Pool g s q
-  o = inv .pool
-
-  -- windows have the pool's size, of the edition that it comes from or of the one that it leads to
-  not-set : s .set ≡ 0
-  not-set = go (windowed g) refl
+  seen-by : g .kind ≡ 0 → pastWindow (o .number) ≡ true → g .depth ≤ o .window → o .window < 2 ^ 32 → seenBy h (slotMoved g h o) ≡ spanBy (o .window)
+  unfolding seenBy cond
+  seen-by kind past deep few = go (windowed h) refl
     where
-      go : (x : Bool) → windowed g ≡ x → s .set ≡ 0
-      go true e = able .back (has-windows g e kind)
-      go false e = o .old e .not-set
+      go : (x : Bool) → windowed h ≡ x
+          → cond x (record { top = o .window; bottom = cond x (newWord g o bottomWord) 0; width = cond x (newWord g o widthWord) 0 }) (spanOf (o .window) (sizeOf g)) ≡ spanBy (o .window)
+      go true e = λ u. record { top = o .window; bottom = bottom-given g o kind past u; width = width-given g o kind past u }
+      go false e = λ u. record { top = o .window; bottom = sub32-is (o .window) (g .depth) deep few u; width = g .width }
 
-  abbrev plain : Plain g f (s .next) (s .first) (s .puts)
-  plain = o .plain not-set
+  pub seen-moved : g .kind ≡ 0 → pastWindow (o .number) ≡ true → Own g (seenBy g o) → seenBy h (slotMoved g h o) ≡ seenBy g o
+  seen-moved kind past own =
+      let top = seen-top g o in
+      seen-by kind past (rw top at (own .deep)) (rw top at (own .few)) ∙ ap spanBy (sym top) ∙ own-by (seenBy g o) own
 
-  own-span : (window : Span) (limit : ℕ) → limit ≤ f .tail → Sees f limit window → OwnSpan g window
-  own-span window limit l k =
-      let at-le : k .at ≤ f .tail = omega (arith, k .at-le) in
-      let top = plain .base-is (suc (k .at)) (omega arith) in
-      let bottom = plain .base-is (k .at) (omega arith) in
-      let few = base-le (o .windows) (suc (k .at)) (suc (f .tail)) (omega arith) (le-refl _) in
+  -- ---- the phase
+  -- a queue's phase with another window seen
+  abbrev withSpan : Span → Phase → Phase
+  withSpan w Idle = Idle
+  withSpan w (Window side) = Window side
+  withSpan w (QueuePutRead window scan) = QueuePutRead w scan
+  withSpan w (QueueTakeRead window bare scan sum) = QueueTakeRead w bare scan sum
+  withSpan w (StackRead side window version scan sum) = StackRead side window version scan sum
+  withSpan w (Check side version seen) = Check side version seen
+  withSpan w (QueueCommit side window seen) = QueueCommit side w seen
+  withSpan w (StackCommit side seen) = StackCommit side seen
+  withSpan w (QueueShift side window) = QueueShift side w
+  withSpan w (StackShift side version scan sum) = StackShift side version scan sum
+  withSpan w (QueueConfirm window scan sum) = QueueConfirm w scan sum
+  withSpan w (StackConfirm side scan sum) = StackConfirm side scan sum
+
+  phase-with : queuePhase h (slotMoved g h o) ≡ withSpan (seenBy h (slotMoved g h o)) (queuePhase g o)
+  unfolding queuePhase
+  phase-with =
+      cond-both R _ (λ e. refl) (λ e. cond-both R _ (λ e. refl) (λ e. cond-both R _ (λ e. refl)
+      (λ e. cond-both R _ (λ e. refl) (λ e. cond-both R _ (λ e. refl) (λ e. cond-both R _ (λ e. refl)
+      (λ e. cond-both R _ (λ e. refl) (λ e. cond-both R _ (λ e. refl) (λ e. cond-both R _ (λ e. refl) (λ e. refl)))))))))
+    where
+      R : Phase → Phase → Type 0
+      R x y = x ≡ withSpan (seenBy h (slotMoved g h o)) y
+
+  -- the window that it has seen is the slot's
+  abbrev Same : Span → Type 0
+  Same window = (window ≡ seenBy g o) × (pastWindow (o .number) ≡ true)
+
+  same-span : (p : Phase) → g .kind ≡ 0 → WindowIn Same p → WindowIn (Own g) p → withSpan (seenBy h (slotMoved g h o)) p ≡ p
+  same-span p kind = go p
+    where
+      at : (window : Span) → Same window → Own g window → seenBy h (slotMoved g h o) ≡ window
+      at window (same, past) own = seen-moved kind past (subst (Own g) same own) ∙ sym same
+
+      go : (p : Phase) → WindowIn Same p → WindowIn (Own g) p → withSpan (seenBy h (slotMoved g h o)) p ≡ p
+      go Idle f own = refl
+      go (Window side) f own = refl
+      go (QueuePutRead window scan) f own = ap (λ (w : Span). QueuePutRead w scan) (at window f own)
+      go (QueueTakeRead window bare scan sum) f own = ap (λ (w : Span). QueueTakeRead w bare scan sum) (at window f own)
+      go (StackRead side window version scan sum) f own = refl
+      go (Check side version seen) f own = refl
+      go (QueueCommit side window seen) f own = ap (λ (w : Span). QueueCommit side w seen) (at window f own)
+      go (StackCommit side seen) f own = refl
+      go (QueueShift side window) f own = ap (QueueShift side) (at window f own)
+      go (StackShift side version scan sum) f own = refl
+      go (QueueConfirm window scan sum) f own = ap (λ (w : Span). QueueConfirm w scan sum) (at window f own)
+      go (StackConfirm side scan sum) f own = refl
+
+  stack-same : stackPhase (slotMoved g h o) ≡ stackPhase o
+  unfolding stackPhase
+  stack-same = refl
+
+  pub phase-moved : (g .kind ≡ 0 → WindowIn (Own g) (phaseOf g o)) → phaseOf h (slotMoved g h o) ≡ phaseOf g o
+  unfolding phaseOf cond
+  phase-moved own = go (eqb (g .kind) 0) refl
+    where
+      go : (x : Bool) → eqb (g .kind) 0 ≡ x → phaseOf h (slotMoved g h o) ≡ phaseOf g o
+      go true e =
+          let kind = eqb-true (g .kind) 0 e in
+          let now : phaseOf g o ≡ queuePhase g o = rw e refl in
+          rw e (phase-with ∙ same-span (queuePhase g o) kind (subst (WindowIn Same) now (phase-from g o .1 .1)) (subst (WindowIn (Own g)) now (own kind)))
+      go false e = rw e stack-same
+
+-- ---- what is common to both kinds
+module _ (g : Settings) (b : ℕ) (s : State) (bounds : Bounds g) (common : Common g s) where
+  slot-blank : (o : Slot) → Blank (inEdition b g) (slotMoved g (inEdition b g) o)
+  unfolding cond
+  slot-blank o none = go (windowed (inEdition b g)) refl (eqb (g .kind) 0) refl
+    where
+      go : (x : Bool) → windowed (inEdition b g) ≡ x → (y : Bool) → eqb (g .kind) 0 ≡ y
+          → (cond x (newWord g o bottomWord) 0 ≡ 0) × (cond x (newWord g o widthWord) 0 ≡ 0)
+      go false e y f = (refl, refl)
+      go true e false f = (stack-given g o bottomWord f, stack-given g o widthWord f)
+      go true e true f = absurd (false≢true (sym none ∙ (rw (e, f) refl)))
+
+  pub common-moved : Common (inEdition b g) (movedIn g (inEdition b g) s)
+  common-moved =
       record {
-        wide = k .wide ∙ plain .wide-is (k .at) at-le;
-        deep = omega (arith, k .top, k .bottom);
-        few = omega (arith, k .top, top-few o);
+        slots = λ i. worker-moved g b (s .slot i) bounds (common .slots i);
+        blank = λ i. slot-blank (s .slot i);
+        steps-few = common .steps-few;
       }
 
-  own-spans : (index : ℕ) (p : Phase) → Knows s index p → WindowIn (OwnSpan g) p
-  own-spans index Idle k = tt
-  own-spans index (Window side) k = tt
-  own-spans index (QueuePutRead window scan) k = own-span window (f .tail) (le-refl _) (k .sees)
-  own-spans index (QueueTakeRead window bare scan sum) k = own-span window (f .head) (o .windows .order) (k .read .sees)
-  own-spans index (StackRead side window version scan sum) k = tt
-  own-spans index (Check side version seen) k = tt
-  own-spans index (QueueCommit Putting window seen) k = own-span window (f .tail) (le-refl _) (k .sees)
-  own-spans index (QueueCommit Taking window seen) k = own-span window (f .head) (o .windows .order) (k .sees)
-  own-spans index (StackCommit side seen) k = tt
-  own-spans index (QueueShift Putting window) k = own-span window (f .tail) (le-refl _) (k .sees)
-  own-spans index (QueueShift Taking window) k = own-span window (f .head) (o .windows .order) (k .sees)
-  own-spans index (StackShift side version scan sum) k = tt
-  own-spans index (QueueConfirm window scan sum) k = own-span window (f .head) (o .windows .order) (k .sees)
-  own-spans index (StackConfirm side scan sum) k = tt
+-- ---- the queue
+module _ (g : Settings) (b : ℕ) (s : State) (q : Contents) (kind : g .kind ≡ 0) (good : Good (inEdition b g)) (inv : Inv g s q) (plain : s .set ≡ 0) where
+  all-own : Plain g (s .frame) (s .next) (s .first) (s .puts)
+  all-own = inv .pool .plain plain
 
-  queue-phase : (i : ℕ) → phaseIn h t i ≡ phaseIn g s i
-  queue-phase i = phase-moved g b (s .slot i) (own-spans (subIn s i) (phaseIn g s i) (inv .knows i))
-
-  -- P minus T is d for each window that is live but one
-  live : windowed h ≡ true → f .tail < f .head + mostLive
-  live new =
-      let top = plain .base-is (suc (f .tail)) (le-refl _) in
-      let mark = plain .base-is (suc (f .head)) (omega (arith, o .windows .order)) in
-      let most = able .on (has-windows h new kind) in
-      let deep = plain .next-deep in
-      let less : f .tail * g .depth < (f .head + mostLive) * g .depth = omega (arith, o .top, o .mark, o .size .depth1) in
-      lt-of-mul-lt-mul-right (g .depth) less
-
-  same : Grown s t
-  same =
+  -- every window seen is of the pool's size
+  sees-own : {limit : ℕ} {window : Span} → limit ≤ s .frame .tail → Sees (s .frame) limit window → Own g window
+  sees-own {limit} {window} l k =
+      let w = inv .pool .windows in
+      let up : s .frame .base (suc (k .at)) ≡ suc (k .at) * g .depth = all-own .base-is (suc (k .at)) (omega (arith, k .at-le)) in
+      let low : s .frame .base (k .at) ≡ k .at * g .depth = all-own .base-is (k .at) (omega (arith, k .at-le)) in
       record {
-        order = o .windows .order;
+        deep = omega (arith, k .top);
+        few = omega (arith, k .top, base-le w (suc (k .at)) (suc (s .frame .tail)) (omega (arith, k .at-le)) (le-refl _), top-few (inv .pool));
+        bottom = omega (arith, k .top, k .bottom);
+        wide = k .wide ∙ all-own .wide-is (k .at) (omega (arith, k .at-le));
+      }
+
+  put-own : {window : Span} → Sees (s .frame) (s .frame .tail) window → Own g window
+  put-own k = sees-own (le-refl _) k
+
+  take-own : {window : Span} → Sees (s .frame) (s .frame .head) window → Own g window
+  take-own k = sees-own (inv .pool .windows .order) k
+
+  knows-own : (index : ℕ) (p : Phase) → Knows s index p → WindowIn (Own g) p
+  knows-own index Idle k = tt
+  knows-own index (Window side) k = tt
+  knows-own index (QueuePutRead window scan) k = put-own (k .sees)
+  knows-own index (QueueTakeRead window bare scan sum) k = take-own (k .read .sees)
+  knows-own index (StackRead side window version scan sum) k = tt
+  knows-own index (Check side version seen) k = tt
+  knows-own index (QueueCommit Putting window last) k = put-own (k .sees)
+  knows-own index (QueueCommit Taking window last) k = take-own (k .sees)
+  knows-own index (StackCommit side seen) k = tt
+  knows-own index (QueueShift Putting window) k = put-own (k .sees)
+  knows-own index (QueueShift Taking window) k = take-own (k .sees)
+  knows-own index (StackShift side version scan sum) k = tt
+  knows-own index (QueueConfirm window scan sum) k = take-own (k .sees)
+  knows-own index (StackConfirm side scan sum) k = tt
+
+  pub queue-phase-moved : (i : ℕ) → phaseIn (inEdition b g) (movedIn g (inEdition b g) s) i ≡ phaseIn g s i
+  queue-phase-moved i = phase-moved g b (s .slot i) (λ e. knows-own (subIn s i) (phaseIn g s i) (inv .knows i))
+
+  up : Grown s (movedIn g (inEdition b g) s)
+  up =
+      record {
+        order = inv .pool .windows .order;
         head = le-refl _;
         tail = le-refl _;
         base = λ k l. refl;
@@ -132,9 +228,11 @@ module _ (g : Settings) (b : ℕ) (kind : g .kind ≡ 0) (s : State) (q : Conten
         taken = λ j. le-refl _;
       }
 
-  queue-moved : Good h → Inv h t q
-  queue-moved good =
+  pub queue-inv-moved : (windowed (inEdition b g) ≡ true → s .frame .tail < s .frame .head + mostLive) → Inv (inEdition b g) (movedIn g (inEdition b g) s) q
+  queue-inv-moved few =
+      let o = inv .pool in
       let w = o .windows in
+      let z = o .size in
       record {
         pool = record {
           top = o .top;
@@ -142,108 +240,38 @@ module _ (g : Settings) (b : ℕ) (kind : g .kind ≡ 0) (s : State) (q : Conten
           windows = record { order = w .order; ground = w .ground; rise = w .rise; deep = w .deep; half = w .half; wide1 = w .wide1; wide-le = w .wide-le; room = w .room };
           subs = o .subs;
           items = o .items;
-          size = record { width1 = o .size .width1; width-most = o .size .width-most; depth1 = o .size .depth1; depth64 = o .size .depth64; depth-half = o .size .depth-half };
-          plain = λ e. let p = o .plain e in record { base-is = p .base-is; wide-is = p .wide-is; next-wide = p .next-wide; next-deep = p .next-deep; total = p .total };
+          size = record { width1 = z .width1; width-most = z .width-most; depth1 = z .depth1; depth64 = z .depth64; depth-half = z .depth-half };
+          plain = λ e. record {
+            base-is = all-own .base-is;
+            wide-is = all-own .wide-is;
+            next-wide = all-own .next-wide;
+            next-deep = all-own .next-deep;
+            total = all-own .total;
+          };
           set-most = o .set-most;
-          old = λ e. record { not-set = not-set; times = good .times; rows-is = good .queue-rows kind e };
-          live = live;
+          old = λ e. record { not-set = plain; times = good .times; rows-is = good .queue-rows kind e };
+          live = few;
           first-few = o .first-few;
           puts-few = o .puts-few;
           steps-few = o .steps-few;
           holds = o .holds;
           count = o .count;
         };
-        knows = λ i. subst (Knows t (subIn s i)) (sym (queue-phase i)) (knows-grown same (subIn s i) (phaseIn g s i) (inv .knows i));
+        knows = λ i. subst (Knows (movedIn g (inEdition b g) s) (subIn s i)) (sym (queue-phase-moved i)) (knows-grown up (subIn s i) (phaseIn g s i) (inv .knows i));
       }
 
-pub queue-moves : (g : Settings) (b : ℕ) (good : Good g) (good′ : Good (inEdition b g)) (kind : g .kind ≡ 0)
-    → KindMoves g b (queueKind g good kind) (queueKind (inEdition b g) good′ kind)
-unfolding queueKind
-queue-moves g b good good′ kind =
-    record {
-      phase = λ s q inv able. queue-phase g b kind s q inv able;
-      kept = λ s q inv able. queue-moved g b kind s q inv able good′;
-      snap = λ s q inv able j s₀ q₀ z. snap-moved g b (s₀ .first) q₀ (s .first) (subIn s j) (queue-phase g b kind s q inv able j) z;
-    }
-
--- ---- a stack
-module _ (g : Settings) (b : ℕ) where
-  abbrev h′ : Settings
-  h′ = inEdition b g
-
-  passed-kept : {v : Sight} {ghost : Ghost} {side : Side} {version index scan sum : ℕ} → Passed g v ghost side version index scan sum → Passed h′ v ghost side version index scan sum
-  passed-kept {side = Putting} k = record { began = k .began; summed = k .summed; left = k .left }
-  passed-kept {side = Taking} k = record { began = k .began; summed = k .summed; left = k .left }
-
-  knows-kept : (v : Sight) (ghost : Ghost) (index : ℕ) (p : Phase) → StackKnows g v ghost index p → StackKnows h′ v ghost index p
-  knows-kept v ghost index Idle k = k
-  knows-kept v ghost index (Window side) k = k
-  knows-kept v ghost index (QueuePutRead window scan) k = k
-  knows-kept v ghost index (QueueTakeRead window bare scan sum) k = k
-  knows-kept v ghost index (StackRead side window version scan sum) k =
-      record { scan-lt = k .scan-lt; depth-le = k .depth-le; le-rows = k .le-rows; same = k .same; passed = passed-kept (k .passed) }
-  knows-kept v ghost index (Check Putting version seen) k = record { began = k .began; seen-le = k .seen-le; hit = k .hit }
-  knows-kept v ghost index (Check Taking version seen) k = record { began = k .began; seen-le = k .seen-le; hit = k .hit }
-  knows-kept v ghost index (QueueCommit side window seen) k = k
-  knows-kept v ghost index (StackCommit Putting seen) k = record { seen-le = k .seen-le; checked = k .checked; fits = k .fits }
-  knows-kept v ghost index (StackCommit Taking seen) k = record { seen-le = k .seen-le; checked = k .checked; fits = k .fits }
-  knows-kept v ghost index (QueueShift side window) k = k
-  knows-kept v ghost index (StackShift side version scan sum) k = record { scan-is = k .scan-is; passed = passed-kept (k .passed) }
-  knows-kept v ghost index (QueueConfirm window scan sum) k = k
-  knows-kept v ghost index (StackConfirm side scan sum) k = k
-
-  no-span : (v : Sight) (ghost : Ghost) (index : ℕ) (p : Phase) → StackKnows g v ghost index p → WindowIn (OwnSpan g) p
-  no-span v ghost index Idle k = tt
-  no-span v ghost index (Window side) k = tt
-  no-span v ghost index (QueuePutRead window scan) k = absurd k
-  no-span v ghost index (QueueTakeRead window bare scan sum) k = absurd k
-  no-span v ghost index (StackRead side window version scan sum) k = tt
-  no-span v ghost index (Check side version seen) k = tt
-  no-span v ghost index (QueueCommit side window seen) k = absurd k
-  no-span v ghost index (StackCommit side seen) k = tt
-  no-span v ghost index (QueueShift side window) k = absurd k
-  no-span v ghost index (StackShift side version scan sum) k = tt
-  no-span v ghost index (QueueConfirm window scan sum) k = absurd k
-  no-span v ghost index (StackConfirm side scan sum) k = tt
-
-  stack-phase : (s : State) (q : Contents) → StackInv g s q → (i : ℕ) → phaseIn h′ (movedIn g h′ s) i ≡ phaseIn g s i
-  stack-phase s q inv i = phase-moved g b (s .slot i) (no-span (sight s) (inv .ghost) (subIn s i) (phaseIn g s i) (inv .knows i))
-
-  stack-moved : (s : State) (q : Contents) → StackInv g s q → StackInv h′ (movedIn g h′ s) q
-  stack-moved s q inv =
-      let o = inv .pool in
-      let w = o .window in
-      record {
-        ghost = inv .ghost;
-        pool = record {
-          window = record { shifts = w .shifts; window-is = w .window-is; lo-shifts = w .lo-shifts; lo-is = w .lo-is; depth-lo = w .depth-lo; lo-window = w .lo-window; window-lo = w .window-lo; lo-rows = w .lo-rows };
-          corridor = record { high = o .corridor .high; low = o .corridor .low };
-          eras = o .eras;
-          few = record { puts = o .few .puts; changes = o .few .changes; steps = o .few .steps };
-          stamps = o .stamps;
-          pairs = record { near = o .pairs .near };
-          holding = record { held = o .holding .held; count = o .holding .count };
-        };
-        knows = λ i.
-            subst (StackKnows h′ (sight s) (inv .ghost) (subIn s i)) (sym (stack-phase s q inv i))
-            (knows-kept (sight s) (inv .ghost) (subIn s i) (phaseIn g s i) (inv .knows i));
-      }
-
-pub stack-moves : (g : Settings) (b : ℕ) (good : Good g) (good′ : Good (inEdition b g)) (kind kind′ : g .kind ≡ 1)
-    → KindMoves g b (stackKind g good kind) (stackKind (inEdition b g) good′ kind′)
-unfolding stackKind
-stack-moves g b good good′ kind kind′ =
-    record {
-      phase = λ s q inv able. stack-phase g b s q inv;
-      kept = λ s q inv able. stack-moved g b s q inv;
-      snap = λ s q inv able j s₀ q₀ z. snap-moved g b (s₀ .second) q₀ (s .second) (subIn s j) (stack-phase g b s q inv j) z;
-    }
-
--- ---- either
-pub kind-moves : (g : Settings) (b : ℕ) (limits : settingsFit g ≡ true) (limits′ : settingsFit (inEdition b g) ≡ true) → KindMoves g b (kindOf g limits) (kindOf (inEdition b g) limits′)
-unfolding kindBy
-kind-moves g b limits limits′ = by (ℕ-discrete (g .kind) 0)
-  where
-    by : (d : Dec (g .kind ≡ 0)) → KindMoves g b (kindBy g limits d) (kindBy (inEdition b g) limits′ d)
-    by (yes e) = queue-moves g b (good g limits) (good (inEdition b g) limits′) e
-    by (no n) = stack-moves g b (good g limits) (good (inEdition b g) limits′) _ _
+-- ---- the links of workers in confirm
+pub snap-moved : (g : Settings) (b : ℕ) (h₀ : ℕ → ℕ) (q₀ : Contents) (h : ℕ → ℕ) (index : ℕ) (p : Phase) → SnapAt g h₀ q₀ h index p → SnapAt (inEdition b g) h₀ q₀ h index p
+snap-moved g b h₀ q₀ h index Idle z = z
+snap-moved g b h₀ q₀ h index (Window side) z = z
+snap-moved g b h₀ q₀ h index (QueuePutRead window scan) z = z
+snap-moved g b h₀ q₀ h index (QueueTakeRead window bare scan sum) z = z
+snap-moved g b h₀ q₀ h index (StackRead side window version scan sum) z = z
+snap-moved g b h₀ q₀ h index (Check side version seen) z = z
+snap-moved g b h₀ q₀ h index (QueueCommit side window seen) z = z
+snap-moved g b h₀ q₀ h index (StackCommit side seen) z = z
+snap-moved g b h₀ q₀ h index (QueueShift side window) z = z
+snap-moved g b h₀ q₀ h index (StackShift side version scan sum) z = z
+snap-moved g b h₀ q₀ h index (QueueConfirm window scan sum) z = z
+snap-moved g b h₀ q₀ h index (StackConfirm Putting scan sum) z = z
+snap-moved g b h₀ q₀ h index (StackConfirm Taking scan sum) z = z
