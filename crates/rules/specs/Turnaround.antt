@@ -25,7 +25,9 @@ use Rattle.rules.specs.Run.{Call, begin, callOf, Event, eventOf, run}
 use Rattle.rules.specs.Statement.{All, OneAtATimeWithin}
 use Rattle.rules.specs.Newer.{exactRows}
 use Rattle.rules.specs.Solo.{Begun, Solo, EndsWithin, k3Steps, soloSteps}
-use Rattle.rules.specs.Consequences.{wordsAfter, OfEveryRun, itemsIn}
+use Rattle.rules.specs.Consequences.{wordsAfter, OfEveryRun, itemsIn, NoSumWraps}
+use Rattle.rules.specs.Spacers.{TakesWithin}
+use Rattle.rules.specs.Full.{FullMeans}
 use Rattle.rules.specs.declared.Settings.{Settings}
 use Rattle.rules.specs.declared.Answer.the-variants.{Moving}
 
@@ -203,6 +205,17 @@ NothingLostOverMoves = OfEveryTurnaround (λ g ws xs.
     (p : Item → Bool)
     → countItems p (heldItems (placeOver (here g ws) xs .words) (inEdition (placeOver (here g ws) xs .edition) g)) + countItems p (itemsIn 2 (runOver (here g ws) xs))
     ≡ countItems p (itemsIn 1 (runOver (here g ws) xs)))
+
+-- and wherever it lies it is as every pool from make is: fit; a take counts what it reports and passes over just before it, within the closest bound; "full"
+-- means that every place after the take window is held; and no sum of a step wraps but those that may
+pub record Sound (h : Settings) (ws : List ℕ) : Type 0 where
+  pub fit : checkedOf (h .edition) ws ≡ Fit h
+  pub takes : TakesWithin exactRows h ws []
+  pub full : FullMeans h ws []
+  pub sums : NoSumWraps h ws
+
+abbrev pub SoundOverMoves : Type 0
+SoundOverMoves = OfEveryTurnaround (λ g ws xs. Sound (inEdition (placeOver (here g ws) xs .edition) g) (placeOver (here g ws) xs .words))
 
 -- K3 with moves before the begin and after it: how soon the operation of a worker ends that alone steps from then on
 abbrev pub SoloFrom : Place → ℕ → Operation → ℕ → List Act → Type 0

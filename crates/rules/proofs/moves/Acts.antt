@@ -17,16 +17,16 @@ use Rattle.rules.specs.Make.{makeOf, inEdition}
 use Rattle.rules.specs.Move.{moveOf}
 use Rattle.rules.specs.Sequential.{Operation, Contents, demand3Rows}
 use Rattle.rules.specs.Run.{Call, begin}
-use Rattle.rules.specs.Consequences.{itemsIn}
+use Rattle.rules.specs.Consequences.{wordsAfter, itemsIn}
 use Rattle.rules.specs.Newer.{exactRows}
 use Rattle.rules.specs.Solo.{soloSteps}
-use Rattle.rules.specs.Turnaround.{Act, call, move, Place, here, placeAfter, placeOver, runOver, ExactOverMoves, Demand3OverMoves, NothingLostOverMoves, SoloFrom, SoloOverMoves, K3OverMoves}
+use Rattle.rules.specs.Turnaround.{Act, call, move, Place, here, placeAfter, placeOver, runOver, ExactOverMoves, Demand3OverMoves, NothingLostOverMoves, SoundOverMoves, SoloFrom, SoloOverMoves, K3OverMoves}
 use Rattle.rules.proofs.Types.{Settings}
 use Rattle.rules.proofs.Fitness.{fit-head, settings-bounds}
 use Rattle.rules.proofs.order.Closest.{OneAtATime}
 use Rattle.rules.proofs.machine.Machine.{State, madeIn}
-use Rattle.rules.proofs.Transfer.{Related, next-related, made-related}
-use Rattle.rules.proofs.Runs.{none-accounted, one-accounted}
+use Rattle.rules.proofs.Transfer.{Related, related-fit, next-related, made-related}
+use Rattle.rules.proofs.Runs.{none-accounted, one-accounted, takes-within-after, full-after, safe-after}
 use Rattle.rules.proofs.BothKinds.{kindOf}
 use Rattle.rules.proofs.Course.{At, Course, none, calls, moves, course-order}
 use Rattle.rules.proofs.words.Made.{Accepted, accepted}
@@ -140,6 +140,19 @@ pub nothing-lost-over-moves : NothingLostOverMoves
 unfolding made-related
 nothing-lost-over-moves ws g xs made p =
     omega (arith, accounted-over g (here g (makeOf ws g .words)) (made-lies g ws (accepted ws g made)) xs p, count-none p)
+
+pub sound-over-moves : SoundOverMoves
+unfolding wordsAfter
+sound-over-moves ws g xs made =
+    let l = lies-over g (here g (makeOf ws g .words)) (made-lies g ws (accepted ws g made)) xs in
+    let h = inEdition (placeOver (here g (makeOf ws g .words)) xs .edition) g in
+    let k = kindOf h (l .limits) in
+    record {
+      fit = related-fit h (l .limits) k (l .related);
+      takes = takes-within-after h (l .limits) k (l .related) [];
+      full = full-after h (l .limits) k (l .related) [];
+      sums = safe-after h (l .limits) k (l .related) [];
+    }
 
 solo-exact-over-moves : SoloOverMoves soloSteps
 solo-exact-over-moves ws g xs made i o ys = solo-over g ws (accepted ws g made) xs i o ys
