@@ -1,10 +1,11 @@
 -- Runs of a pool over calls and moves, as the abstract machine has them: its state is in settings of an edition, which a call keeps and a move changes.
 -- What is shown of every run goes along such a course; that of a list of calls is the one without moves.
-use Prim.Native.Nat.{ℕ}
+use Prim.Native.Nat.{ℕ, zero, suc}
 use mathlib.Core.Path.{_≡_, refl, sym, ap, _∙_}
 use mathlib.Core.Bool.{true}
 use mathlib.Core.List.{List, [], _∷_}
 use mathlib.Core.Option.{Option, none as nowhere, some}
+use lib.ListN.{take, drop}
 use Rattle.rules.specs.Limits.{settingsFit}
 use Rattle.rules.specs.Make.{inEdition}
 use Rattle.rules.specs.Measures.{Measures}
@@ -17,7 +18,7 @@ use Rattle.rules.proofs.order.Order.{one-at-a-time}
 use Rattle.rules.proofs.machine.Machine.{State, phaseIn, nextIn, madeIn}
 use Rattle.rules.proofs.machine.Phases.{statusOf}
 use Rattle.rules.proofs.machine.Turns.{Kind, Turned, statusIn}
-use Rattle.rules.proofs.Transfer.{Whole, whole-turn, made-whole, made-idle, Related, next-related}
+use Rattle.rules.proofs.Transfer.{Whole, Onward, onward, whole-turn, made-whole, made-idle, Related, next-related}
 use Rattle.rules.proofs.BothKinds.{kindOf}
 use Rattle.rules.proofs.moves.Kept.{movedIn}
 
@@ -81,6 +82,39 @@ module _ (g : Settings) where
     none : {x : At} → Course x []
     calls : {x : At} {e : Event} {es : List Event} (c : Call) → e ≡ told c (nextAt x c) → Course (nextAt x c .state) es → Course x (e ∷ es)
     moves : {x : At} {es : List Event} (b : ℕ) (fits : settingsFit (inEdition b g) ≡ true) → Carried x b fits → Course (movedAt x b fits) es → Course x es
+
+  -- a part of a course is one
+  pub course-take : {x : At} {es : List Event} → Course x es → (n : ℕ) → Course x (take n es)
+  course-take none zero = none
+  course-take none (suc n) = none
+  course-take (calls c u r) zero = none
+  course-take (calls c u r) (suc n) = calls c u (course-take r n)
+  course-take (moves b fits m r) n = moves b fits m (course-take r n)
+
+  -- what is so of a state and stays so, along any course
+  pub record Kept (P : At → Type 0) : Type 0 where
+    pub called : (x : At) (q : Contents) → HoldsAt x q → P x → (c : Call) → P (nextAt x c .state)
+    pub carried : (x : At) (q : Contents) → HoldsAt x q → P x → (b : ℕ) (fits : settingsFit (inEdition b g) ≡ true) → Carried x b fits → P (movedAt x b fits)
+
+  pub record From (P : At → Type 0) (es : List Event) : Type 0 where
+    pub start : At
+    pub list : Contents
+    pub holds : HoldsAt start list
+    pub so : P start
+    pub course : Course start es
+
+  after-call : (x : At) (q : Contents) → HoldsAt x q → (c : Call) → Onward (settingsAt x) (x .limits) (kindAt x) (x .state) q c (nextIn (settingsAt x) (x .state) c)
+  after-call x q h c = onward (settingsAt x) (x .limits) (kindAt x) (x .state) q h c
+
+  pub course-drop : (P : At → Type 0) → Kept P → (x : At) (q : Contents) → HoldsAt x q → P x → {es : List Event} → Course x es → (n : ℕ) → From P (drop n es)
+  course-drop P kept x q h so none zero = record { start = x; list = q; holds = h; so = so; course = none }
+  course-drop P kept x q h so none (suc n) = record { start = x; list = q; holds = h; so = so; course = none }
+  course-drop P kept x q h so (calls c u r) zero = record { start = x; list = q; holds = h; so = so; course = calls c u r }
+  course-drop P kept x q h so (calls c u r) (suc n) =
+      let o = after-call x q h c in
+      course-drop P kept (nextAt x c .state) (o .list) (o .whole) (kept .called x q h so c) r n
+  course-drop P kept x q h so (moves b fits m r) n =
+      course-drop P kept (movedAt x b fits) q (m .whole q h) (kept .carried x q h so b fits m) r n
 
   -- of a list of calls
   pub calls-course : (x : At) {ws : List ℕ} → Related (settingsAt x) (x .limits) (kindAt x) ws (x .state) → (cs : List Call) → Course x (run (x .edition) ws cs)

@@ -28,7 +28,7 @@ use Rattle.rules.proofs.machine.Machine.{State, madeIn}
 use Rattle.rules.proofs.Transfer.{Related, related-fit, next-related, made-related}
 use Rattle.rules.proofs.Runs.{none-accounted, one-accounted, takes-within-after, full-after, safe-after}
 use Rattle.rules.proofs.BothKinds.{kindOf}
-use Rattle.rules.proofs.Course.{At, Course, none, calls, moves, course-order}
+use Rattle.rules.proofs.Course.{At, Carried, Kept, Course, none, calls, moves, course-order}
 use Rattle.rules.proofs.words.Made.{Accepted, accepted}
 use Rattle.rules.proofs.counts.Held.{count-none}
 use Rattle.rules.proofs.figures.Figures.{exact-most}
@@ -45,7 +45,7 @@ module _ (g : Settings) where
     pub state : State
     pub related : Related (inEdition (p .edition) g) limits (kindOf (inEdition (p .edition) g) limits) (p .words) state
 
-  abbrev atPlace : {p : Place} → Lies p → At g
+  abbrev pub atPlace : {p : Place} → Lies p → At g
   atPlace {p} l = record { edition = p .edition; limits = l .limits; state = l .state }
 
   abbrev pub made-lies : (ws : List ℕ) → Accepted ws g → Lies (here g (makeOf ws g .words))
@@ -74,8 +74,12 @@ module _ (g : Settings) where
   abbrev pub moved-lies : {p : Place} (l : Lies p) (a b : ℕ) (area : List ℕ) → numberOf (moveOf a b (p .words) area .answer) ≡ 0 → Lies (movedPlace p a b area)
   moved-lies l a b area done = let m = moved-from l a b area done in record { limits = m .fits; state = _; related = m .related }
 
+  -- as the machine has it
+  carried : {p : Place} (l : Lies p) (b : ℕ) {vs : List ℕ} (m : MovedFrom l b vs) → Carried g (atPlace l) b (m .fits)
+  carried l b m = record { phase = m .phase; whole = m .whole; snap = λ x₀ q₀ i z. m .snap (x₀ .state) q₀ i z }
+
   -- ---- over any acts
-  course-over : (p : Place) (l : Lies p) (xs : List Act) → Course g (atPlace l) (runOver p xs)
+  pub course-over : (p : Place) (l : Lies p) (xs : List Act) → Course g (atPlace l) (runOver p xs)
   unfolding runOver
   course-over p l [] = none
   course-over p l (call c ∷ xs) =
@@ -86,7 +90,7 @@ module _ (g : Settings) where
       (λ t.
       let done = eqb-true _ _ t in
       let m = moved-from l a b area done in
-      moves b (m .fits) (record { phase = m .phase; whole = m .whole; snap = λ x₀ q₀ i z. m .snap (x₀ .state) q₀ i z }) (course-over (movedPlace p a b area) (moved-lies l a b area done) xs))
+      moves b (m .fits) (carried l b m) (course-over (movedPlace p a b area) (moved-lies l a b area done) xs))
       (λ t. course-over p l xs)
 
   pub order-over : (ws : List ℕ) (a : Accepted ws g) (xs : List Act) → OneAtATime g (runOver (here g (makeOf ws g .words)) xs)
@@ -111,14 +115,32 @@ module _ (g : Settings) where
       omega (arith, accounted-over (movedPlace p a b area) (moved-lies l a b area done) xs t, same))
       (λ e. accounted-over p l xs t)
 
-  -- ---- where it lies after any acts
+  -- ---- where it lies after any acts, with what is so and stays so
+  module _ (P : At g → Type 0) (stays : Kept g P) where
+    pub record LiesSo (p : Place) : Type 0 where
+      pub lies : Lies p
+      pub so : P (atPlace lies)
+
+    pub lies-so-over : (p : Place) → LiesSo p → (xs : List Act) → LiesSo (placeOver p xs)
+    unfolding placeOver
+    lies-so-over p x [] = x
+    lies-so-over p x (call c ∷ xs) =
+        let l = x .lies in
+        lies-so-over (placeAfter p (call c)) (record { lies = call-lies l c; so = stays .called (atPlace l) (l .related .list) (l .related .whole) (x .so) c }) xs
+    lies-so-over p x (move a b area ∷ xs) =
+        let l = x .lies in
+        cases (λ (q : Place). LiesSo (placeOver q xs)) (eqb (numberOf (moveOf a b (p .words) area .answer)) 0) (movedPlace p a b area) p
+        (λ e.
+        let m = moved-from l a b area (eqb-true _ _ e) in
+        lies-so-over (movedPlace p a b area) (record {
+          lies = moved-lies l a b area (eqb-true _ _ e);
+          so = stays .carried (atPlace l) (l .related .list) (l .related .whole) (x .so) b (m .fits) (carried l b m);
+        }) xs)
+        (λ e. lies-so-over p x xs)
+
   pub lies-over : (p : Place) → Lies p → (xs : List Act) → Lies (placeOver p xs)
-  unfolding placeOver
-  lies-over p l [] = l
-  lies-over p l (call c ∷ xs) = lies-over (placeAfter p (call c)) (call-lies l c) xs
-  lies-over p l (move a b area ∷ xs) =
-      cases (λ (q : Place). Lies (placeOver q xs)) (eqb (numberOf (moveOf a b (p .words) area .answer)) 0) (movedPlace p a b area) p
-      (λ e. lies-over (movedPlace p a b area) (moved-lies l a b area (eqb-true _ _ e)) xs) (λ e. lies-over p l xs)
+  lies-over p l xs =
+      lies-so-over (λ x. Unit {0}) (record { called = λ x q h so c. tt; carried = λ x q h so b fits m. tt }) p (record { lies = l; so = tt }) xs .lies
 
   -- ---- K3
   solo-over : (ws : List ℕ) (a : Accepted ws g) (xs : List Act) (i : ℕ) (o : Operation) (ys : List Act)
