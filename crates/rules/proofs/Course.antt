@@ -103,7 +103,7 @@ module _ (g : Settings) where
     pub so : P start
     pub course : Course start es
 
-  after-call : (x : At) (q : Contents) → HoldsAt x q → (c : Call) → Onward (settingsAt x) (x .limits) (kindAt x) (x .state) q c (nextIn (settingsAt x) (x .state) c)
+  pub after-call : (x : At) (q : Contents) → HoldsAt x q → (c : Call) → Onward (settingsAt x) (x .limits) (kindAt x) (x .state) q c (nextIn (settingsAt x) (x .state) c)
   after-call x q h c = onward (settingsAt x) (x .limits) (kindAt x) (x .state) q h c
 
   pub course-drop : (P : At → Type 0) → Kept P → (x : At) (q : Contents) → HoldsAt x q → P x → {es : List Event} → Course x es → (n : ℕ) → From P (drop n es)

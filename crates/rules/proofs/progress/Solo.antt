@@ -7,15 +7,13 @@ use mathlib.Core.List.{List, [], _∷_}
 use Prim.Native.Nat.{ℕ, zero, suc, _+_, _-_, _≤_, _<_}
 use native.Mathlib.Decide.{ℕ-discrete, decLe}
 use native.Mathlib.Omega.{arith}
-use lib.ListN.{getD}
 use Rattle.laws.specs.Choice.{cases}
 use Rattle.rules.specs.Answers.{numberOf}
-use Rattle.rules.specs.Layout.{stepsAt}
 use Rattle.rules.specs.Limits.{settingsFit, stepLimit, windowed}
 use Rattle.rules.specs.Make.{inEdition}
 use Rattle.rules.specs.Worker.{fresh, phaseOf}
 use Rattle.rules.specs.Sequential.{Contents}
-use Rattle.rules.specs.Run.{Call, beginPut, beginTake, step, setSize, callOf, Event, run, Final}
+use Rattle.rules.specs.Run.{Call, beginPut, beginTake, step, setSize, Event, Final}
 use Rattle.rules.specs.Solo.{Solo}
 use Rattle.rules.proofs.Types.{Settings, Size, Side, Putting, Taking, Phase, Window, Slot}
 use Rattle.rules.specs.declared.Answer.the-variants.{Moving}
