@@ -5,28 +5,28 @@ use mathlib.Core.Path.{_≡_, refl, sym, ap, _∙_, subst}
 use mathlib.Core.Logic.{inl, inr}
 use mathlib.Core.Bool.{Bool, true, false}
 use mathlib.Core.List.{List, [], _∷_}
-use Prim.Native.Nat.{ℕ, zero, suc, _+_, _-_, _*_, _≤_, _<_}
+use Prim.Native.Nat.{ℕ, zero, suc, _+_, _-_, _*_, _≤_}
 use native.Mathlib.Decide.{ℕ-discrete}
 use native.Mathlib.Omega.{arith}
 use lib.Dec.{eqb}
-use Rattle.laws.specs.Choice.{cond, cases, both, both-true}
+use Rattle.laws.specs.Choice.{cond, cases, both}
 use Rattle.laws.specs.Wrap.{add32}
 use Rattle.rules.specs.Answers.{numberOf}
 use Rattle.rules.specs.Limits.{settingsFit, windowed, sizeFit}
 use Rattle.rules.specs.Windows.{hasWindows, sizeOf}
 use Rattle.rules.specs.Make.{makeOf}
-use Rattle.rules.specs.Measures.{Measures, seenSize}
+use Rattle.rules.specs.Measures.{Measures}
 use Rattle.rules.specs.Step.{ruleOf}
-use Rattle.rules.specs.Run.{Call, beginPut, beginTake, step, setSize, callOf, Event, run, at}
+use Rattle.rules.specs.Run.{Call, beginPut, beginTake, step, setSize, run, at}
 use Rattle.rules.specs.Consequences.{SetSizes, SizesKnown, OfEveryRun}
-use Rattle.rules.proofs.Types.{Settings, Size, Sizes, Side, Putting, Taking, Effect, Outcome, Answer}
+use Rattle.rules.proofs.Types.{Settings, Size, Sizes, Side, Putting, Taking, Effect, Outcome}
 use Rattle.rules.specs.declared.Outcome.the-variants.{Refused, Moving, Lost, Shifted, Raised, Dropped, Landed, Removed, Empty, Full}
 use Rattle.rules.specs.declared.Answer.the-variants.{Moving as Moves}
 use Rattle.rules.proofs.Fitness.{settings-bounds}
 use Rattle.rules.proofs.counts.Sums.{upd-same, upd-other}
 use Rattle.rules.proofs.counts.Wraps.{add32-is}
 use Rattle.rules.proofs.order.Law.{Next}
-use Rattle.rules.proofs.machine.Machine.{Frame, State, next, topOf, sizeAt, sizesAt, sizesIn, placesIn, viewIn, applyIn, applyInBy, stepIn, beginIn, setSizeIn, nextIn, madeIn, raisedOf}
+use Rattle.rules.proofs.machine.Machine.{State, next, topOf, sizeAt, sizesAt, sizesIn, viewIn, applyIn, applyInBy, stepIn, beginIn, setSizeIn, nextIn, madeIn, raisedOf}
 use Rattle.rules.proofs.machine.Calls.{Called, refuses, does, Steps, Begins, begun, step-called, begin-called}
 use Rattle.rules.proofs.machine.Turns.{Framed, ItemIn, Counts, Kind}
 use Rattle.rules.proofs.machine.Does.{SharedAfter, Counted, Rises, Sized, sized-in, rule-in, counted-in}
@@ -35,25 +35,39 @@ use Rattle.rules.proofs.BothKinds.{kindOf}
 use Rattle.rules.proofs.Corollaries.{own-sizes}
 use Rattle.rules.proofs.words.Made.{Accepted, accepted}
 
+-- a new window has the next size
+pub raised-size : (s : State) (top : ℕ) → top ≡ topOf (s .frame) + s .next .depth → sizeAt (raisedOf (s .frame) (s .next .width) top) (suc (s .frame .tail)) ≡ s .next
+raised-size s top e =
+    let wide = upd-same (s .frame .wide) (suc (s .frame .tail)) (s .next .width) in
+    let high = upd-same (s .frame .base) (suc (suc (s .frame .tail))) top in
+    let low = upd-other (s .frame .base) (suc (suc (s .frame .tail))) top (suc (s .frame .tail)) (λ u. omega arith) in
+    let deep : raisedOf (s .frame) (s .next .width) top .base (suc (suc (s .frame .tail))) - raisedOf (s .frame) (s .next .width) top .base (suc (s .frame .tail)) ≡ s .next .depth = omega (arith, high, low) in
+    λ u. record { width = wide u; depth = deep u }
+
+-- and raises the top by its depth
+module _ (g : Settings) (s : State) (i : ℕ) (counts : hasWindows g ≡ true → Framed g s) (has : hasWindows g ≡ true) where
+  sizes-are : sizesIn g s ≡ sizesAt s
+  unfolding sizesIn cond
+  sizes-are = rw has refl
+
+  pub raised-top : (e : Effect) → Rises g (viewIn g s i) e → e .top ≡ topOf (s .frame) + s .next .depth
+  raised-top e h =
+      let w = counts has in
+      let next : sizesIn g s .next .depth ≡ s .next .depth = ap (λ (z : Sizes). z .next .depth) sizes-are in
+      h .top ∙ ap (add32 (s .top)) next ∙ add32-is (s .top) (s .next .depth) (omega (arith, w .top-few, w .fits .next .depth64)) ∙ ap (λ (x : ℕ). x + s .next .depth) (w .fits .top)
+
 module _ (g : Settings) (p : Size → Bool) where
   -- the next size and those of the live windows pass the test
   pub record Known (s : State) : Type 0 where
     pub next : p (s .next) ≡ true
     pub live : (n : ℕ) → n ≤ s .frame .tail → p (sizeAt (s .frame) n) ≡ true
 
-  -- a new window has the next size
   raised : (s : State) (top : ℕ) → top ≡ topOf (s .frame) + s .next .depth → Known s
       → (n : ℕ) → n ≤ suc (s .frame .tail) → p (sizeAt (raisedOf (s .frame) (s .next .width) top) n) ≡ true
   raised s top e h n l = by (ℕ-discrete n (suc (s .frame .tail)))
     where
       by : Dec (n ≡ suc (s .frame .tail)) → p (sizeAt (raisedOf (s .frame) (s .next .width) top) n) ≡ true
-      by (yes y) =
-          let wide = upd-same (s .frame .wide) (suc (s .frame .tail)) (s .next .width) in
-          let high = upd-same (s .frame .base) (suc (suc (s .frame .tail))) top in
-          let low = upd-other (s .frame .base) (suc (suc (s .frame .tail))) top (suc (s .frame .tail)) (λ u. omega arith) in
-          let deep : raisedOf (s .frame) (s .next .width) top .base (suc (suc (s .frame .tail))) - raisedOf (s .frame) (s .next .width) top .base (suc (s .frame .tail)) ≡ s .next .depth = omega (arith, high, low) in
-          let same : sizeAt (raisedOf (s .frame) (s .next .width) top) (suc (s .frame .tail)) ≡ s .next = λ u. record { width = wide u; depth = deep u } in
-          rw y (ap p same ∙ h .next)
+      by (yes y) = rw y (ap p (raised-size s top e) ∙ h .next)
       by (no m) =
           let wide = upd-other (s .frame .wide) (suc (s .frame .tail)) (s .next .width) n m in
           let high = upd-other (s .frame .base) (suc (suc (s .frame .tail))) top (suc n) (λ u. m (omega arith)) in
@@ -61,23 +75,13 @@ module _ (g : Settings) (p : Size → Bool) where
           rw (wide, high, low) (h .live n (omega arith))
 
   module _ (s : State) (i : ℕ) (counts : hasWindows g ≡ true → Framed g s) (has : hasWindows g ≡ true) where
-    sizes-are : sizesIn g s ≡ sizesAt s
-    unfolding sizesIn cond
-    sizes-are = rw has refl
-
-    top-is : (e : Effect) → Rises g (viewIn g s i) e → e .top ≡ topOf (s .frame) + s .next .depth
-    top-is e h =
-        let w = counts has in
-        let next : sizesIn g s .next .depth ≡ s .next .depth = ap (λ (z : Sizes). z .next .depth) sizes-are in
-        h .top ∙ ap (add32 (s .top)) next ∙ add32-is (s .top) (s .next .depth) (omega (arith, w .top-few, w .fits .next .depth64)) ∙ ap (λ (x : ℕ). x + s .next .depth) (w .fits .top)
-
     known-by : (e : Effect) (o : Outcome) → SharedAfter g (viewIn g s i) (ItemIn g s i) e o → Known s → Known (applyInBy g s i e o .state)
     unfolding applyInBy
     known-by e (Refused n) shared h = h
     known-by e Moving shared h = record { next = h .next; live = h .live }
     known-by e Lost shared h = record { next = h .next; live = h .live }
     known-by e Shifted shared h = record { next = h .next; live = h .live }
-    known-by e Raised shared h = record { next = h .next; live = raised s (e .top) (top-is e shared) h }
+    known-by e Raised shared h = record { next = h .next; live = raised s (e .top) (raised-top g s i counts has e shared) h }
     known-by e Dropped shared h = record { next = h .next; live = h .live }
     known-by e (Landed value row stamp) shared h = record { next = h .next; live = h .live }
     known-by e (Removed row) shared h = record { next = h .next; live = h .live }

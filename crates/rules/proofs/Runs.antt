@@ -9,11 +9,12 @@ use native.Mathlib.Decide.{ℕ-discrete}
 use native.Mathlib.Omega.{arith}
 use lib.Dec.{leb, eqb}
 use borrow.Author.Tests.{leb-true, leb-false, eqb-true}
-use Rattle.rules.specs.Full.{PlacesHeld, FullMeans}
+use lib.ListN.{getD}
+use Rattle.rules.specs.Full.{PlacesHeld, FullMeans, unsetPlaces, UnsetPlaces}
 use Rattle.rules.proofs.machine.Slots.{has-queue}
 use Rattle.rules.specs.Worker.{slotAt}
 use Rattle.rules.specs.Windows.{sizeOf, hasWindows, nthSize, bottomOf}
-use Rattle.rules.specs.Layout.{settingsOf, workerAt, secondOf}
+use Rattle.rules.specs.Layout.{settingsOf, setAt, workerAt, secondOf}
 use Rattle.rules.specs.Measures.{measured, seenSize, placesOf, measuresOf}
 use Rattle.laws.specs.Choice.{cond, cases, both}
 use Rattle.rules.specs.Answers.{numberOf, tooFewWords, notFit}
@@ -196,6 +197,19 @@ module _ (g : Settings) (limits : settingsFit g ≡ true) (k : Kind g) where
       }) in
       let taken : rowsBelow g (secondOf ws j) ≡ s .second j = queue-below g (has-queue g has) (secondOf ws j) ∙ r .says .second j lj in
       record { above = rw taken (p .0); up-to = rw (r .says .first j lj) (p .1); window = λ has. h }
+
+  -- how many there are, where no size was set
+  unset-places-at : {ws : List ℕ} {s : State} (r : Rel ws s) (i : ℕ) → hasWindows g ≡ true → getD ws (setAt g) 0 ≡ 0 → numberOf (callOf (g .edition) ws (step i) .answer) ≡ 4
+      → placesOf ws g ≡ unsetPlaces g
+  unfolding callOf nextIn
+  unset-places-at {ws} {s} r i has unset four =
+      let counts = k .counts s (r .list) (r .whole .inv) in
+      let four′ : numberOf (stepIn g s i .answer) ≡ 4 = ap numberOf (sym (next-related g limits k r (step i) .answer)) ∙ four in
+      let p = full-here s (r .list) (r .whole .common) (r .whole .inv) i four′ in
+      places-said g s ws (r .says) (λ has. counts .windows has .fits) ∙ p .unset has (sym (r .says .windows has .set) ∙ unset)
+
+  pub unset-after : {ws : List ℕ} {s : State} → Rel ws s → (cs : List Call) → UnsetPlaces g ws cs
+  unset-after r cs i has unset four = unset-places-at (related-after g limits k r cs .related) i has unset four
 
   pub full-after : {ws : List ℕ} {s : State} → Rel ws s → (cs : List Call) → FullMeans g ws cs
   full-after r cs i has four = places-held-at (related-after g limits k r cs .related) i has four
