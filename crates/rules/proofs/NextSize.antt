@@ -38,7 +38,7 @@ use Rattle.rules.proofs.machine.Slots.{has-queue}
 use Rattle.rules.proofs.machine.Turns.{ItemIn, Counts, Kind}
 use Rattle.rules.proofs.machine.Does.{SharedAfter, Counted, sized-in, rule-in, counted-in}
 use Rattle.rules.proofs.Transfer.{Related, related-after, next-related, made-related}
-use Rattle.rules.proofs.Theorem.{kindOf}
+use Rattle.rules.proofs.BothKinds.{kindOf}
 use Rattle.rules.proofs.words.Made.{accepted}
 use Rattle.rules.proofs.Workers.{worker-within}
 use Rattle.rules.proofs.words.Writes.{word-on}
