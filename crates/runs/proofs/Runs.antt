@@ -46,7 +46,7 @@ use Rattle.runs.specs.Extremes.{extremes}
 use Rattle.runs.specs.Spacers.{spacers}
 use Rattle.runs.specs.Solos.{solos}
 use Rattle.runs.specs.Stretches.{Stretch, Unanswered, stretches}
-use Rattle.rules.specs.Move.{workerMoved, workersMoved, headMoved, cellsMoved, movedWords, fitMove, checkedMove, moveOf}
+use Rattle.rules.specs.Move.{mayMove, newWord, windowsMoved, cleared, ownPairs, workerMoved, workersMoved, headMoved, cellsMoved, movedWords, fitMove, checkedMove, moveOf}
 use Rattle.runs.specs.Moves.{MovesByHand}
 use Rattle.runs.specs.Cards.{Cards, Says, carded, editionZero, editionOne, EditionsByHand}
 use Rattle.runs.specs.Sizes.{sized, parting, putsBelow, linesBelow}
@@ -155,5 +155,5 @@ editions-by-hand = (refl, refl, refl, refl, refl, refl, refl, refl, refl, refl, 
 
 -- ---- moves
 pub moves-by-hand : MovesByHand
-unfolding moveOf checkedMove fitMove movedWords headMoved workersMoved workerMoved cellsMoved workerWords windowsWords windowed settingsFit headChecked checkedBy bodyChecked windowsFit subsFit subFit levelOf workersFit workerFit slotAt seenFit phaseFit allBelow cond
+unfolding moveOf checkedMove mayMove fitMove movedWords newWord windowsMoved cleared ownPairs headMoved workersMoved workerMoved cellsMoved workerWords windowsWords windowed settingsFit headChecked checkedBy bodyChecked windowsFit subsFit subFit levelOf workersFit workerFit slotAt seenFit phaseFit allBelow cond
 moves-by-hand = (refl, refl, refl, refl, refl, refl, refl, refl, refl, refl, refl, refl, refl, refl, refl, refl, refl, refl, refl, refl, refl, refl, refl)
