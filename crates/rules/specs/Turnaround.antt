@@ -25,10 +25,12 @@ use Rattle.rules.specs.Run.{Call, begin, callOf, Event, eventOf, run}
 use Rattle.rules.specs.Statement.{All, OneAtATimeWithin}
 use Rattle.rules.specs.Newer.{exactRows}
 use Rattle.rules.specs.Solo.{Begun, Solo, EndsWithin, k3Steps, soloSteps}
-use Rattle.rules.specs.Consequences.{wordsAfter, OfEveryRun, itemsIn, NoSumWraps}
+use Rattle.rules.specs.Consequences.{wordsAfter, OfEveryRun, itemsIn, KnownSizes, NoSumWraps}
 use Rattle.rules.specs.Spacers.{TakesWithin}
 use Rattle.rules.specs.Full.{FullMeans}
+use Rattle.rules.specs.Windows.{sizeOf}
 use Rattle.rules.specs.declared.Settings.{Settings}
+use Rattle.rules.specs.declared.Size.{Size}
 use Rattle.rules.specs.declared.Answer.the-variants.{Moving}
 
 -- ---- one pool in two areas
@@ -205,6 +207,10 @@ NothingLostOverMoves = OfEveryTurnaround (λ g ws xs.
     (p : Item → Bool)
     → countItems p (heldItems (placeOver (here g ws) xs .words) (inEdition (placeOver (here g ws) xs .edition) g)) + countItems p (itemsIn 2 (runOver (here g ws) xs))
     ≡ countItems p (itemsIn 1 (runOver (here g ws) xs)))
+
+-- and the size that a take is held to is the pool's, or one that was set: whatever test these pass, it passes
+abbrev pub SizesKnownOverMoves : Type 0
+SizesKnownOverMoves = OfEveryTurnaround (λ g ws xs. (p : Size → Bool) → p (sizeOf g) ≡ true → KnownSizes p (runOver (here g ws) xs))
 
 -- and wherever it lies it is as every pool from make is: fit; a take counts what it reports and passes over just before it, within the closest bound; "full"
 -- means that every place after the take window is held; and no sum of a step wraps but those that may

@@ -20,7 +20,7 @@ use Rattle.rules.specs.Run.{Call, begin}
 use Rattle.rules.specs.Consequences.{wordsAfter, itemsIn}
 use Rattle.rules.specs.Newer.{exactRows}
 use Rattle.rules.specs.Solo.{soloSteps}
-use Rattle.rules.specs.Turnaround.{Act, call, move, Place, here, placeAfter, placeOver, runOver, ExactOverMoves, Demand3OverMoves, NothingLostOverMoves, SoundOverMoves, SoloFrom, SoloOverMoves, K3OverMoves}
+use Rattle.rules.specs.Turnaround.{Act, call, move, Place, here, placeAfter, placeOver, runOver, ExactOverMoves, Demand3OverMoves, NothingLostOverMoves, SizesKnownOverMoves, SoundOverMoves, SoloFrom, SoloOverMoves, K3OverMoves}
 use Rattle.rules.proofs.Types.{Settings}
 use Rattle.rules.proofs.Fitness.{fit-head, settings-bounds}
 use Rattle.rules.proofs.order.Closest.{OneAtATime}
@@ -35,6 +35,7 @@ use Rattle.rules.proofs.figures.Figures.{exact-most}
 use Rattle.rules.proofs.order.Relaxed.{relaxed}
 use Rattle.rules.proofs.progress.Forms.{ends-later}
 use Rattle.rules.proofs.progress.Theorem.{ends-solo, exact-k3}
+use Rattle.rules.proofs.KnownSizes.{course-known}
 use Rattle.rules.proofs.moves.Moved.{move-does}
 use Rattle.rules.proofs.moves.Related.{MovedRelated, move-related}
 
@@ -162,6 +163,11 @@ pub nothing-lost-over-moves : NothingLostOverMoves
 unfolding made-related
 nothing-lost-over-moves ws g xs made p =
     omega (arith, accounted-over g (here g (makeOf ws g .words)) (made-lies g ws (accepted ws g made)) xs p, count-none p)
+
+pub sizes-known-over-moves : SizesKnownOverMoves
+sizes-known-over-moves ws g xs made p own =
+    let a = accepted ws g made in
+    course-known g p own (a .limits) (course-over g (here g (makeOf ws g .words)) (made-lies g ws a) xs)
 
 pub sound-over-moves : SoundOverMoves
 unfolding wordsAfter
