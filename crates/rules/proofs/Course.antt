@@ -125,7 +125,7 @@ module _ (g : Settings) where
       calls c (λ u. record { call = c; answer = n .answer u; measures = n .measures u }) (calls-course (nextAt x c .state) (n .related) cs)
 
   -- ---- a turn of the pool's machine is one of the machine of all editions
-  abbrev TurnAt : At → Contents → Call → Next (At) → Type 0
+  abbrev TurnAt : At → Contents → Call → Next At → Type 0
   TurnAt x q c o = Turn g nextAt statusAt HoldsAt SnapFrom x q c o
 
   abbrev RunsAt : At → List Event → Type 0
