@@ -19,7 +19,7 @@ pub const CURRENT_EDITION: u32 = Edition::CURRENT.word();
 
 impl Edition {
     /// The one that the calls are about where none is named: the shipped one.
-    pub const CURRENT: Edition = Edition::One;
+    pub const CURRENT: Edition = Edition::Two;
 
     /// Word 11.
     pub const fn word(self) -> u32 {
