@@ -6,7 +6,7 @@ use super::values::Values;
 use super::{lost_commit, worst_distance};
 use crate::rng::Rng;
 use second::phase::Side;
-use second::{Answer, Settings, QUEUE, STACK};
+use second::{Answer, Settings, Size as OfWindow, QUEUE, STACK};
 use sides::{Call, SECOND};
 use std::ops::Range;
 
@@ -73,7 +73,7 @@ pub fn cut(rng: &mut Rng, file: &[u8], range: Range<usize>) -> Vec<u8> {
 /// The word of a byte of this range has a kind that there is not.
 pub fn out_of_place(rng: &mut Rng, file: &[u8], range: Range<usize>) -> Vec<u8> {
     let mut damaged = file.to_vec();
-    damaged[at(rng, range) | 3] |= 0x80;
+    damaged[at(rng, range) | 3] |= 0xf0;
     damaged
 }
 
@@ -150,6 +150,7 @@ fn word(call: &Call) -> u32 {
         Call::BeginPut { worker, value } => 3 << 28 | worker << 22 | value,
         Call::BeginTake { worker } => 4 << 28 | worker << 22,
         Call::Step { worker } => 5 << 28 | worker << 22,
+        Call::SetSize(OfWindow { width, depth }) => 8 << 28 | depth << 5 | width,
         Call::Make(_) => unreachable!("a run has one make, its header"),
     }
 }
@@ -174,8 +175,13 @@ pub fn random(rng: &mut Rng, file: &[u8]) -> Vec<u8> {
     let kept = rng.pick(&[0, 4, 8]);
     let mut bytes = file[..kept].to_vec();
     for _ in 0..rng.below(20) {
-        let kind = rng.pick(&[0, 1, 2, 3, 4, 5, 5, 5, 6, 7, 15]);
-        let word = kind << 28 | rng.below(4) << 22 | rng.u32() & rng.pick(&[0, 0x3f_ffff]);
+        let kind = rng.pick(&[0, 1, 2, 3, 4, 5, 5, 5, 6, 7, 8, 8, 15]);
+        let worker = match kind {
+            8 => 0,
+            _ => rng.below(4),
+        };
+        let bits = [0, 0xfff, 0x3f_ffff];
+        let word = kind << 28 | worker << 22 | rng.u32() & rng.pick(&bits);
         bytes.extend(word.to_le_bytes());
     }
     bytes

@@ -30,6 +30,13 @@ impl Edition {
         }
     }
 
+    /// The one that a pool's word 11 names, if there is such a one.
+    pub fn of_words(words: &[u32]) -> Option<Edition> {
+        let named = words.get(layout::EDITION)?;
+        let all = [Edition::Zero, Edition::One, Edition::Two];
+        all.into_iter().find(|edition| edition.word() == *named)
+    }
+
     /// Of each worker: without the ninth, with it, and with the tenth and eleventh.
     pub const fn worker_words(self) -> usize {
         match self {
