@@ -2,11 +2,11 @@
  * The windowed pool: a queue (paper 01's line) or a stack (its pile) spread over several subs, in words that the caller lends.
  *
  * Each call works on the `len` 32-bit words at `words`, whatever they hold, and keeps nothing of its own. It returns the
- * answer's number and writes the answer's five fields (pool_dispatch: six; the two moves have none, and two areas of words). `words` and `fields`
+ * answer's number and writes the answer's five fields (pool_dispatch: six; pool_set_size has none, nor have the two moves, which have two areas of words). `words` and `fields`
  * must not be NULL, nor overlap. A refusal (21 or more) leaves all lent words unchanged; where pool_dispatch meets one after some steps, as before
  * the step that was refused.
  *
- *   0   moving, made, begun or moved
+ *   0   moving, made, begun, set or moved
  *   1   put: the value, the sub and row that it lies in, its stamp
  *   2   taken: the value, its sub, row and stamp, and the distance
  *   3   empty: a take that found no item
@@ -21,6 +21,7 @@
  *   26  pool_step: the worker is idle
  *   27  begin or a step: the step count is 4,000,000,000 or more
  *   31  pool_move_0_to_1, pool_move_1_to_0: the source is not of the edition that is moved from
+ *   32  pool_set_size: a size off limits, or a stack
  *
  * 28 to 30 are the run lister's. Nothing here locks: one call at a time on the same words.
  *
@@ -56,6 +57,7 @@ extern "C" {
 #define POOL_IDLE 26u
 #define POOL_STEPS_SPENT 27u
 #define POOL_WRONG_EDITION 31u
+#define POOL_OFF_SIZE 32u
 
 /* An answer 1 to 4 ends its operation, one of 21 or more refuses the call; 0, 5 and 6 are neither. */
 #define POOL_FINAL(number) ((number)-1u < 4u)
@@ -180,6 +182,14 @@ uint32_t pool_begin_take(uint32_t *words, size_t len, uint32_t worker, uint32_t 
 
 /* One step of a busy worker; an answer 1 to 4 ends its operation. */
 uint32_t pool_step(uint32_t *words, size_t len, uint32_t worker, uint32_t fields[POOL_FIELDS]);
+
+/*
+ * Sets the width and depth of a queue's put windows from the next one on; until then they are the pool's. The windows that are there keep theirs. Limits:
+ * width 1 to the pool's, depth 1 to 64 and at most half of the rows; 32 for another size, and for a stack, after the refusals of words that are no fit pool.
+ * It is no step: it counts none, and a pool that has spent its steps takes it. A narrow window has its takes pass over fewer items, (width - 1) * depth of the
+ * window that a take was made from, and brings its workers to fewer subs. Proved: crates/rules/specs/Resize.antt, Consequences.antt.
+ */
+uint32_t pool_set_size(uint32_t *words, size_t len, uint32_t width, uint32_t depth);
 
 /*
  * Steps the busy workers round and round by number, from `worker` on, up to `steps` steps, and stops at the first answer 1 to 4: it returns that

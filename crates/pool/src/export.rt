@@ -1,7 +1,8 @@
-// The functions that C calls: the answer's number is returned, and its five fields are written; of a dispatcher's result six, and a move has none.
+// The functions that C calls: the answer's number is returned, and its five fields are written; of a dispatcher's result six, and a size call and a move have none.
 use crate::begin::begin_put;
 use crate::begin::begin_take;
 use crate::new::make;
+use crate::size::set_size;
 use dispatcher::dispatch;
 use fitness::refusal;
 use moves::move_pool;
@@ -19,6 +20,7 @@ ghost use Rattle.rules.specs.Begin.{beginPutOf, beginTakeOf};
 ghost use Rattle.rules.specs.Dispatch.{dispatchOf, dispatchReturned, resultNumber, resultFields};
 ghost use Rattle.rules.specs.Make.{shipped, settingsFrom, makeOf};
 ghost use Rattle.rules.specs.Move.{moveOf};
+ghost use Rattle.rules.specs.Resize.{setSizeOf};
 ghost use Rattle.rules.specs.Step.{stepOf};
 
 #[no_mangle]
@@ -70,6 +72,13 @@ pub extern "C" fn pool_step(words: &mut [u32], worker: u32, fields: &mut [u32; 5
         return answered(Answer::Refused(n), fields);
     }
     fit_answer(words, worker, fields)
+}
+
+#[no_mangle]
+pub extern "C" fn pool_set_size(words: &mut [u32], width: u32, depth: u32) -> u32
+    ensures { λ r. ⌜ returned r (now (words .exit)) [] ≡ returnedAlone (setSizeOf shipped (now (words .entry)) (record { width = width; depth = depth })) ⌝ }
+{
+    number(set_size(words, width, depth))
 }
 
 // Writes the six fields of a dispatcher's result; its number.

@@ -1,8 +1,8 @@
 -- HOW A FILE BEGINS: its first word opens and leaves the words lent, its second makes the pool, and none after it does (`file-begins`), since a word's place says
--- which kinds may stand there.
+-- which kinds may stand there. So does each front part of it (`front-begins`).
 use Prim.Native.Nat.{ℕ, _+_}
-use mathlib.Core.List.{List, [], _∷_}
-use mathlib.Core.Path.{_≡_, refl}
+use mathlib.Core.List.{List, [], _∷_, _++_}
+use mathlib.Core.Path.{_≡_, refl, subst}
 use borrow.Author.Tests.{eqb-true}
 use Rattle.laws.specs.Choice.{cond, cases}
 use Rattle.rules.specs.Answers.{numberOf}
@@ -10,14 +10,15 @@ use Rattle.rules.specs.Statement.{All}
 use Rattle.rules.specs.declared.Settings.{Settings}
 use Rattle.rules.specs.declared.Answer.{Answer}
 use Rattle.runfile.specs.Words.{readsOf}
-use Rattle.runfile.specs.Items.{firstOf, secondOf, laterOf, itemOf}
+use Rattle.runfile.specs.Items.{firstOf, secondOf, sizeItem, laterOf, itemOf}
 use Rattle.runfile.specs.declared.word.Read.{Read}
 use Rattle.runfile.specs.declared.word.Read.the-variants.{Word, Cut, End as NoMore}
 use Rattle.runfile.specs.declared.item.Opening.{Opening}
 use Rattle.runfile.specs.declared.item.Place.the-variants.{First, Second, Later, Past}
 use Rattle.runfile.specs.declared.item.Item.{Item as Saying}
-use Rattle.runfile.specs.declared.item.Item.the-variants.{Open, Make, BeginPut, BeginTake, Step, End, Bad}
+use Rattle.runfile.specs.declared.item.Item.the-variants.{Open, Make, BeginPut, BeginTake, Step, End, SetSize, Bad}
 use Rattle.replay.specs.Replay.{Asked, nothing, making, calling, askedOf, outOf, itemNext, nextOf, Happened, goesOn, nextPlace, replayFrom, replayOf, lent, Next}
+use Rattle.replay.specs.Files.{FrontOf}
 
 -- after the pool is made: a call, or a word that asks for nothing, which is answered 0
 abbrev pub Late : Asked → Answer → Type 0
@@ -87,15 +88,20 @@ module _ (position : ℕ) (ws : List ℕ) (reads : List Read) where
     unfolding itemNext outOf cond
     step-late worker = (tt, rest _)
 
+    size-late : (width depth : ℕ) → AllLate (onward position ws reads (SetSize width depth))
+    unfolding itemNext outOf cond
+    size-late width depth = (tt, rest _)
+
     word-late : (word : ℕ) → AllLate (onward position ws reads (laterOf word))
-    unfolding laterOf
+    unfolding laterOf sizeItem
     word-late word =
         let P : Saying → Type 0 = λ item. AllLate (onward position ws reads item) in
         let bad : P Bad = bad-none AllLate tt in
         cases P _ _ _ (λ _. put-late _ _)
         (λ _. cases P _ _ _ (λ _. cases P _ _ _ (λ _. take-late _) (λ _. bad))
         (λ _. cases P _ _ _ (λ _. cases P _ _ _ (λ _. step-late _) (λ _. bad))
-        (λ _. cases P _ _ _ (λ _. cases P _ _ _ (λ _. end-late) (λ _. bad)) (λ _. bad))))
+        (λ _. cases P _ _ _ (λ _. cases P _ _ _ (λ _. end-late) (λ _. bad))
+        (λ _. cases P _ _ _ (λ _. cases P _ _ _ (λ _. size-late _ _) (λ _. bad)) (λ _. bad)))))
 
 later-late : (position : ℕ) (ws : List ℕ) (reads : List Read) → AllLate (replayFrom Later position ws reads .events)
 unfolding replayFrom nextOf itemOf
@@ -145,6 +151,22 @@ first-begun position (Cut ∷ reads) = tt
 first-begun position (NoMore ∷ reads) = tt
 first-begun position (Word word ∷ reads) = word-begun position reads word
 
-pub file-begins : (bytes : List ℕ) → Begun (replayOf bytes .events)
+file-begins : (bytes : List ℕ) → Begun (replayOf bytes .events)
 unfolding replayOf
 file-begins bytes = first-begun _ (readsOf bytes)
+
+-- a front part is a file's beginning as well
+late-front : (xs rest : List Happened) → AllLate (xs ++ rest) → AllLate xs
+late-front [] rest h = tt
+late-front (x ∷ xs) rest h = (h .0, late-front xs rest (h .1))
+
+making-front : (xs rest : List Happened) → Making (xs ++ rest) → Making xs
+making-front [] rest h = tt
+making-front (x ∷ xs) rest h = (h .0, late-front xs rest (h .1))
+
+begun-front : (xs rest : List Happened) → Begun (xs ++ rest) → Begun xs
+begun-front [] rest h = tt
+begun-front (x ∷ xs) rest h = (h .0, making-front xs rest (h .1))
+
+pub front-begins : (bytes : List ℕ) (xs : List Happened) → FrontOf bytes xs → Begun xs
+front-begins bytes xs (rest, e) = begun-front xs rest (subst Begun e (file-begins bytes))

@@ -27,10 +27,10 @@ use Rattle.runfile.specs.declared.word.Read.the-variants.{Word, Cut, End as NoM
 use Rattle.runfile.specs.declared.item.Place.{Place}
 use Rattle.runfile.specs.declared.item.Place.the-variants.{First}
 use Rattle.runfile.specs.declared.item.Item.{Item}
-use Rattle.runfile.specs.declared.item.Item.the-variants.{Open, Make, BeginPut, BeginTake, Step, End, Bad}
+use Rattle.runfile.specs.declared.item.Item.the-variants.{Open, Make, BeginPut, BeginTake, Step, End, SetSize, Bad}
 use Rattle.replay.specs.Replay.{Asked, nothing, making, calling, askedOf, outOf, faultIn, answered, event, itemNext, nextOf, Happened, Replay, goesOn, nextPlace, replayFrom, replayOf, lent, goes, ends}
 use Rattle.replay.specs.Files.{poolIn, withCall, eventsIn, callsIn, wordsIn, RunsOn, RunsOnPool, FilesAreRuns, PositionsCount, RunsGiveFiles}
-use Rattle.replay.proofs.Begins.{Late, AllLate, Making, Begun, file-begins}
+use Rattle.replay.proofs.Begins.{Late, AllLate, Making, Begun, front-begins}
 
 -- ---- events that follow each other
 -- each event's answer and words are what its word asks for, on the words before it; and it stands at its position
@@ -122,19 +122,6 @@ begun-opened : (xs : List Happened) → Begun xs → Opened xs
 begun-opened [] h = tt
 begun-opened (x ∷ xs) h = (ap askedOf (h .0 .item), making-made xs (h .1))
 
--- a front part is a file's beginning as well
-makeless-front : (xs rest : List Happened) → Makeless (xs ++ rest) → Makeless xs
-makeless-front [] rest h = tt
-makeless-front (x ∷ xs) rest h = (h .0, makeless-front xs rest (h .1))
-
-made-front : (xs rest : List Happened) → Made (xs ++ rest) → Made xs
-made-front [] rest h = tt
-made-front (x ∷ xs) rest h = (h .0, h .1, h .2, makeless-front xs rest (h .3))
-
-opened-front : (xs rest : List Happened) → Opened (xs ++ rest) → Opened xs
-opened-front [] rest h = tt
-opened-front (x ∷ xs) rest h = (h .0, made-front xs rest (h .1))
-
 -- ---- the theorem
 -- the two opening words make no call
 opening-events : (x y : Happened) (xs : List Happened) (g : Settings) → askedOf (x .event .item) ≡ nothing → askedOf (y .event .item) ≡ making g
@@ -193,7 +180,7 @@ pub files-are-runs : FilesAreRuns
 unfolding replayOf
 files-are-runs bytes xs (rest, e) =
     begun xs (chain-front 0 lent xs rest (subst (Chain 0 lent) e (chain First 0 lent (readsOf bytes))))
-    (opened-front xs rest (subst Opened e (begun-opened (replayOf bytes .events) (file-begins bytes))))
+    (begun-opened xs (front-begins bytes xs (rest, e)))
 
 -- what holds of every run holds of every file
 pub runs-give-files : RunsGiveFiles
@@ -226,6 +213,7 @@ fault-kept ws (BeginPut worker value) e = absurd (false≢true (sym e))
 fault-kept ws (BeginTake worker) e = absurd (false≢true (sym e))
 fault-kept ws (Step worker) e = absurd (false≢true (sym e))
 fault-kept ws End e = refl
+fault-kept ws (SetSize width depth) e = absurd (false≢true (sym e))
 fault-kept ws Bad e = refl
 
 ending-on : (b : Bool) (at : ℕ) (ws : List ℕ) (item : Item) (a : Answer) (ws′ : List ℕ) (rest : Replay) → (b ≡ false → ws′ ≡ ws) → EndsAt (at + 1) ws′ rest

@@ -9,7 +9,7 @@ use Rattle.laws.specs.Choice.{cond}
 use Rattle.rules.specs.Answers.{Out, out, badWord, numberOf}
 use Rattle.rules.specs.Layout.{mostWords}
 use Rattle.rules.specs.Make.{shipped, shippedFrom, makeOf}
-use Rattle.rules.specs.Run.{Call, beginPut, beginTake, step, callOf}
+use Rattle.rules.specs.Run.{Call, beginPut, beginTake, step, setSize, callOf}
 use Rattle.rules.specs.declared.Settings.{Settings}
 use Rattle.rules.specs.declared.Answer.{Answer}
 use Rattle.rules.specs.declared.Answer.the-variants.{Moving}
@@ -21,7 +21,7 @@ use Rattle.runfile.specs.declared.word.Read.the-variants.{Word, Cut, End as NoM
 use Rattle.runfile.specs.declared.item.Place.{Place}
 use Rattle.runfile.specs.declared.item.Place.the-variants.{First, Second, Later, Past}
 use Rattle.runfile.specs.declared.item.Item.{Item}
-use Rattle.runfile.specs.declared.item.Item.the-variants.{Open, Make, BeginPut, BeginTake, Step, End, Bad}
+use Rattle.runfile.specs.declared.item.Item.the-variants.{Open, Make, BeginPut, BeginTake, Step, End, SetSize, Bad}
 
 -- ---- what a word asks for
 -- nothing, that the pool be made, or a call of demand 3's list
@@ -37,6 +37,7 @@ askedOf (BeginPut worker value) = calling (beginPut worker value)
 askedOf (BeginTake worker) = calling (beginTake worker)
 askedOf (Step worker) = calling (step worker)
 askedOf End = nothing
+askedOf (SetSize width depth) = calling (setSize width depth)
 askedOf Bad = nothing
 
 -- what is answered, and the pool's words afterwards
@@ -54,6 +55,7 @@ placeAfter (BeginPut worker value) a = Later
 placeAfter (BeginTake worker) a = Later
 placeAfter (Step worker) a = Later
 placeAfter End a = Past
+placeAfter (SetSize width depth) a = Later
 placeAfter Bad a = Past
 
 -- the fault that a word is: "a kind out of place, a nonzero spare bit, bytes after the end", or a pool that is not made, since
@@ -65,6 +67,7 @@ faultIn (BeginPut worker value) a = noFault
 faultIn (BeginTake worker) a = noFault
 faultIn (Step worker) a = noFault
 faultIn End a = noFault
+faultIn (SetSize width depth) a = noFault
 faultIn Bad a = badWord
 
 -- ---- one word

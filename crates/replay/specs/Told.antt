@@ -2,10 +2,10 @@
 use Prim.Native.Nat.{ℕ}
 use Rattle.rules.specs.declared.Answer.the-variants.{Moving}
 use Rattle.runfile.specs.declared.item.Item.{Item}
-use Rattle.runfile.specs.declared.item.Item.the-variants.{Open, Make, BeginPut, BeginTake, Step, End}
+use Rattle.runfile.specs.declared.item.Item.the-variants.{Open, Make, BeginPut, BeginTake, Step, End, SetSize}
 use Rattle.replay.specs.Replay.{Event, Next, goes, ends, event}
 use Rattle.replay.specs.declared.event.Said.{Said}
-use Rattle.replay.specs.declared.event.Said.the-variants.{BeginPut as SaidPut, BeginTake as SaidTake, Step as SaidStep, End as SaidEnd}
+use Rattle.replay.specs.declared.event.Said.the-variants.{BeginPut as SaidPut, BeginTake as SaidTake, Step as SaidStep, End as SaidEnd, SetSize as SaidSize}
 use Rattle.replay.specs.declared.event.Done.{Done}
 use Rattle.replay.specs.declared.event.Told.{Told}
 use Rattle.replay.specs.declared.event.Told.the-variants.{Opens, Makes, Does, Ends}
@@ -15,6 +15,7 @@ itemSaid (SaidPut worker value) = BeginPut worker value
 itemSaid (SaidTake worker) = BeginTake worker
 itemSaid (SaidStep worker) = Step worker
 itemSaid SaidEnd = End
+itemSaid (SaidSize width depth) = SetSize width depth
 
 abbrev pub eventDone : Done → Event
 eventDone d = event (d .position) (itemSaid (d .said)) (d .answer)

@@ -10,6 +10,7 @@ pub enum Said {
     BeginTake { worker: u8 },
     Step { worker: u8 },
     End,
+    SetSize { width: u8, depth: u8 },
 }
 
 // What such a word did: its position, what it says, and the answer to the call that it makes, `Moving` where it makes none.

@@ -42,6 +42,7 @@ pub fn place_after(said: Said, a: Answer) -> Place
         Said::BeginTake { worker: _ } => Place::Later,
         Said::Step { worker: _ } => Place::Later,
         Said::End => Place::Past,
+        Said::SetSize { width: _, depth: _ } => Place::Later,
     }
 }
 
@@ -97,6 +98,10 @@ fn next_word(words: &mut [u32], place: Place, position: u64, word: u32) -> Told
             done(position, Said::Step { worker }, a)
         }
         Item::End => done(position, Said::End, Answer::Moving),
+        Item::SetSize { width, depth } => {
+            let a = pool::set_size(words, width as u32, depth as u32);
+            done(position, Said::SetSize { width, depth }, a)
+        }
         Item::Bad => Told::Ends(BAD_WORD),
     }
 }

@@ -7,7 +7,7 @@ use Rattle.runfile.specs.declared.item.Opening.{Opening}
 use Rattle.runfile.specs.declared.item.Place.{Place}
 use Rattle.runfile.specs.declared.item.Place.the-variants.{First, Second, Later, Past}
 use Rattle.runfile.specs.declared.item.Item.{Item}
-use Rattle.runfile.specs.declared.item.Item.the-variants.{Open, Make, BeginPut, BeginTake, Step, End, Bad}
+use Rattle.runfile.specs.declared.item.Item.the-variants.{Open, Make, BeginPut, BeginTake, Step, End, SetSize, Bad}
 
 -- ---- the kinds of words
 -- "Kind 1, first", "Kind 2, second"
@@ -29,6 +29,10 @@ stepKind = 5
 
 abbrev pub endKind : ℕ
 endKind = 6
+
+-- "a kind 8 word makes that call", which sets the size of the put windows to come
+abbrev pub setSizeKind : ℕ
+setSizeKind = 8
 
 -- ---- the bits where the fields of a word begin; a field ends where the next begins
 -- "the top four bits are the kind"
@@ -61,6 +65,10 @@ secondSpareBit = 17
 -- the later ones: "bits 22-27 worker, 0-21 value"
 abbrev pub workerBit : ℕ
 workerBit = 22
+
+-- a size word: "bits 0-4 width, 5-11 depth, the rest spare"
+abbrev pub sizeSpareBit : ℕ
+sizeSpareBit = 12
 
 -- ---- what a word says
 abbrev pub kindOf : ℕ → ℕ
@@ -110,13 +118,17 @@ secondOf o word =
 abbrev pub workerIn : ℕ → ℕ
 workerIn word = bits workerBit kindBit word
 
+unfoldable pub sizeItem : ℕ → Item
+sizeItem word = spare sizeSpareBit kindBit word (SetSize (bits 0 depthBit word) (bits depthBit sizeSpareBit word))
+
 unfoldable pub laterOf : ℕ → Item
 laterOf word =
     ofKind beginPutKind word (BeginPut (workerIn word) (bits 0 workerBit word))
     (ofKind beginTakeKind word (spare 0 workerBit word (BeginTake (workerIn word)))
     (ofKind stepKind word (spare 0 workerBit word (Step (workerIn word)))
     (ofKind endKind word (spare 0 kindBit word End)
-    Bad)))
+    (ofKind setSizeKind word (sizeItem word)
+    Bad))))
 
 -- nothing may stand after the end word
 unfoldable pub itemOf : Place → ℕ → Item

@@ -5,7 +5,7 @@ use rules::numbers::BAD_WORD;
 use rules::numbers::FILE_CUT;
 use rules::numbers::SHIPPED;
 ghost use mathlib.Core.Path.{_≡_};
-ghost use Rattle.runfile.specs.Items.{firstOf, secondOf, laterOf, itemOf};
+ghost use Rattle.runfile.specs.Items.{firstOf, secondOf, sizeItem, laterOf, itemOf};
 ghost use Rattle.runfile.specs.Faults.{faultOf};
 
 // The kinds of words, in the top four bits.
@@ -20,6 +20,8 @@ const BEGIN_TAKE: u32 = 4;
 const STEP: u32 = 5;
 
 const END: u32 = 6;
+
+const SET_SIZE: u32 = 8;
 
 // The bits where the fields of a word begin: the remainder by one drops it and the bits above, the quotient the bits below.
 const KIND_BIT: u32 = 1 << 28;
@@ -42,6 +44,9 @@ const SECOND_SPARE_BIT: u32 = 1 << 17;
 
 // Of a later word, after the value.
 const WORKER_BIT: u32 = 1 << 22;
+
+// Of a size word, after the width and the depth, which begin where the first word's do.
+const SIZE_SPARE_BIT: u32 = 1 << 12;
 
 // No fault.
 pub const NO_FAULT: u32 = 0;
@@ -72,6 +77,7 @@ pub enum Item {
     BeginTake { worker: u8 },
     Step { worker: u8 },
     End,
+    SetSize { width: u8, depth: u8 },
     Bad,
 }
 
@@ -116,6 +122,19 @@ fn second(opening: Opening, word: u32) -> Item
     })
 }
 
+// A word that sets the size of the put windows to come.
+fn size_word(word: u32) -> Item
+    ensures { λ r. ⌜ r ≡ sizeItem word ⌝ }
+{
+    if word % KIND_BIT / SIZE_SPARE_BIT != 0 {
+        return Item::Bad;
+    }
+    Item::SetSize {
+        width: (word % DEPTH_BIT) as u8,
+        depth: (word % SIZE_SPARE_BIT / DEPTH_BIT) as u8,
+    }
+}
+
 // A later word. Only a begin put has a value, and the end word no worker either.
 fn later(word: u32) -> Item
     ensures { λ r. ⌜ r ≡ laterOf word ⌝ }
@@ -143,6 +162,9 @@ fn later(word: u32) -> Item
             return Item::Bad;
         }
         return Item::End;
+    }
+    if kind == SET_SIZE {
+        return size_word(word);
     }
     Item::Bad
 }

@@ -61,6 +61,21 @@ enum-told c = search needs
 done-requires-4 : tie.Need-done-requires-4
 done-requires-4 c κs = search needs
 
+enum-known-item-6 : tie.Need-enum-known-item-6
+enum-known-item-6 c = search needs
+
+cast-set-size : tie.Need-cast-set-size
+cast-set-size c = search needs
+
+cast-set-size-2 : tie.Need-cast-set-size-2
+cast-set-size-2 c = search needs
+
+set-size-requires : tie.Need-set-size-requires
+set-size-requires c κs = search needs
+
+done-requires-5 : tie.Need-done-requires-5
+done-requires-5 c κs = search needs
+
 enum-told-2 : tie.Need-enum-told-2
 enum-told-2 c = search needs
 
@@ -99,9 +114,16 @@ returns-6 : tie.Need-returns-6
 unfolding itemNext outOf cond
 returns-6 c = simp (c .done4 .ensures, ← c .before .before .before .decode .ensures, c .before .enum-told .given .1)
 
+same-length-5 : tie.Need-same-length-5
+same-length-5 c = search needs
+
 returns-7 : tie.Need-returns-7
+unfolding itemNext outOf callOf cond
+returns-7 c = simp (c .done5 .ensures, ← c .before .before .before .set-size .ensures, ← c .before .before .before .before .before .before .before .before .decode .ensures, c .before .before .before .before .before .before .item6 .given .1)
+
+returns-8 : tie.Need-returns-8
 unfolding itemNext outOf cond
-returns-7 c = simp (← c .before .before .decode .ensures, c .enum-told2 .given .1)
+returns-8 c = simp (← c .before .before .decode .ensures, c .enum-told2 .given .1)
 
 pub next-word-spec : {M : Type 1} → statement M
 next-word-spec =
@@ -125,6 +147,11 @@ next-word-spec =
     done-requires-3
     enum-told
     done-requires-4
+    enum-known-item-6
+    cast-set-size
+    cast-set-size-2
+    set-size-requires
+    done-requires-5
     enum-told-2
     returns
     same-length
@@ -136,4 +163,6 @@ next-word-spec =
     same-length-4
     returns-5
     returns-6
-    returns-7)
+    same-length-5
+    returns-7
+    returns-8)

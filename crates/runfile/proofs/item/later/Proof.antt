@@ -1,5 +1,6 @@
 -- `runfile::item::later` meets its contract: the tests of the definition are those of the branches, and bits from 0 need no division. Assumes nothing.
 use borrow.Author.Needs.{needs}
+use mathlib.Core.Path.{_∙_}
 use native.Mathlib.Nat.{div-one}
 use Rattle.laws.specs.Choice.{cond}
 use Rattle.laws.specs.Tests.{tests}
@@ -38,11 +39,18 @@ returns-7 : tie.Need-returns-7
 unfolding laterOf cond
 returns-7 c = search (tests, div-one)
 
+size-word-requires : tie.Need-size-word-requires
+size-word-requires c κs = search needs
+
 returns-8 : tie.Need-returns-8
 unfolding laterOf cond
-returns-8 c = search (tests, div-one)
+returns-8 c = c .size-word .ensures ∙ search tests
+
+returns-9 : tie.Need-returns-9
+unfolding laterOf cond
+returns-9 c = search (tests, div-one)
 
 pub later-spec : {M : Type 1} → statement M
 later-spec =
     tie.close
-    (tie.spec cast-worker returns returns-2 returns-3 returns-4 returns-5 returns-6 returns-7 returns-8)
+    (tie.spec cast-worker returns returns-2 returns-3 returns-4 returns-5 returns-6 returns-7 size-word-requires returns-8 returns-9)
