@@ -1,7 +1,9 @@
 //! The compiled library's time per call beside that of `fast`, the second
 //! implementation made fast, as Markdown for a page in docs. With `distance`, what
-//! a distance costs alone; with `reading`, the last table; with `strides`, the figures
-//! of another page, which tells how often commits fail.
+//! a distance costs alone; with `reading`, the last table; with `sizes`, that of windows of several
+//! sizes; with `strides` and with
+//! `narrowing`, the figures of two other pages, which tell how often commits fail, and what
+//! narrow windows do at a search's end.
 
 mod again;
 mod busy;
@@ -13,12 +15,14 @@ mod image;
 mod loops;
 mod machine;
 mod measure;
+mod narrowing;
 mod reading;
 #[path = "../../tests/crosscheck/src/rng.rs"]
 #[allow(dead_code)] // The cross-check wants more kinds of numbers.
 mod rng;
 mod shares;
 mod side;
+mod sizes;
 mod spacers;
 mod strides;
 mod tables;
@@ -32,7 +36,9 @@ fn main() {
         ["distance"] => distances(),
         ["reading"] => reading::table(),
         ["strides"] => strides::tables(),
-        _ => eprintln!("bench [distance|reading|strides]"),
+        ["narrowing"] => narrowing::tables(),
+        ["sizes"] => sizes::table(),
+        _ => eprintln!("bench [distance|reading|sizes|strides|narrowing]"),
     }
 }
 
@@ -58,6 +64,7 @@ fn all() {
     println!("  ten is a spacer, of value 0, which does not count.\n");
     tables::all_sizes();
     tables::growth();
+    sizes::table();
     dispatching::table();
     distances();
     reading::table();

@@ -27,6 +27,7 @@ impl Side for Compiled {
             Call::BeginPut { worker, value } => begin_put_into(words, worker, value, fields),
             Call::BeginTake { worker } => begin_take_into(words, worker, fields),
             Call::Step { worker } => step_into(words, worker, fields),
+            Call::SetSize(size) => compiled::set_size(words, size),
         };
         black_box(number);
         black_box(&self.fields);
@@ -46,6 +47,7 @@ impl Side for Fast {
             Call::BeginPut { worker, value } => fast::begin_put(words, worker, value),
             Call::BeginTake { worker } => fast::begin_take(words, worker),
             Call::Step { worker } => fast::step(words, worker),
+            Call::SetSize(size) => fast::set_size(words, size),
         };
         black_box(&answer);
     }

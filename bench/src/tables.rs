@@ -2,6 +2,7 @@
 
 use crate::measure::{measure, Measured, Times};
 use crate::workload::{workload, Fill};
+use second::layout::MOST_LIVE;
 use second::{Settings, QUEUE, STACK};
 
 /// Cells of a pool, however wide it is, unless a table says otherwise.
@@ -85,10 +86,16 @@ fn grows(what: &str, sizes: [u32; 5], fixed: &str, at: impl Fn(u32, u32) -> (Set
     println!();
 }
 
-/// Depth 4 throughout; a stack shifts by half of it.
+/// Depth 4, and of a queue as much more as it takes until all rows can be in windows, of
+/// which 16 can be live; a stack shifts by half of it.
 pub fn settings(kind: u32, width: u32, rows: u32, workers: u32) -> Settings {
-    let depth = 4;
-    let shift = if kind == QUEUE { depth } else { depth / 2 };
+    let (depth, shift) = match kind {
+        QUEUE => {
+            let depth = rows.div_ceil(MOST_LIVE).max(4);
+            (depth, depth)
+        }
+        _ => (4, 2),
+    };
     Settings {
         kind,
         width,

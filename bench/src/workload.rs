@@ -2,7 +2,7 @@
 //! every side makes exactly the same calls on exactly the same words.
 
 use crate::spacers::{value, SHARE};
-use second::{Settings, FULL, MOVING};
+use second::{Settings, Size, FULL, MOVING};
 use sides::{Call, SECOND};
 
 #[derive(Clone, Copy)]
@@ -43,6 +43,32 @@ pub fn workload(settings: &Settings, fill: Fill) -> Workload {
     };
     let start = words.clone();
     let puts = record(&mut words, settings, Operation::Put, operations);
+    let takes = record(&mut words, settings, Operation::Take, operations);
+    Workload {
+        start,
+        puts,
+        takes,
+        end: words,
+    }
+}
+
+/// From these words on, with a size set before each so many puts, in turn.
+pub fn sized(settings: &Settings, start: Vec<u32>, sizes: &[Size], every: u32) -> Workload {
+    let operations = (2 * settings.width * settings.depth).max(2 * settings.workers);
+    let mut words = start.clone();
+    let mut puts = Vec::new();
+    let mut next = sizes.iter().cycle();
+    let mut left = operations;
+    while left > 0 {
+        if let Some(size) = next.next() {
+            let call = Call::SetSize(*size);
+            assert!(SECOND.call(&mut words, call).number == MOVING);
+            puts.push(call);
+        }
+        let some = left.min(every);
+        puts.extend(record(&mut words, settings, Operation::Put, some));
+        left -= some;
+    }
     let takes = record(&mut words, settings, Operation::Take, operations);
     Workload {
         start,

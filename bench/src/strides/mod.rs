@@ -42,9 +42,9 @@ fn print_text() {
   next. That is a put with the chance of a free cell among all cells, else a take. So the
   pool, half full at the start, stays about half full: an \"empty\" or a \"full\" would have
   ended the command, and none came.
-- A pool has 1,024 cells, R = 1,024 / w, as in most tables of the benchmark. Its depth d is
-  the benchmark's 4, a quarter of that, or four times that. A queue shifts by d, a stack by
-  half of it, with d 1 by 1.
+- A stack has 1,024 cells, R = 1,024 / w, as in most tables of the benchmark, and a queue no
+  more rows than 16 windows have, R = 16d at most: so many can be live at once. The depth d
+  is 1, 4 or 16. A queue shifts by d, a stack by half of it, with d 1 by 1.
 - Round robin: all workers step in turn, by number, which is `pool_dispatch`.
 - Bursts: a worker makes 1 to 8w steps, how many is random, and then another one does, any
   other.

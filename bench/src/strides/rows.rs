@@ -2,6 +2,7 @@
 
 use super::crew::{figures, Figures, Mix, Order};
 use crate::tables::{settings, CELLS, KINDS};
+use second::layout::MOST_LIVE;
 use second::{Settings, QUEUE};
 
 /// Operations of each run.
@@ -75,17 +76,22 @@ pub fn of(width: u32) -> Vec<Row> {
     rows
 }
 
+/// A queue's rows are no more than so many windows have as can be live.
 fn pool(kind: u32, width: u32, depth: u32, workers: u32, stride: u32) -> Settings {
     let shift = if kind == QUEUE {
         depth
     } else {
         depth.div_ceil(2)
     };
+    let rows = match kind {
+        QUEUE => (MOST_LIVE * depth).min(CELLS / width),
+        _ => CELLS / width,
+    };
     Settings {
         depth,
         shift,
         stride,
-        ..settings(kind, width, CELLS / width, workers)
+        ..settings(kind, width, rows, workers)
     }
 }
 

@@ -2,7 +2,7 @@
 //! for the answer's fields, and with the types of the second implementation, so
 //! that the two can stand in one table.
 
-use second::{Answer, Returned, Settings};
+use second::{Answer, Returned, Settings, Size};
 
 /// Value, sub, row, stamp and distance.
 pub type Fields = [u32; 5];
@@ -35,6 +35,7 @@ extern "C" {
     ) -> u32;
     fn pool_begin_take(words: *mut u32, len: usize, worker: u32, fields: *mut u32) -> u32;
     fn pool_step(words: *mut u32, len: usize, worker: u32, fields: *mut u32) -> u32;
+    fn pool_set_size(words: *mut u32, len: usize, width: u32, depth: u32) -> u32;
     fn pool_dispatch(words: *mut u32, len: usize, worker: u32, steps: u32, fields: *mut u32)
         -> u32;
     fn pool_move_0_to_1(from: *const u32, from_len: usize, to: *mut u32, to_len: usize) -> u32;
@@ -42,7 +43,8 @@ extern "C" {
 }
 
 // As C calls them. Safety, of each: the pointer and length are those of a live,
-// unshared slice, and `fields` has five words, or six for a dispatch. A move's
+// unshared slice, and `fields` has five words, or six for a dispatch. A size call has
+// no fields. A move's
 // source is only read, and its two slices do not overlap, since one is unshared.
 
 #[inline]
@@ -81,6 +83,12 @@ pub fn begin_take_into(words: &mut [u32], worker: u32, fields: &mut Fields) -> u
 pub fn step_into(words: &mut [u32], worker: u32, fields: &mut Fields) -> u32 {
     let (start, len) = (words.as_mut_ptr(), words.len());
     unsafe { pool_step(start, len, worker, fields.as_mut_ptr()) }
+}
+
+#[inline]
+pub fn set_size(words: &mut [u32], Size { width, depth }: Size) -> u32 {
+    let (start, len) = (words.as_mut_ptr(), words.len());
+    unsafe { pool_set_size(start, len, width, depth) }
 }
 
 #[inline]

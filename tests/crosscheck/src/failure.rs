@@ -69,6 +69,10 @@ fn word_name(words: &[u32], at: usize) -> String {
     if !settings.within_limits() || at >= settings.needed_words() {
         return "beyond the pool".to_string();
     }
+    let sizes_at = settings.cells().end;
+    if at >= sizes_at {
+        return format!("word {} after the cells", at - sizes_at);
+    }
     let parts = [
         ("cell", settings.cells_at(), layout::CELL_WORDS),
         ("worker", settings.workers_at(), layout::WORKER_WORDS),

@@ -1,12 +1,14 @@
 //! One pool in as many copies as there are implementations: a call or a dispatch
-//! is made on each copy, and all words and all numbers must be equal afterwards.
+//! is made on each copy, and all words and all numbers must be equal afterwards. In an
+//! edition before the current one there is the second implementation alone.
 
 use crate::copy::Copy;
 use crate::coverage::{Coverage, Origin};
 use crate::failure::{Difference, Failure};
 use crate::make_up::values::Values;
-use second::{dispatch_watched, Answer, Dispatched};
-use sides::{Call, Dispatch, Implementation, COMPILED, FAST, SECOND};
+use second::in_edition::dispatch_watched;
+use second::{Answer, Dispatched, Edition};
+use sides::{second_in, Call, Dispatch, Implementation, COMPILED, FAST};
 use std::fmt::Debug;
 
 /// What is compared with the second implementation.
@@ -20,6 +22,7 @@ pub struct Checks {
 }
 
 pub struct SideBySide {
+    edition: Edition,
     second: Copy,
     others: Vec<(&'static Implementation, Copy)>,
     before: Vec<u32>,
@@ -31,8 +34,16 @@ pub struct SideBySide {
 
 impl SideBySide {
     pub fn new(words: &[u32], checks: &Checks) -> SideBySide {
-        let others = checks.others.iter();
+        SideBySide::in_edition(Edition::CURRENT, words, checks)
+    }
+
+    pub fn in_edition(edition: Edition, words: &[u32], checks: &Checks) -> SideBySide {
+        let others = match edition {
+            Edition::CURRENT => checks.others.iter(),
+            _ => [].iter(),
+        };
         SideBySide {
+            edition,
             second: Copy::of(words),
             others: others.map(|other| (other, Copy::of(words))).collect(),
             before: words.to_vec(),
@@ -41,11 +52,21 @@ impl SideBySide {
         }
     }
 
+    /// In the edition that the words are of.
     pub fn with_values(words: &[u32], values: Values, checks: &Checks) -> SideBySide {
-        SideBySide {
-            values: Some(values),
-            ..SideBySide::new(words, checks)
-        }
+        let edition = Edition::of_words(words).unwrap_or(Edition::CURRENT);
+        SideBySide::in_edition(edition, words, checks).of_values(values)
+    }
+
+    /// Where all of its puts have such values.
+    pub fn of_values(mut self, values: Values) -> SideBySide {
+        self.values = Some(values);
+        self
+    }
+
+    /// Whether what its calls come to counts as reached: they were compared.
+    fn is_counted(&self) -> bool {
+        self.edition == Edition::CURRENT
     }
 
     pub fn words(&self) -> &[u32] {
@@ -59,10 +80,11 @@ impl SideBySide {
 
     pub fn call(&mut self, call: Call, checks: &mut Checks) -> Result<Answer, Failure> {
         self.before.copy_from_slice(self.second.lent());
-        let answer = SECOND.call(self.second.lend(), call);
+        let second = second_in(self.edition);
+        let answer = second.call(self.second.lend(), call);
         let unchanged = self.before == self.second.lent();
         if answer.is_refusal() && !unchanged {
-            return Err(Failure::broken(SECOND.name, call, answer));
+            return Err(Failure::broken(second.name, call, answer));
         }
         self.compare(call, answer, |other, words| other.call(words, call))?;
         self.from_make |= matches!(call, Call::Make(_)) && !answer.is_refusal();
@@ -71,7 +93,9 @@ impl SideBySide {
             from_make: self.from_make,
             share: self.values.map(|values| values.share),
         };
-        checks.coverage.record(call, answer, words, origin);
+        if self.is_counted() {
+            checks.coverage.record(call, answer, words, origin);
+        }
         Ok(answer)
     }
 
@@ -84,15 +108,17 @@ impl SideBySide {
         self.before.copy_from_slice(self.second.lent());
         let Dispatch { worker, steps } = dispatch;
         let mut made = Vec::new();
-        let dispatched = dispatch_watched(self.second.lend(), worker, steps, |worker, answer| {
-            made.push((worker, answer));
-        });
+        let words = self.second.lend();
+        let watch = |worker, answer| made.push((worker, answer));
+        let dispatched = dispatch_watched(self.edition, words, worker, steps, watch);
         let returned = dispatched.returned();
         self.compare(dispatch, returned, |other, words| {
             other.dispatch(words, dispatch)
         })?;
-        let coverage = &mut checks.coverage;
-        coverage.record_dispatch(dispatch, dispatched, &made, &self.before);
+        if self.is_counted() {
+            let coverage = &mut checks.coverage;
+            coverage.record_dispatch(dispatch, dispatched, &made, &self.before);
+        }
         Ok((dispatched, made))
     }
 
@@ -104,7 +130,8 @@ impl SideBySide {
         make: impl Fn(&Implementation, &mut [u32]) -> A,
     ) -> Result<(), Failure> {
         if !self.second.guards_stand() {
-            return Err(Failure::broken(SECOND.name, call, answer));
+            let name = second_in(self.edition).name;
+            return Err(Failure::broken(name, call, answer));
         }
         for (other, copy) in &mut self.others {
             let theirs = make(other, copy.lend());

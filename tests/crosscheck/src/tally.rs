@@ -3,7 +3,7 @@
 use crate::cases::files::RunFiles;
 use crate::cases::runs::Runs;
 use crate::cases::{collisions, dispatch, images, makes, moves, scripts, segments};
-use crate::cases::{solo, spacers, stretch, strides};
+use crate::cases::{sizes, solo, spacers, stretch, strides};
 use crate::coverage::Coverage;
 use crate::failure::Failure;
 use crate::options::Options;
@@ -15,16 +15,15 @@ use std::process::ExitCode;
 use std::time::{Duration, Instant};
 
 /// Cases that are run however short the time is. They reach all there is to
-/// reach but for few seeds, which ask for more time (none of the first sixty, run files
-/// left out, nor of the first forty with them).
-const LEAST_CASES: u64 = 440;
+/// reach but for few seeds, which ask for more time.
+const LEAST_CASES: u64 = 690;
 /// Images, makes and most scripts are short: a case has this many of them.
 const IMAGES: u64 = 160;
 const MAKES: u64 = 40;
 const SCRIPTS: u64 = 6;
 /// Which cases are of which sort goes by their number modulo this: most are
 /// runs, which say the most, and a case of run files takes as long as twenty.
-const SORTS: u64 = 22;
+const SORTS: u64 = 23;
 const RUN_FILES: u64 = 4;
 const OF_SCRIPTS: u64 = 5;
 const SOLO: u64 = 6;
@@ -35,6 +34,7 @@ const SEGMENTS: u64 = 10;
 const SPACERS: u64 = 11;
 const COLLISIONS: u64 = 12;
 const MOVES: u64 = 13;
+const SIZES: u64 = 14;
 
 pub struct Tally {
     checks: Checks,
@@ -129,6 +129,7 @@ impl Tally {
             SPACERS => spacers::run(rng, &mut self.checks)?,
             COLLISIONS => collisions::run(rng, &mut self.checks)?,
             MOVES => moves::run(rng, &mut self.checks)?,
+            SIZES => sizes::run(rng, width_in_turn(case), &mut self.checks)?,
             _ => self.runs.run(rng, &mut self.checks)?,
         }
         Ok(())

@@ -65,7 +65,7 @@ const fn summary_fault(name: &'static str, old: &'static str, new: &'static str)
     }
 }
 
-pub const FAULTS: [Fault; 69] = [
+pub const FAULTS: [Fault; 90] = [
     trap(
         "empty after one pass, without confirm",
         "stages/read.rs",
@@ -480,5 +480,130 @@ pub const FAULTS: [Fault; 69] = [
             if replay.words_read() % 0x4000 == 0 {
                 [self.put, self.taken, self.empty, self.full, self.refused] = [0; 5];
             }",
+    ),
+    trap(
+        "a put that goes to the row above the last put one",
+        "stages/commit.rs",
+        "(true, Side::Put) => above(layout::ITEMS_PUT),",
+        "(true, Side::Put) => u64::from(pool.sub(worker.index, layout::ITEMS_PUT)) + 1,",
+    ),
+    trap(
+        "a take that goes to the row above the last taken one",
+        "stages/commit.rs",
+        "(true, Side::Take) => above(layout::ITEMS_TAKEN),",
+        "(true, Side::Take) => u64::from(pool.sub(worker.index, layout::ITEMS_TAKEN)) + 1,",
+    ),
+    fault(
+        "a take's sums of last put rows alone",
+        "stages/mod.rs",
+        "pool.higher(put, worker.seen_bottom)",
+        "put",
+    ),
+    fault(
+        "a confirm that does not look at the put window",
+        "stages/confirm.rs",
+        "worker.sum != 0 || has_put_window_moved(pool, worker)",
+        "worker.sum != 0 || false && has_put_window_moved(pool, worker)",
+    ),
+    fault(
+        "a hop modulo the seen width",
+        "stages/commit.rs",
+        "% pool.settings.width",
+        "% super::width(pool, worker)",
+    ),
+    fault(
+        "an index beyond the window's width starts at 0",
+        "stages/window.rs",
+        "worker.index %= size.width;",
+        "if worker.index >= size.width {\n        worker.index = 0;\n    }",
+    ),
+    fault(
+        "a pass over all subs of the pool",
+        "stages/mod.rs",
+        "    if pool.has_sizes() {\n        worker.seen_width\n    } else {\n        pool.settings.width\n    }",
+        "    let _ = worker;\n    pool.settings.width",
+    ),
+    fault(
+        "a put shift that needs fewer than 15 live windows",
+        "pool/windows.rs",
+        "self.live() < layout::MOST_LIVE",
+        "self.live() < layout::MOST_LIVE - 1",
+    ),
+    fault(
+        "a put window raised with the size of the last one",
+        "pool/windows.rs",
+        "        let size = self.next_size();\n        let top",
+        "        let size = self.window_size(Side::Put);\n        let top",
+    ),
+    fault(
+        "a take window dropped by its own depth",
+        "pool/windows.rs",
+        "let depth = self.live_size(1).depth;",
+        "let depth = self.live_size(0).depth;",
+    ),
+    trap(
+        "a take's bound by the pool's sizes",
+        "one_at_a_time/sequential.rs",
+        "self.most_passed.min(size.distance_bound())",
+        "{\n                let _ = size;\n                self.most_passed.min(crate::bounds::distance_bound(&self.settings))\n            }",
+    ),
+    trap(
+        "a full that counts the take window's places too",
+        "bounds.rs",
+        "(1..pool.live())",
+        "(0..pool.live())",
+    ),
+    fault(
+        "rows outside a window's width held",
+        "pool/held.rs",
+        ".filter(|window| j < window.size.width)",
+        ".filter(|window| j < window.size.width.max(self.settings.width))",
+    ),
+    fault(
+        "a size of one above half of an odd R",
+        "pool/size.rs",
+        "self.depth <= settings.rows / 2",
+        "self.depth <= settings.rows.div_ceil(2)",
+    ),
+    fault(
+        "a size call that leaves the set word at 0",
+        "calls.rs",
+        "pool.words[set] = 1;",
+        "pool.words[set] = pool.words[set].min(1);",
+    ),
+    fault(
+        "a size call refused at the step limit",
+        "calls.rs",
+        "    if !pool.is_queue() || !size.within_limits(&pool.settings) {",
+        "    if pool.words[layout::STEPS_COUNTED] >= STEP_LIMIT {\n        return Answer::of(SPENT);\n    }\n    if !pool.is_queue() || !size.within_limits(&pool.settings) {",
+    ),
+    fault(
+        "windows that lead up to P modulo 2^32 fit too",
+        "pool/fit.rs",
+        "lead_up_to == top(layout::PUT_WINDOW)",
+        "lead_up_to as u32 == pool.words[layout::PUT_WINDOW]",
+    ),
+    fault(
+        "a sub fit by its last taken row alone",
+        "pool/fit.rs",
+        "let higher = taken.max(take_bottom);",
+        "let higher = taken.max(take_bottom.min(0));",
+    ),
+    fault(
+        "a stack's worker fit with words of a seen window",
+        "pool/fit.rs",
+        "return worker.seen_bottom == 0 && worker.seen_width == 0;",
+        "return true;",
+    ),
+    lister_fault(
+        "a spare bit of a size passes",
+        "listing/decode.rs",
+        "bits(word, 12, 27) == 0",
+        "bits(word, 13, 27) == 0",
+    ),
+    summary_fault(
+        "a summary's bound by the pool's sizes alone",
+        "self.bound = self.bound.max(size.distance_bound());",
+        "self.bound = self.bound.max(size.distance_bound().min(0));",
     ),
 ];

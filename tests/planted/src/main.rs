@@ -2,8 +2,9 @@
 //! prints how long the cross-check takes to find each. Exits non-zero if one
 //! is not found.
 //!
-//! planted [--seconds N] [--seed N] [--lister PROGRAM] [--summary PROGRAM], with
-//! at most N seconds for each trial (120)
+//! planted [--seconds N] [--seed N] [--from TEXT] [--lister PROGRAM]
+//! [--summary PROGRAM], with at most N seconds for each trial (120), and from the first
+//! fault on whose name has the text
 
 mod copy;
 mod faults;
@@ -18,6 +19,7 @@ use trial::{finder, trial, Outcome};
 struct Options {
     seconds: String,
     seed: String,
+    from: String,
     /// Those that print something of a run file, by their names.
     programs: Vec<(&'static str, PathBuf)>,
 }
@@ -37,6 +39,7 @@ fn options() -> Result<Options, String> {
     let mut options = Options {
         seconds: "120".to_string(),
         seed: "1".to_string(),
+        from: String::new(),
         programs: Vec::new(),
     };
     let mut words = std::env::args().skip(1);
@@ -45,6 +48,7 @@ fn options() -> Result<Options, String> {
         match option.as_str() {
             "--seconds" => options.seconds = value,
             "--seed" => options.seed = value,
+            "--from" => options.from = value,
             _ => {
                 let program = program(&option).ok_or(format!("no option {option}"))?;
                 let path = absolute(Path::new(&value))?;
@@ -80,7 +84,8 @@ fn run(options: &Options) -> Result<bool, String> {
     let is_given = |program| options.programs.iter().any(|(name, _)| *name == program);
     for fault in FAULTS
         .iter()
-        .filter(|fault| fault.shown_by.map_or(true, is_given))
+        .skip_while(|fault| !fault.name.contains(&options.from))
+        .filter(|fault| fault.shown_by.is_none_or(is_given))
     {
         let before = copy
             .plant(fault)

@@ -2,7 +2,7 @@
 //! asked to make it: one table for the cross-check and the benchmark. And a move
 //! between editions, which `fast` does not have.
 
-use second::{in_edition, Answer, Edition, Returned, Settings};
+use second::{in_edition, Answer, Edition, Returned, Settings, Size};
 
 #[derive(Clone, Copy, Debug, PartialEq, Eq)]
 pub enum Call {
@@ -10,6 +10,7 @@ pub enum Call {
     BeginPut { worker: u32, value: u32 },
     BeginTake { worker: u32 },
     Step { worker: u32 },
+    SetSize(Size),
 }
 
 /// From the worker on, at most so many steps.
@@ -25,6 +26,7 @@ pub struct Implementation {
     begin_put: fn(&mut [u32], u32, u32) -> Answer,
     begin_take: fn(&mut [u32], u32) -> Answer,
     step: fn(&mut [u32], u32) -> Answer,
+    set_size: fn(&mut [u32], Size) -> Answer,
     dispatch: fn(&mut [u32], u32, u32) -> Returned,
 }
 
@@ -35,6 +37,7 @@ impl Implementation {
             Call::BeginPut { worker, value } => (self.begin_put)(words, worker, value),
             Call::BeginTake { worker } => (self.begin_take)(words, worker),
             Call::Step { worker } => (self.step)(words, worker),
+            Call::SetSize(size) => (self.set_size)(words, size),
         }
     }
 
@@ -50,20 +53,38 @@ pub const SECOND: Implementation = Implementation {
     begin_put: second::begin_put,
     begin_take: second::begin_take,
     step: second::step,
+    set_size: second::set_size,
     dispatch: |words, worker, steps| second::dispatch(words, worker, steps).returned(),
 };
 
-/// The same in edition 0, which no other one has.
-pub const SECOND_IN_EDITION_0: Implementation = Implementation {
-    name: "second in edition 0",
-    make: |words, settings| in_edition::make(Edition::Zero, words, settings),
-    begin_put: |words, worker, value| in_edition::begin_put(Edition::Zero, words, worker, value),
-    begin_take: |words, worker| in_edition::begin_take(Edition::Zero, words, worker),
-    step: |words, worker| in_edition::step(Edition::Zero, words, worker),
-    dispatch: |words, worker, steps| {
-        in_edition::dispatch(Edition::Zero, words, worker, steps).returned()
-    },
-};
+/// The same in an edition that no other one has.
+macro_rules! second_in {
+    ($edition:expr, $name:literal) => {
+        Implementation {
+            name: $name,
+            make: |words, settings| in_edition::make($edition, words, settings),
+            begin_put: |words, worker, value| in_edition::begin_put($edition, words, worker, value),
+            begin_take: |words, worker| in_edition::begin_take($edition, words, worker),
+            step: |words, worker| in_edition::step($edition, words, worker),
+            set_size: |_, _| panic!("it has no such call"),
+            dispatch: |words, worker, steps| {
+                in_edition::dispatch($edition, words, worker, steps).returned()
+            },
+        }
+    };
+}
+
+pub const SECOND_IN_EDITION_0: Implementation = second_in!(Edition::Zero, "second in edition 0");
+pub const SECOND_IN_EDITION_1: Implementation = second_in!(Edition::One, "second in edition 1");
+
+/// The second implementation of this edition.
+pub fn second_in(edition: Edition) -> &'static Implementation {
+    match edition {
+        Edition::Zero => &SECOND_IN_EDITION_0,
+        Edition::One => &SECOND_IN_EDITION_1,
+        Edition::Two => &SECOND,
+    }
+}
 
 /// The library under test.
 pub const COMPILED: Implementation = Implementation {
@@ -72,6 +93,7 @@ pub const COMPILED: Implementation = Implementation {
     begin_put: compiled::begin_put,
     begin_take: compiled::begin_take,
     step: compiled::step,
+    set_size: |words, size| Answer::of(compiled::set_size(words, size)),
     dispatch: compiled::dispatch,
 };
 
@@ -82,6 +104,7 @@ pub const FAST: Implementation = Implementation {
     begin_put: fast::begin_put,
     begin_take: fast::begin_take,
     step: fast::step,
+    set_size: fast::set_size,
     dispatch: |words, worker, steps| fast::dispatch(words, worker, steps).returned(),
 };
 

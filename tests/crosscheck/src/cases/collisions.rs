@@ -2,6 +2,7 @@
 //! and runs in which the ninth words come round.
 
 use super::from_make::FromMake;
+use super::images::set_size;
 use crate::failure::Failure;
 use crate::make_up::editions::{self, ABOUT_HEADER, EDITIONS};
 use crate::make_up::schedule::{Numbers, Schedule};
@@ -44,6 +45,7 @@ fn each_call(
         Call::BeginPut { worker, value },
         Call::BeginTake { worker },
         Call::Step { worker },
+        set_size(rng, words),
     ] {
         SideBySide::new(words, checks).call(call, checks)?;
     }

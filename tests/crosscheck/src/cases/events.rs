@@ -1,12 +1,14 @@
 //! The calls of a run from make as events of demand 3's list.
 
+use crate::make_up::workers::edition;
 use second::phase::Side;
-use second::{Answer, Edition, Event, Fed, PUT, TAKEN};
+use second::{Answer, Event, Fed, PUT, TAKEN};
 use sides::Call;
 use std::collections::BTreeMap;
 
-/// With the words just before the call.
-pub fn event(before: &[u32], call: Call, answer: Answer) -> Event {
+/// With the words just before the call. A size call is no operation, and nothing is fed of
+/// it: what it comes to is fed with later answers.
+pub fn event(before: &[u32], call: Call, answer: Answer) -> Option<Event> {
     let begin = |worker, side, value| Event::Begin {
         worker,
         side,
@@ -14,9 +16,10 @@ pub fn event(before: &[u32], call: Call, answer: Answer) -> Event {
         answer,
     };
     match call {
-        Call::BeginPut { worker, value } => begin(worker, Side::Put, value),
-        Call::BeginTake { worker } => begin(worker, Side::Take, 0),
-        Call::Step { worker } => step(before, worker, answer),
+        Call::BeginPut { worker, value } => Some(begin(worker, Side::Put, value)),
+        Call::BeginTake { worker } => Some(begin(worker, Side::Take, 0)),
+        Call::Step { worker } => Some(step(before, worker, answer)),
+        Call::SetSize(_) => None,
         Call::Make(_) => unreachable!("a run has one make, its first call"),
     }
 }
@@ -25,7 +28,7 @@ pub fn step(before: &[u32], worker: u32, answer: Answer) -> Event {
     Event::Step {
         worker,
         answer,
-        fed: Fed::of(Edition::CURRENT, before, worker, &answer),
+        fed: Fed::of(edition(before), before, worker, &answer),
     }
 }
 

@@ -1,8 +1,8 @@
 //! The failed commits of a run (K5): counted over its steps, by the words before
 //! each, and held against the workers' ninth words.
 
-use crate::make_up::workers::Workers;
-use second::{Answer, Settings};
+use crate::make_up::workers::{edition, Workers};
+use second::{Answer, Edition, Settings};
 
 pub struct FailedCommits {
     by_worker: Vec<u32>,
@@ -15,7 +15,7 @@ impl FailedCommits {
         }
     }
 
-    /// As the ninth words have them.
+    /// As the ninth words have them, none where there are no such words.
     pub fn of(words: &[u32]) -> FailedCommits {
         FailedCommits {
             by_worker: ninth_words(words),
@@ -36,6 +36,9 @@ impl FailedCommits {
 
     /// What is wrong with the ninth words, if something is.
     pub fn difference(&self, words: &[u32]) -> Option<String> {
+        if edition(words) == Edition::Zero {
+            return None;
+        }
         let counts = self.by_worker.iter().zip(ninth_words(words));
         let mut by_worker = (0..).zip(counts);
         let (worker, (count, word)) = by_worker.find(|(_, (count, word))| *count != word)?;
@@ -50,7 +53,8 @@ fn ninth_words(words: &[u32]) -> Vec<u32> {
         settings: &Settings::of_words(words),
         words,
     };
+    let has = edition(words) > Edition::Zero;
     (0..workers.number())
-        .map(|worker| workers.failed_commits(worker))
+        .map(|worker| has.then(|| workers.failed_commits(worker)).unwrap_or(0))
         .collect()
 }

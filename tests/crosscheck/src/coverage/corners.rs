@@ -7,7 +7,7 @@ use second::{layout, PUT, QUEUE, TAKEN};
 
 pub type Corner = (&'static str, fn(&Seen) -> bool);
 
-pub const CORNERS: [Corner; 10] = [
+pub const CORNERS: [Corner; 9] = [
     ("a put into row 0", |seen| {
         seen.answer.number == PUT && seen.answer.row == 0
     }),
@@ -23,11 +23,6 @@ pub const CORNERS: [Corner; 10] = [
         !is_queue(seen)
             && seen.stage() == Some((Side::Take, Stage::Read))
             && seen.worker[layout::SEEN_WINDOW] < seen.settings.depth
-    }),
-    ("P below T moves up", |seen| {
-        is_at(seen, QUEUE, Side::Put, Stage::Shift)
-            && seen.before[layout::PUT_WINDOW] < seen.before[layout::TAKE_WINDOW]
-            && moved(seen)
     }),
     ("P wraps", |seen| {
         is_at(seen, QUEUE, Side::Put, Stage::Shift)

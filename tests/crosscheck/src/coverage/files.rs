@@ -3,6 +3,7 @@
 
 use super::counts::Counts;
 use crate::make_up::pieces::{Pieces, LARGE, PIECES};
+use crate::make_up::run_file;
 use crate::printings::{LISTER, SUMMARY};
 use second::{Summary, CUT, OFF_LIMITS, OUT_OF_PLACE};
 use std::collections::{BTreeMap, BTreeSet};
@@ -69,7 +70,7 @@ const CORNERS: [Corner; 6] = [
 
 type Told = (&'static str, fn(&Summary) -> bool);
 
-const TOLD: [Told; 12] = [
+const TOLD: [Told; 14] = [
     ("a summary of a whole file", |told| number(told).is_none()),
     ("a summary of a 22", |told| number(told) == Some(OFF_LIMITS)),
     ("a summary of a 28", |told| number(told) == Some(CUT)),
@@ -94,6 +95,10 @@ const TOLD: [Told; 12] = [
     ("a summary with the worst at the bound", |told| {
         told.worst > 0 && told.worst == told.bound
     }),
+    ("a summary with sizes set", |told| told.sizes > 0),
+    ("a summary with sizes set and takes", |told| {
+        told.sizes > 0 && told.worst > 0
+    }),
 ];
 
 #[derive(Default)]
@@ -102,6 +107,8 @@ pub struct Files {
     /// By program, name of the corner, and pieces.
     corners: BTreeMap<(&'static str, &'static str, Pieces), u64>,
     told: Counts<{ TOLD.len() }>,
+    /// Those about kind 8 words, by what they are about.
+    sizes: BTreeMap<&'static str, u64>,
 }
 
 impl Files {
@@ -119,6 +126,11 @@ impl Files {
         }
     }
 
+    /// A file about kind 8 words, which was printed right.
+    pub fn record_sizes(&mut self, name: &'static str) {
+        *self.sizes.entry(name).or_default() += 1;
+    }
+
     /// Prints the counts, of the programs that there are; what is missing comes back.
     pub fn report(&self) -> Vec<String> {
         let mut missing = Vec::new();
@@ -127,6 +139,21 @@ impl Files {
             let corners = CORNERS.iter();
             for corner in corners.filter(|corner| corner.of.is_none_or(|of| of == *program)) {
                 self.report_corner(program, corner, &mut missing);
+            }
+        }
+        let [of_queue, of_stack] = run_file::WHOLE;
+        let about = [
+            of_queue,
+            of_stack,
+            run_file::SPARE,
+            run_file::FIRST,
+            run_file::SECOND_WORD,
+        ];
+        for name in about.iter().filter(|_| !self.programs.is_empty()) {
+            let count = self.sizes.get(name).copied().unwrap_or(0);
+            println!("{count:9} run files with {name}");
+            if count == 0 {
+                missing.push(format!("a run file with {name}"));
             }
         }
         if self.programs.contains(SUMMARY) {

@@ -7,7 +7,8 @@
 //! each width, and the refusals for the stride alone; each corner of the segments
 //! that a distance goes through; each corner of the spacers that it does not count;
 //! each corner of the failed commits, and each edition and length that decides; each
-//! corner of a move, two faults at once, and a moved pool that goes on in each phase;
+//! corner of windows with sizes of their own, each number of live ones, and each sentence
+//! of their fitness; each corner of a move, two faults at once, and a moved pool that goes on in each phase;
 //! by each program, run files of each end in pieces of each size, and each sort of
 //! summary; and an empty of each kind that cannot stand at its last step.
 
@@ -23,6 +24,7 @@ mod phases;
 mod places;
 mod scripts;
 mod segments;
+pub mod sizes;
 mod solo;
 mod spacers;
 mod stretch;
@@ -44,6 +46,7 @@ use second::phase::{self, Side, Stage};
 use second::{in_edition, layout, Answer, Dispatched, Edition, Settings, MOVING, TAKEN, UNFIT};
 use segments::Segments;
 use sides::{Call, Dispatch};
+use sizes::Sizes;
 use solo::Solo;
 use spacers::Spacers;
 use stretch::Stretch;
@@ -61,8 +64,9 @@ pub struct Origin {
 /// A call on a fit pool that was not refused, or only by its commit.
 struct Seen<'a> {
     settings: Settings,
-    /// The worker's words before.
+    /// The worker's words before and after.
     worker: &'a [u32],
+    worker_after: &'a [u32],
     before: &'a [u32],
     after: &'a [u32],
     phase_after: u32,
@@ -101,6 +105,7 @@ pub struct Coverage {
     segments: Segments,
     pub spacers: Spacers,
     collisions: Collisions,
+    pub sizes: Sizes,
     pub moves: Moves,
     pub files: Files,
     pub places: Places,
@@ -124,6 +129,11 @@ impl Coverage {
                 self.collisions.record_make(settings, before, answer.number);
                 return;
             }
+            Call::SetSize(size) => {
+                self.collisions.record_call(name, before, answer.number);
+                self.sizes.record_call(size, answer.number, before, origin);
+                return;
+            }
             Call::BeginPut { worker, .. } | Call::BeginTake { worker } | Call::Step { worker } => {
                 worker
             }
@@ -141,6 +151,7 @@ impl Coverage {
         let seen = Seen {
             settings,
             worker: &before[at..at + layout::WORKER_WORDS],
+            worker_after: &after[at..at + layout::WORKER_WORDS],
             before,
             after,
             phase_after: after[at + layout::PHASE],
@@ -149,6 +160,7 @@ impl Coverage {
         self.phases.record(&seen);
         self.strides.record(&seen);
         self.collisions.record(&seen, origin);
+        self.sizes.record(&seen, origin);
         self.corners.add(CORNERS.map(|(_, reached)| reached(&seen)));
         if answer.number == TAKEN {
             let take = Take::of(before, &answer);
@@ -202,6 +214,7 @@ impl Coverage {
         missing.extend(self.segments.report());
         missing.extend(self.spacers.report());
         missing.extend(self.collisions.report());
+        missing.extend(self.sizes.report());
         missing.extend(self.moves.report());
         missing.extend(self.files.report());
         missing.extend(self.places.report());

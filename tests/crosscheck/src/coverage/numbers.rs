@@ -1,17 +1,19 @@
 //! The numbers that each call can answer (paper 01, Returned by the calls; K6 for
-//! a move; K7 for a dispatch, which C gets with 5 for nobody busy and 6 for no steps
+//! a move; K8 for a size; K7 for a dispatch, which C gets with 5 for nobody busy and 6 for no steps
 //! left).
 
 use sides::Call;
 use std::collections::BTreeMap;
 
 pub const DISPATCH: &str = "dispatch";
+pub const SET_SIZE: &str = "set size";
 
-pub const NUMBERS: [(&str, &[u32]); 7] = [
+pub const NUMBERS: [(&str, &[u32]); 8] = [
     ("make", &[0, 21, 22]),
     ("begin put", &[0, 21, 23, 24, 25, 27]),
     ("begin take", &[0, 21, 23, 24, 25, 27]),
     ("step", &[0, 1, 2, 3, 4, 21, 23, 24, 26, 27]),
+    (SET_SIZE, &[0, 21, 23, 32]),
     (DISPATCH, &[1, 2, 3, 4, 5, 6, 21, 23, 24, 27]),
     ("move 0 to 1", &[0, 21, 23, 31]),
     ("move 1 to 0", &[0, 21, 23, 31]),
@@ -23,6 +25,7 @@ pub fn name(call: Call) -> &'static str {
         Call::BeginPut { .. } => "begin put",
         Call::BeginTake { .. } => "begin take",
         Call::Step { .. } => "step",
+        Call::SetSize(_) => SET_SIZE,
     }
 }
 

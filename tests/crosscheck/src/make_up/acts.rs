@@ -17,6 +17,8 @@ pub enum Until {
     /// This sub.
     Full(u32),
     LastHolds(u32),
+    /// This sub's highest row.
+    TopRowIs(u32, u32),
     /// The worker's next take is that of the last sub's item in this row.
     NextIsInLast {
         row: u32,
@@ -71,6 +73,7 @@ impl Act {
             Until::OthersFull => full(last),
             Until::Full(sub) => workers.top_row(sub) == window,
             Until::LastHolds(items) => workers.top_row(last) == items,
+            Until::TopRowIs(sub, row) => workers.top_row(sub) == row,
             Until::NextIsInLast { row } => {
                 let on_its_way = workers.index(self.worker)..last;
                 none_in_reach(on_its_way) && workers.top_row(last) == row

@@ -2,7 +2,8 @@
 
 use super::junk;
 use crate::rng::Rng;
-use second::{dispatch, layout, Dispatched, STEP_LIMIT};
+use second::in_edition::dispatch;
+use second::{layout, Dispatched, Edition, STEP_LIMIT};
 use sides::Dispatch;
 
 /// Sorts of counts.
@@ -23,25 +24,34 @@ const PATIENCE: u32 = 2_000;
 
 /// By any worker or none.
 pub fn any(rng: &mut Rng, words: &[u32]) -> Dispatch {
+    of_edition(rng, Edition::CURRENT, words)
+}
+
+/// Of words of this edition.
+pub fn of_edition(rng: &mut Rng, edition: Edition, words: &[u32]) -> Dispatch {
     let workers = words.get(layout::WORKERS).copied().unwrap_or(1);
     let worker = junk::worker(rng, workers);
     let count = rng.pick(&COUNTS);
-    by_worker(rng, words, worker, count)
+    with(rng, (edition, words), worker, count)
 }
 
 pub fn by_worker(rng: &mut Rng, words: &[u32], worker: u32, count: Count) -> Dispatch {
+    with(rng, (Edition::CURRENT, words), worker, count)
+}
+
+fn with(rng: &mut Rng, of: (Edition, &[u32]), worker: u32, count: Count) -> Dispatch {
     let steps = match count {
         Count::Zero => 0,
         Count::One => 1,
         Count::Few => rng.between(2, 12),
-        Count::Many => many(rng, words, worker),
+        Count::Many => many(rng, of, worker),
     };
     Dispatch { worker, steps }
 }
 
-fn many(rng: &mut Rng, words: &[u32], worker: u32) -> u32 {
+fn many(rng: &mut Rng, (edition, words): (Edition, &[u32]), worker: u32) -> u32 {
     let mut copy = words.to_vec();
-    if let Dispatched::RanOut { .. } = dispatch(&mut copy, worker, PATIENCE) {
+    if let Dispatched::RanOut { .. } = dispatch(edition, &mut copy, worker, PATIENCE) {
         return rng.between(13, 200);
     }
     let some = rng.between(13, PATIENCE);

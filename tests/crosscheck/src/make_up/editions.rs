@@ -2,10 +2,10 @@
 
 use super::{image, junk};
 use crate::rng::Rng;
-use second::{layout, Edition, Settings, CURRENT_EDITION};
+use second::{layout, Edition, Settings};
 
-/// The current one, its neighbours, one further off, and the greatest.
-pub const EDITIONS: [u32; 5] = [0, CURRENT_EDITION, 2, 7, u32::MAX];
+/// All that there are, one further off, and the greatest.
+pub const EDITIONS: [u32; 5] = [0, 1, 2, 7, u32::MAX];
 
 /// With a word 11, and without.
 pub const ABOUT_HEADER: [usize; 2] = [layout::HEADER_WORDS - 1, layout::HEADER_WORDS];
@@ -23,16 +23,11 @@ pub fn image(
     words
 }
 
-/// About the needed words with and without the workers' ninth ones.
-pub fn lengths(settings: &Settings) -> [usize; 6] {
-    let [eight_each, needed] =
-        [Edition::Zero, Edition::One].map(|edition| settings.needed_words_in(edition));
-    [
-        eight_each - 1,
-        eight_each,
-        eight_each + 1,
-        needed - 1,
-        needed,
-        needed + 1,
-    ]
+/// About the needed words of each edition: without the workers' ninth ones, with them, and
+/// with all that edition 2 has.
+pub fn lengths(settings: &Settings) -> Vec<usize> {
+    let editions = [Edition::Zero, Edition::One, Edition::Two];
+    let needed = editions.map(|edition| settings.needed_words_in(edition));
+    let about = needed.map(|needed| [needed - 1, needed, needed + 1]);
+    about.concat()
 }

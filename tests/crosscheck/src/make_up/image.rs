@@ -4,7 +4,7 @@
 
 use super::junk;
 use super::live_windows;
-use super::settings::{within, Size};
+use super::settings::{whole_windows, within, Size};
 use super::values::Values;
 use crate::rng::Rng;
 use second::phase;
@@ -26,7 +26,10 @@ pub fn any_of_edition(rng: &mut Rng, edition: Edition) -> Vec<u32> {
 
 fn fit(rng: &mut Rng, edition: Edition) -> Vec<u32> {
     let size = rng.pick(&[Size::Small, Size::Small, Size::Small, Size::Medium]);
-    let settings = within(rng, size);
+    let mut settings = within(rng, size);
+    if !edition.has_sizes() {
+        settings = whole_windows(settings);
+    }
     of_edition(rng, &settings, edition)
 }
 
@@ -77,13 +80,23 @@ fn cells(rng: &mut Rng, words: &mut [u32]) {
 fn damaged(rng: &mut Rng, edition: Edition) -> Vec<u32> {
     let mut words = fit(rng, edition);
     let settings = Settings::of_words(&words);
+    let mut checked = vec![layout::PHASE, layout::INDEX, layout::SCAN];
+    if edition.has_sizes() {
+        checked.extend([layout::SEEN_BOTTOM, layout::SEEN_WIDTH]);
+    }
     let in_worker = settings.workers_at()
         + edition.worker_words() * rng.below(settings.workers) as usize
-        + rng.pick(&[layout::PHASE, layout::INDEX, layout::SCAN]);
-    let at = match rng.below(4) {
+        + rng.pick(&checked);
+    let after_cells = edition.size_words() as u32;
+    let at = match rng.below(6) {
         0 => rng.below(layout::HEADER_WORDS as u32) as usize,
         1 => settings.subs_at() + rng.below(2 * settings.width) as usize,
         2 => in_worker,
+        3..=4 if after_cells > 0 => {
+            let first = rng.below(after_cells);
+            let any = rng.below(after_cells);
+            settings.sizes_at_in(edition) + rng.pick(&[any, first % 8]) as usize
+        }
         _ => rng.below(words.len() as u32) as usize,
     };
     words[at] = match rng.below(4) {

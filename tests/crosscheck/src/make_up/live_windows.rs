@@ -1,7 +1,7 @@
 //! A queue's live windows where they have sizes of their own (K8): up to 16, of any size
 //! within limits, anywhere up to 2^32; and what is fit beside them.
 
-use super::junk;
+use super::{junk, sizes};
 use crate::rng::Rng;
 use second::phase::is_past_window;
 use second::{layout, Edition, Settings, Size, QUEUE};
@@ -15,14 +15,54 @@ pub fn set(rng: &mut Rng, settings: &Settings, edition: Edition, words: &mut [u3
     }
     let some = rng.between(1, layout::MOST_LIVE);
     let live = rng.pick(&[1, 1, 2, 3, some, layout::MOST_LIVE]);
-    let sizes: Vec<Size> = (0..live).map(|_| size(rng, settings)).collect();
-    let next = size(rng, settings);
+    let sizes: Vec<Size> = (0..live).map(|_| sizes::within(rng, settings)).collect();
+    set_sizes(rng, settings, (edition, &sizes), words);
+}
+
+/// More than one as a rule, and most of them as wide as the pool.
+pub fn set_many(rng: &mut Rng, settings: &Settings, edition: Edition, words: &mut [u32]) {
+    let some = rng.between(1, layout::MOST_LIVE);
+    let live = rng.pick(&[2, 3, 4, some, layout::MOST_LIVE]);
+    let mut sizes: Vec<Size> = (0..live).map(|_| sizes::within(rng, settings)).collect();
+    for size in &mut sizes {
+        if rng.chance(70) {
+            size.width = settings.width;
+        }
+    }
+    let at = settings.sizes_at_in(edition);
+    words[at..at + edition.size_words()].fill(0);
+    set_sizes(rng, settings, (edition, &sizes), words);
+}
+
+/// So many, each of depth 1 and any width, and the next one too.
+pub fn set_shallow(rng: &mut Rng, settings: &Settings, live: u32, words: &mut [u32]) {
+    let edition = Edition::CURRENT;
+    let one = |rng: &mut Rng| Size {
+        width: rng.between(1, settings.width),
+        depth: 1,
+    };
+    let sizes: Vec<Size> = (0..live).map(|_| one(rng)).collect();
+    let at = settings.sizes_at_in(edition);
+    words[at..at + edition.size_words()].fill(0);
+    set_sizes(rng, settings, (edition, &sizes), words);
+    words[at + layout::NEXT_DEPTH] = 1;
+}
+
+/// In words that are zero after the cells; and any next size.
+fn set_sizes(
+    rng: &mut Rng,
+    settings: &Settings,
+    (edition, sizes): (Edition, &[Size]),
+    words: &mut [u32],
+) {
+    let at = settings.sizes_at_in(edition);
+    let next = sizes::within(rng, settings);
     words[at + layout::NEXT_WIDTH] = next.width;
     words[at + layout::NEXT_DEPTH] = next.depth;
     words[at + layout::SIZE_SET] = rng.below(2);
-    words[at + layout::LIVE] = live;
+    words[at + layout::LIVE] = sizes.len() as u32;
     let pairs = &mut words[at + layout::SIZES..];
-    for (pair, size) in pairs.chunks_mut(layout::SIZE_WORDS).zip(&sizes) {
+    for (pair, size) in pairs.chunks_mut(layout::SIZE_WORDS).zip(sizes) {
         pair[layout::SIZE_WIDTH] = size.width;
         pair[layout::SIZE_DEPTH] = size.depth;
     }
@@ -35,15 +75,22 @@ pub fn set(rng: &mut Rng, settings: &Settings, edition: Edition, words: &mut [u3
     words[layout::PUT_WINDOW] = bottom + deep;
 }
 
-/// Often the pool's own, the least or the deepest.
-fn size(rng: &mut Rng, settings: &Settings) -> Size {
-    let deepest = (settings.rows / 2).min(64);
-    let (width, depth) = (rng.between(1, settings.width), rng.between(1, deepest));
-    let depths = [depth, settings.depth, 1, deepest];
-    Size {
-        width: rng.pick(&[width, settings.width]),
-        depth: rng.pick(&depths),
+/// Those of a fit queue, from the take window to the put window.
+pub fn sizes(words: &[u32]) -> Vec<Size> {
+    let settings = Settings::of_words(words);
+    let edition = Edition::of_words(words).expect("a fit pool names it");
+    if !edition.has_sizes() {
+        let between = words[layout::PUT_WINDOW] - words[layout::TAKE_WINDOW];
+        let live = between / settings.depth + 1;
+        return vec![Size::of_pool(&settings); live as usize];
     }
+    let at = settings.sizes_at_in(edition);
+    let pairs = words[at + layout::SIZES..].chunks(layout::SIZE_WORDS);
+    let sizes = pairs.map(|pair| Size {
+        width: pair[layout::SIZE_WIDTH],
+        depth: pair[layout::SIZE_DEPTH],
+    });
+    sizes.take(words[at + layout::LIVE] as usize).collect()
 }
 
 /// The take window's bottom; 0 where a sub's words are counts.

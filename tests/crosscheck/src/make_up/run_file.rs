@@ -1,12 +1,12 @@
 //! Run files, whole and damaged (paper 01, The run file and its listing).
 
 use super::schedule::{Numbers, Schedule};
-use super::settings::{any, of_script, of_stride, within, Size};
+use super::settings::{any, of_script, of_stride, of_width, within, Size};
 use super::values::Values;
 use super::{lost_commit, worst_distance};
 use crate::rng::Rng;
 use second::phase::Side;
-use second::{Answer, Settings, QUEUE, STACK};
+use second::{Answer, Settings, Size as OfWindow, QUEUE, STACK};
 use sides::{Call, SECOND};
 use std::ops::Range;
 
@@ -73,7 +73,7 @@ pub fn cut(rng: &mut Rng, file: &[u8], range: Range<usize>) -> Vec<u8> {
 /// The word of a byte of this range has a kind that there is not.
 pub fn out_of_place(rng: &mut Rng, file: &[u8], range: Range<usize>) -> Vec<u8> {
     let mut damaged = file.to_vec();
-    damaged[at(rng, range) | 3] |= 0x80;
+    damaged[at(rng, range) | 3] |= 0xf0;
     damaged
 }
 
@@ -100,6 +100,50 @@ pub fn of_every_stride(rng: &mut Rng, width: u32) -> Vec<(u32, Vec<u8>)> {
     };
     (0..16).chain(spare_bits).map(with).collect()
 }
+
+/// A file about kind 8 words (K8), and what it is about.
+pub type Sized = (&'static str, Vec<u8>);
+
+/// Where the spare bits of a kind 8 word are.
+const SPARE_BITS: Range<u32> = 12..28;
+
+/// A run of a pool of this kind and width with each width that a kind 8 word can name and
+/// each depth, off limits or within; and files that such a word makes faulty: with each
+/// spare bit, as the first word and as the second.
+pub fn of_sizes(rng: &mut Rng, kind: u32, width: u32) -> Vec<Sized> {
+    let sort = rng.pick(&[Size::Small, Size::Large]);
+    let settings = of_width(rng, kind, width, sort);
+    let depth = rng.pick(&[1, settings.depth]);
+    let widths = (0..32).map(|width| OfWindow { width, depth });
+    let depths = (0..128).map(|depth| OfWindow { width: 1, depth });
+    let every: Vec<Call> = widths.chain(depths).map(Call::SetSize).collect();
+    let whole = encode(&settings, &every);
+    let mut files = vec![(WHOLE[kind as usize], whole.clone())];
+    let words = whole.len() / 4;
+    let word = |file: &mut Vec<u8>, at: usize, change: &dyn Fn(u32) -> u32| {
+        let bytes = &mut file[4 * at..4 * at + 4];
+        let word = u32::from_le_bytes([bytes[0], bytes[1], bytes[2], bytes[3]]);
+        bytes.copy_from_slice(&change(word).to_le_bytes());
+    };
+    for bit in SPARE_BITS {
+        let mut file = whole.clone();
+        let at = 2 + rng.below(words as u32 - 3) as usize;
+        word(&mut file, at, &|word| word | 1 << bit);
+        files.push((SPARE, file));
+    }
+    for (at, name) in [(0, FIRST), (1, SECOND_WORD)] {
+        let mut file = whole.clone();
+        word(&mut file, at, &|_| 8 << 28 | 1 << 5 | 1);
+        files.push((name, file));
+    }
+    files
+}
+
+/// What files about kind 8 words are about: of a queue, and of a stack.
+pub const WHOLE: [&str; 2] = ["all sizes of a queue", "all sizes of a stack"];
+pub const SPARE: &str = "a spare bit of a size";
+pub const FIRST: &str = "a size as the first word";
+pub const SECOND_WORD: &str = "a size as the second word";
 
 /// The calls that follow a make, each made up from the words before it; the words
 /// and the answer that the last one leaves.
@@ -150,6 +194,7 @@ fn word(call: &Call) -> u32 {
         Call::BeginPut { worker, value } => 3 << 28 | worker << 22 | value,
         Call::BeginTake { worker } => 4 << 28 | worker << 22,
         Call::Step { worker } => 5 << 28 | worker << 22,
+        Call::SetSize(OfWindow { width, depth }) => 8 << 28 | depth << 5 | width,
         Call::Make(_) => unreachable!("a run has one make, its header"),
     }
 }
@@ -174,8 +219,13 @@ pub fn random(rng: &mut Rng, file: &[u8]) -> Vec<u8> {
     let kept = rng.pick(&[0, 4, 8]);
     let mut bytes = file[..kept].to_vec();
     for _ in 0..rng.below(20) {
-        let kind = rng.pick(&[0, 1, 2, 3, 4, 5, 5, 5, 6, 7, 15]);
-        let word = kind << 28 | rng.below(4) << 22 | rng.u32() & rng.pick(&[0, 0x3f_ffff]);
+        let kind = rng.pick(&[0, 1, 2, 3, 4, 5, 5, 5, 6, 7, 8, 8, 15]);
+        let worker = match kind {
+            8 => 0,
+            _ => rng.below(4),
+        };
+        let bits = [0, 0xfff, 0x3f_ffff];
+        let word = kind << 28 | worker << 22 | rng.u32() & rng.pick(&bits);
         bytes.extend(word.to_le_bytes());
     }
     bytes

@@ -1,18 +1,19 @@
 //! The calls of a run: whose turn it is, and what that worker does.
 
 use super::junk;
+use super::sizes::Changes;
 use super::turns::Turns;
 use super::values::Values;
 use super::workers::Workers;
 use crate::rng::Rng;
-use second::Settings;
+use second::{Edition, Settings, Size};
 use sides::Call;
 
 /// Values and worker numbers that a run may have.
 #[derive(Clone, Copy)]
 pub enum Numbers {
     Any,
-    /// Those that a run file can hold: 22 and 6 bits.
+    /// Those that a run file can hold: 22 and 6 bits, and of a size 5 and 7.
     OfRunFile,
 }
 
@@ -26,6 +27,7 @@ pub struct Schedule {
     mood: u32,
     /// Calls out of turn, some of them to be refused.
     odd_percent: u32,
+    sizes: Changes,
 }
 
 impl Schedule {
@@ -44,6 +46,7 @@ impl Schedule {
             put_percent: rng.pick(&[50, 90, 100]),
             mood: rng.pick(&[20, to_fill / 2 + 1, to_fill * 2]),
             odd_percent: rng.pick(&[0, 1, 4]),
+            sizes: Changes::new(rng),
         }
     }
 
@@ -51,6 +54,9 @@ impl Schedule {
     pub fn next(&mut self, rng: &mut Rng, words: &[u32]) -> Call {
         if rng.below(self.mood) == 0 {
             self.put_percent = rng.pick(&[0, 10, 50, 90, 100]);
+        }
+        if let Some(size) = self.next_size(rng, words) {
+            return Call::SetSize(size);
         }
         if rng.chance(self.odd_percent) {
             return self.any_call(rng);
@@ -67,8 +73,24 @@ impl Schedule {
         }
     }
 
+    /// Only edition 2 has the call.
+    fn next_size(&self, rng: &mut Rng, words: &[u32]) -> Option<Size> {
+        Edition::of_words(words).filter(|edition| edition.has_sizes())?;
+        let Size { width, depth } = self.sizes.next(rng, &self.settings)?;
+        Some(match self.numbers {
+            Numbers::Any => Size { width, depth },
+            Numbers::OfRunFile => Size {
+                width: width % 32,
+                depth: depth % 128,
+            },
+        })
+    }
+
     /// A call by which no worker steps: a begin in place of a busy one's step.
     pub fn no_step(&self, rng: &mut Rng, words: &[u32]) -> Call {
+        if let Some(size) = self.next_size(rng, words) {
+            return Call::SetSize(size);
+        }
         let workers = Workers {
             settings: &self.settings,
             words,

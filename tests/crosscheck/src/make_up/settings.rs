@@ -30,6 +30,18 @@ pub enum Size {
     Large,
 }
 
+/// The same with rows of whole windows, as editions 0 and 1 ask for in a queue.
+pub fn whole_windows(settings: Settings) -> Settings {
+    let beyond = match settings.kind {
+        QUEUE => settings.rows % settings.depth,
+        _ => 0,
+    };
+    Settings {
+        rows: settings.rows - beyond,
+        ..settings
+    }
+}
+
 /// Settings within limits.
 pub fn within(rng: &mut Rng, size: Size) -> Settings {
     let kind = rng.pick(&[QUEUE, STACK]);
@@ -135,7 +147,9 @@ pub fn of_width(rng: &mut Rng, kind: u32, width: u32, size: Size) -> Settings {
     let mut shift = rng.pick(&[1, some, depth]);
     if kind == QUEUE {
         shift = depth;
-        rows -= rows % depth;
+        if rng.chance(50) {
+            rows -= rows % depth;
+        }
     }
     Settings {
         kind,

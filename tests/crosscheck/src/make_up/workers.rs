@@ -2,7 +2,7 @@
 //! subs.
 
 use second::phase::{self, Side, Stage};
-use second::{layout, Settings, STACK};
+use second::{layout, Edition, Settings, STACK};
 
 pub struct Workers<'a> {
     pub settings: &'a Settings,
@@ -90,15 +90,22 @@ impl Workers<'_> {
     }
 
     fn word(&self, worker: u32, which: usize) -> u32 {
-        self.words[self.settings.workers_at() + layout::WORKER_WORDS * worker as usize + which]
+        let words = edition(self.words).worker_words();
+        self.words[self.settings.workers_at() + words * worker as usize + which]
     }
 }
 
-/// The ninth words of a pool of the current edition, worker by worker.
+/// Of a pool's words.
+pub fn edition(words: &[u32]) -> Edition {
+    Edition::of_words(words).expect("word 11 of a fit pool names it")
+}
+
+/// The ninth words of a pool that has them, worker by worker.
 pub fn set_failed_commits(words: &mut [u32], mut word: impl FnMut() -> u32) {
     let settings = Settings::of_words(words);
-    let workers = &mut words[settings.workers_at()..settings.cells_at()];
-    for worker in workers.chunks_mut(layout::WORKER_WORDS) {
+    let edition = edition(words);
+    let workers = &mut words[settings.workers_at()..settings.cells_at_in(edition)];
+    for worker in workers.chunks_mut(edition.worker_words()) {
         worker[layout::FAILED_COMMITS] = word();
     }
 }

@@ -7,12 +7,15 @@ mod sub;
 use second::{segments_of_subs, worst_distance};
 use second::{Answer, Edition, Settings, QUEUE, SPACER, TAKEN};
 pub use sub::Sub;
+use sub::{Counted, PoolWords};
 
 pub struct Take<'a> {
     pub settings: Settings,
     /// What is taken.
     pub value: u32,
     pub stamp: u32,
+    /// Each sub of a stack; of a queue each in each live window within whose width it
+    /// lies.
     pub subs: Vec<Sub<'a>>,
     pub passed_over: u32,
     pub reported: u32,
@@ -23,11 +26,20 @@ impl<'a> Take<'a> {
     /// does not pass over the item that it takes.
     pub fn of(words: &'a [u32], answer: &Answer) -> Take<'a> {
         let settings = Settings::of_words(words);
-        let runs = segments_of_subs(Edition::CURRENT, words).into_iter();
-        let subs = (0..).zip(runs);
-        let subs: Vec<Sub> = subs
-            .map(|(j, runs)| Sub::of(words, j, runs, answer.stamp))
-            .collect();
+        let edition = Edition::of_words(words).expect("a take's pool is fit");
+        let runs = segments_of_subs(edition, words).into_iter();
+        let mut subs = Vec::new();
+        for (j, runs) in (0..).zip(runs) {
+            let pool = PoolWords { words, edition };
+            for (below, segments) in pool.rows_below(j).into_iter().zip(&runs) {
+                let counted = Counted {
+                    below,
+                    segments: segments.clone(),
+                    in_all: runs.iter().flatten().cloned().collect(),
+                };
+                subs.push(Sub::of(&pool, j, counted, answer.stamp));
+            }
+        }
         let mut take = Take {
             settings,
             value: answer.value,

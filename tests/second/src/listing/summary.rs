@@ -33,6 +33,8 @@ pub struct Summary {
     /// The failed commits of all workers together.
     pub lost: u64,
     pub steps: u32,
+    /// How many sizes were set; it is not printed.
+    pub sizes: u64,
 }
 
 /// Prints the summary of the run file that `input` yields, of a pool of this edition.
@@ -78,6 +80,7 @@ impl Summary {
         while let Some(Called { answer, size, .. }) = replay.next_call()? {
             if let Some(size) = size {
                 self.bound = self.bound.max(size.distance_bound());
+                self.sizes += 1;
             }
             match answer.number {
                 MOVING => {}

@@ -19,7 +19,7 @@ pub const CURRENT_EDITION: u32 = Edition::CURRENT.word();
 
 impl Edition {
     /// The one that the calls are about where none is named: the shipped one.
-    pub const CURRENT: Edition = Edition::One;
+    pub const CURRENT: Edition = Edition::Two;
 
     /// Word 11.
     pub const fn word(self) -> u32 {
@@ -28,6 +28,13 @@ impl Edition {
             Edition::One => 1,
             Edition::Two => 2,
         }
+    }
+
+    /// The one that a pool's word 11 names, if there is such a one.
+    pub fn of_words(words: &[u32]) -> Option<Edition> {
+        let named = words.get(layout::EDITION)?;
+        let all = [Edition::Zero, Edition::One, Edition::Two];
+        all.into_iter().find(|edition| edition.word() == *named)
     }
 
     /// Of each worker: without the ninth, with it, and with the tenth and eleventh.

@@ -50,8 +50,8 @@ impl RunFiles {
     }
 
     /// A random run file whole, damaged, cut and with bytes after its end; one of a
-    /// pool of this width with each stride; a script with each share of spacers; and
-    /// a short and a long one in pieces.
+    /// pool of this width with each stride; those about sizes; a script with each share
+    /// of spacers; and a short and a long one in pieces.
     pub fn run(
         &mut self,
         rng: &mut Rng,
@@ -78,6 +78,12 @@ impl RunFiles {
         for (bits, file) in run_file::of_every_stride(rng, width) {
             self.compare(&file, rng, coverage)?;
             coverage.strides.record_file(width, bits);
+        }
+        for kind in [QUEUE, STACK] {
+            for (name, file) in run_file::of_sizes(rng, kind, width) {
+                self.compare(&file, rng, coverage)?;
+                coverage.files.record_sizes(name);
+            }
         }
         self.run_scripts(rng, coverage)?;
         self.run_in_pieces(rng, width, coverage)?;

@@ -2,7 +2,7 @@
 //! of either edition.
 
 use crate::failure::Failure;
-use crate::make_up::settings::{within, Size};
+use crate::make_up::settings::{whole_windows, within, Size};
 use crate::make_up::{editions, image, junk};
 use crate::moved::{moved, Trip};
 use crate::rng::Rng;
@@ -14,7 +14,7 @@ pub fn run(rng: &mut Rng, which: Move, checks: &mut Checks) -> Result<(), Failur
     let [old, new] = which.editions();
     let edition = rng.pick(&[old, old, old, new]);
     let from = image::any_of_edition(rng, edition);
-    let settings = settings(rng, &from);
+    let settings = settings(rng, which, &from);
     let trip = Trip {
         which,
         settings,
@@ -27,9 +27,10 @@ pub fn run(rng: &mut Rng, which: Move, checks: &mut Checks) -> Result<(), Failur
 }
 
 /// Those in the words, if there are any within limits.
-fn settings(rng: &mut Rng, words: &[u32]) -> Settings {
+fn settings(rng: &mut Rng, which: Move, words: &[u32]) -> Settings {
     let has_header = words.len() >= layout::HEADER_WORDS;
     let in_words = has_header.then(|| Settings::of_words(words));
-    let fit = in_words.filter(Settings::within_limits);
-    fit.unwrap_or_else(|| within(rng, Size::Small))
+    let [old, _] = which.editions();
+    let fit = in_words.filter(|settings| settings.within_limits_in(old));
+    fit.unwrap_or_else(|| whole_windows(within(rng, Size::Small)))
 }

@@ -8,7 +8,7 @@ use crate::make_up::{dispatches, image};
 use crate::moved::Trip;
 use crate::rng::Rng;
 use crate::side_by_side::{Checks, SideBySide};
-use second::{MOVING, WRONG_EDITION};
+use second::{Edition, MOVING, WRONG_EDITION};
 use sides::Move;
 
 pub fn run(rng: &mut Rng, trip: Trip, checks: &mut Checks) -> Result<(), Failure> {
@@ -25,12 +25,12 @@ pub fn run(rng: &mut Rng, trip: Trip, checks: &mut Checks) -> Result<(), Failure
         Move::From1To0 => (to, from),
     };
     let mut twin = Twin::of(trip, zero);
-    let mut pools = SideBySide::new(&one, checks);
+    let mut pools = SideBySide::in_edition(Edition::One, &one, checks);
     let workers = trip.settings.workers;
     let mut worker = rng.below(workers);
     for _ in 0..rng.between(1, 40) {
         if rng.chance(10) {
-            let dispatch = dispatches::any(rng, pools.words());
+            let dispatch = dispatches::of_edition(rng, Edition::One, pools.words());
             let (dispatched, _) = pools.dispatch(dispatch, checks)?;
             twin.follow_dispatch(dispatch, dispatched, checks)?;
         } else {

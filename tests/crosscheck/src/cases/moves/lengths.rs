@@ -7,11 +7,13 @@ use crate::make_up::junk;
 use crate::moved::{moved, Trip};
 use crate::rng::Rng;
 use crate::side_by_side::Checks;
+use second::Edition;
 
 pub fn run(rng: &mut Rng, trip: Trip, checks: &mut Checks) -> Result<(), Failure> {
     let [old, _] = trip.which.editions();
     let about_needed = editions::lengths(&trip.settings);
-    let more = trip.settings.needed_words() + rng.between(33, 99) as usize;
+    let most = trip.settings.needed_words_in(Edition::Two);
+    let more = most + rng.between(33, 99) as usize;
     let lengths = [&[0][..], &ABOUT_HEADER, &about_needed, &[more]].concat();
     for word_11 in EDITIONS.into_iter().chain([junk::word(rng), rng.u32()]) {
         for from_len in &lengths {

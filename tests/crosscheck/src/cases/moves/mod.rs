@@ -9,7 +9,7 @@ mod runs;
 mod twin;
 
 use crate::failure::Failure;
-use crate::make_up::settings::{of_kind, Size};
+use crate::make_up::settings::{of_kind, whole_windows, Size};
 use crate::moved::Trip;
 use crate::rng::Rng;
 use crate::side_by_side::Checks;
@@ -50,7 +50,7 @@ pub fn run(rng: &mut Rng, checks: &mut Checks) -> Result<(), Failure> {
 fn of_image(rng: &mut Rng, which: Move, kind: u32, size: Size) -> Trip {
     Trip {
         which,
-        settings: of_kind(rng, kind, size),
+        settings: whole_windows(of_kind(rng, kind, size)),
         from_make: false,
     }
 }

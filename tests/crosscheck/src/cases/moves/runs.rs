@@ -1,4 +1,4 @@
-//! A run from make in both editions under a random schedule, with moves back and forth
+//! A run from make in editions 0 and 1 under a random schedule, with moves back and forth
 //! in the midst of it: one run, which must stand one at a time.
 
 use super::twin::Twin;
@@ -7,22 +7,23 @@ use crate::cases::runs::short;
 use crate::failure::Failure;
 use crate::make_up::dispatches;
 use crate::make_up::schedule::{Numbers, Schedule};
-use crate::make_up::settings::of_kind;
+use crate::make_up::settings::{of_kind, whole_windows};
 use crate::rng::Rng;
 use crate::side_by_side::Checks;
+use second::Edition;
 use sides::{Move, MOVES};
 
 pub fn run(rng: &mut Rng, kind: u32, checks: &mut Checks) -> Result<(), Failure> {
     let (size, calls) = short(rng);
-    let settings = of_kind(rng, kind, size);
-    let mut run = FromMake::new("moved run", rng, settings, checks)?;
+    let settings = whole_windows(of_kind(rng, kind, size));
+    let mut run = FromMake::in_edition("moved run", rng, (Edition::One, settings), checks)?;
     let mut twin = Twin::made(rng, settings)?;
     let mut schedule = Schedule::new(rng, settings, Numbers::Any, run.values);
     let move_percent = rng.pick(&[5, 20, 50]);
     let mut moves = [0, 0];
     for _ in 0..calls {
         if rng.chance(5) {
-            let dispatch = dispatches::any(rng, run.words());
+            let dispatch = dispatches::of_edition(rng, Edition::One, run.words());
             let dispatched = run.dispatch(dispatch, checks)?;
             twin.follow_dispatch(dispatch, dispatched, checks)?;
         } else {

@@ -1,5 +1,5 @@
 //! A pool in edition 0, beside the same one in edition 1: the same calls get the same
-//! answers, and the words correspond. Only the second implementation has edition 0.
+//! answers, and the words correspond. Only the second implementation has these two.
 
 use crate::coverage::numbers;
 use crate::failure::Failure;

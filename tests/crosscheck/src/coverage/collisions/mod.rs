@@ -6,6 +6,7 @@ mod corners;
 mod lengths;
 
 use super::by_origin::ByOrigin;
+use super::numbers::{DISPATCH, SET_SIZE};
 use super::phases::kind_name;
 use super::{Origin, Seen};
 use corners::CORNERS;
@@ -15,7 +16,7 @@ use std::collections::BTreeMap;
 
 const MAKE: &str = "make";
 /// The calls that ask for a fit pool.
-const OF_POOL: [&str; 4] = ["begin put", "begin take", "step", "dispatch"];
+const OF_POOL: [&str; 5] = ["begin put", "begin take", "step", SET_SIZE, DISPATCH];
 
 #[derive(Default)]
 pub struct Collisions {

@@ -4,7 +4,7 @@
 use crate::coverage::fitness_in;
 use crate::moved::Trip;
 use second::phase::IDLE;
-use second::{layout, MOVING, NO_WORKER, STEP_LIMIT, TOO_SHORT, WRONG_EDITION};
+use second::{layout, Edition, MOVING, NO_WORKER, STEP_LIMIT, TOO_SHORT, WRONG_EDITION};
 use sides::Move;
 
 /// What a move got, and its answer's number.
@@ -172,8 +172,9 @@ fn is_other(given: &Given, edition: u32) -> bool {
 
 /// Where they stand in these words of edition 1.
 fn ninth_words<'a>(given: &Given, words: &'a [u32]) -> impl Iterator<Item = u32> + 'a {
-    let settings = &given.trip.settings;
-    let workers = words[settings.workers_at()..settings.cells_at()].chunks(layout::WORKER_WORDS);
+    let (settings, edition) = (&given.trip.settings, Edition::One);
+    let workers = &words[settings.workers_at()..settings.cells_at_in(edition)];
+    let workers = workers.chunks(edition.worker_words());
     workers.map(|worker| worker[layout::FAILED_COMMITS])
 }
 

@@ -1,5 +1,5 @@
-//! The corners of a sub that a distance goes through (K2): where its segments
-//! begin and end, and an item there by which a cell more or less would be seen; a
+//! The corners of a sub that a distance goes through (K2), in a queue within one live
+//! window: where its segments begin and end, and an item there by which a cell more or less would be seen; a
 //! spacer would not show it.
 
 use crate::take::Sub;
@@ -10,10 +10,7 @@ pub struct Corner {
     /// 2 where it takes a sub beside that of the taken cell, which does not count
     /// itself.
     pub least_width: usize,
-    /// Whether a run from make comes to it. In a queue from make all stamps that
-    /// count are in the take window, whose d rows are in a straight run: none is in
-    /// the segment that goes on from the first cell, or in the last row of a full
-    /// sub.
+    /// Whether a run from make comes to it.
     pub from_make: bool,
 }
 
@@ -40,7 +37,7 @@ const fn of_images(name: &'static str, is_so: fn(&Sub) -> bool) -> Corner {
     }
 }
 
-pub const OF_QUEUES: [Corner; 28] = [
+pub const OF_QUEUES: [Corner; 29] = [
     beside("an empty sub", |sub| sub.held == 0),
     corner("one run short of the last cell", |sub| {
         sub.has_one_run() && !sub.is_up_to_last()
@@ -55,45 +52,53 @@ pub const OF_QUEUES: [Corner; 28] = [
     corner("two runs, one cell in the second", |sub| {
         sub.has_two_runs() && sub.segments[1].len() == 1
     }),
-    corner("full in one run", |sub| sub.is_full() && sub.has_one_run()),
-    corner("full in two runs", |sub| {
+    corner("one run, and R cells in all windows", |sub| {
+        sub.is_full() && sub.has_one_run()
+    }),
+    corner("two runs, and R cells in all windows", |sub| {
         sub.is_full() && sub.has_two_runs()
     }),
-    corner("taken a multiple of R above 0", |sub| {
+    corner("from a multiple of R above 0", |sub| {
         sub.held > 0 && sub.below > 0 && sub.below.is_multiple_of(sub.rows)
     }),
     of_images("two runs, put from 2^32 - R on", |sub| {
         sub.has_two_runs() && sub.below + sub.held > u32::MAX - sub.rows
     }),
     beside("empty, its next cell would count", |sub| {
-        sub.held == 0 && sub.next_counts(0)
+        sub.held == 0 && sub.next_would_count(0)
     }),
     corner("one run, the cell before would count", |sub| {
-        sub.has_one_run() && sub.previous_counts()
+        sub.has_one_run() && sub.previous_would_count()
     }),
     corner("one run, the cell after would count", |sub| {
-        sub.has_one_run() && !sub.is_up_to_last() && sub.next_counts(0)
+        sub.has_one_run() && !sub.is_up_to_last() && sub.next_would_count(0)
     }),
     corner("up to the last, the first would count", |sub| {
-        sub.has_one_run() && sub.is_up_to_last() && !sub.is_full() && sub.next_counts(1)
+        sub.has_one_run() && sub.is_up_to_last() && !sub.is_full() && sub.next_would_count(1)
     }),
     corner("from the first, the last would count", |sub| {
-        sub.held > 0 && sub.segments[0].start == 0 && !sub.is_full() && sub.last_of_all_counts()
+        sub.held > 0
+            && sub.segments[0].start == 0
+            && !sub.is_full()
+            && sub.last_of_all_would_count()
     }),
     beside("up to the last, the next sub's would count", |sub| {
-        sub.is_up_to_last() && sub.next_counts(0)
+        sub.is_up_to_last() && sub.next_would_count(0)
     }),
     corner("two runs, the cell before would count", |sub| {
-        sub.has_two_runs() && !sub.is_full() && sub.previous_counts()
+        sub.has_two_runs() && !sub.is_full() && sub.previous_would_count()
     }),
     corner("two runs, the cell after would count", |sub| {
-        sub.has_two_runs() && !sub.is_full() && sub.next_counts(1)
+        sub.has_two_runs() && !sub.is_full() && sub.next_would_count(1)
     }),
-    beside("full in two, the cell after would count again", |sub| {
-        sub.is_full() && sub.has_two_runs() && sub.next_counts(1)
+    corner("the cell after counts in the next window", |sub| {
+        sub.has_one_run() && sub.next_counts_twice(0)
     }),
-    of_images("full in two, the cell before would count again", |sub| {
-        sub.is_full() && sub.has_two_runs() && sub.previous_counts()
+    of_images("two runs, the cell after counts in the next", |sub| {
+        sub.has_two_runs() && sub.next_counts_twice(1)
+    }),
+    corner("the cell before counts in the last window", |sub| {
+        sub.held > 0 && sub.previous_counts_twice()
     }),
     beside("one run, its first cell counts", |sub| {
         sub.has_one_run() && sub.first_counts(0)
@@ -101,10 +106,10 @@ pub const OF_QUEUES: [Corner; 28] = [
     corner("one run, its last cell counts", |sub| {
         sub.has_one_run() && sub.last_counts(0)
     }),
-    beside("full in one run, its first cell counts", |sub| {
+    beside("R cells in all, a run's first cell counts", |sub| {
         sub.is_full() && sub.has_one_run() && sub.first_counts(0)
     }),
-    of_images("full in one run, its last cell counts", |sub| {
+    corner("R cells in all, a run's last cell counts", |sub| {
         sub.is_full() && sub.has_one_run() && sub.last_counts(0)
     }),
     beside("two runs, the first's first cell counts", |sub| {
@@ -113,10 +118,10 @@ pub const OF_QUEUES: [Corner; 28] = [
     corner("two runs, the first's last cell counts", |sub| {
         sub.has_two_runs() && sub.last_counts(0)
     }),
-    of_images("two runs, the second's first cell counts", |sub| {
+    corner("two runs, the second's first cell counts", |sub| {
         sub.has_two_runs() && sub.first_counts(1)
     }),
-    of_images("two runs, the second's last cell counts", |sub| {
+    corner("two runs, the second's last cell counts", |sub| {
         sub.has_two_runs() && sub.last_counts(1)
     }),
 ];
@@ -126,13 +131,13 @@ pub const OF_STACKS: [Corner; 8] = [
     beside("an empty sub", |sub| sub.held == 0),
     corner("a full sub", |sub| sub.is_full()),
     beside("empty, its first cell would count", |sub| {
-        sub.held == 0 && sub.next_counts(0)
+        sub.held == 0 && sub.next_would_count(0)
     }),
     corner("the cell after its run would count", |sub| {
-        sub.held > 0 && !sub.is_full() && sub.next_counts(0)
+        sub.held > 0 && !sub.is_full() && sub.next_would_count(0)
     }),
     beside("full, the next sub's first cell would count", |sub| {
-        sub.is_full() && sub.next_counts(0)
+        sub.is_full() && sub.next_would_count(0)
     }),
     corner("its first cell counts", |sub| {
         sub.held > 0 && sub.first_counts(0)

@@ -47,7 +47,7 @@ impl<const N: usize> Default for ByWidth<N> {
 impl<const N: usize> ByWidth<N> {
     fn record(&mut self, corners: &[Corner; N], take: &Take, origin: Origin) {
         for (by_width, corner) in self.0.iter_mut().zip(corners) {
-            let takes = &mut by_width[take.subs.len() - 1];
+            let takes = &mut by_width[take.settings.width as usize - 1];
             takes.add(origin, take.subs.iter().any(corner.is_so));
         }
     }
