@@ -15,3 +15,4 @@ pub mod Related
 pub mod Back
 pub mod Widening
 pub mod Over
+pub mod Acts

@@ -8,23 +8,18 @@ use lib.Dec.{eqb}
 use borrow.Author.Tests.{eqb-true}
 use Rattle.laws.specs.Choice.{cases}
 use Rattle.rules.specs.Answers.{numberOf}
-use Rattle.rules.specs.Layout.{stepsAt, settingsOf}
-use Rattle.rules.specs.Run.{begin, callOf, run}
-use Rattle.rules.specs.Sequential.{Operation, demand3Rows}
-use Rattle.rules.specs.Statement.{All, OneAtATimeWithin}
+use Rattle.rules.specs.Layout.{settingsOf}
+use Rattle.rules.specs.Run.{callOf, run}
+use Rattle.rules.specs.Statement.{All}
 use Rattle.rules.specs.Consequences.{wordsAfter}
-use Rattle.rules.specs.Solo.{k3Steps, soloSteps, SoloWithin}
 use Rattle.rules.specs.Make.{makeOf, inEdition}
 use Rattle.rules.specs.Move.{moveOf}
-use Rattle.rules.specs.Turnaround.{SamePool, OperationsGoOn, Act, call, move, Low, Place, here, placeAfter, placeOver, callsIn, runOver, Unseen, MovesUnseen, RunsOverMoves, Demand3OverMoves, NothingLostOverMoves, SoloOverMoves, K3OverMoves}
+use Rattle.rules.specs.Turnaround.{SamePool, OperationsGoOn, Act, call, move, Low, Place, here, placeAfter, placeOver, callsIn, runOver, Unseen, MovesUnseen, RunsOverMoves}
 use Rattle.rules.proofs.Types.{Settings}
 use Rattle.rules.proofs.Fitness.{fit-pool}
 use Rattle.rules.proofs.words.Made.{accepted, made-says}
-use Rattle.rules.proofs.Theorem.{demand3}
-use Rattle.rules.proofs.Corollaries.{nothing-lost}
-use Rattle.rules.proofs.progress.Theorem.{k3, solo-exact}
 use Rattle.rules.proofs.moves.Stores.{itself, joined}
-use Rattle.rules.proofs.moves.InStep.{call-both, event-both, in-step, same-items}
+use Rattle.rules.proofs.moves.InStep.{call-both, event-both, in-step}
 use Rattle.rules.proofs.moves.Moved.{move-accepted, move-does}
 
 pub operations-go-on : OperationsGoOn
@@ -67,27 +62,3 @@ from-make ws g xs old low made =
 
 pub runs-over-moves : RunsOverMoves
 runs-over-moves P holds ws g xs old low made = subst (P g) (sym (from-make ws g xs old low made .answers)) (holds ws g (callsIn xs) made)
-
-pub demand3-over-moves : Demand3OverMoves
-demand3-over-moves = runs-over-moves (λ g. OneAtATimeWithin (demand3Rows g) g) demand3
-
-pub nothing-lost-over-moves : NothingLostOverMoves
-nothing-lost-over-moves ws g xs old low made p =
-    let f = from-make ws g xs old low made in
-    rw (f .answers, same-items g _ _ _ (f .ends) (accepted ws g made .limits)) (nothing-lost ws g (callsIn xs) made p)
-
--- after the begin it is the pool that never moved, after the same begin
-solo-over-moves : (most : Settings → Operation → ℕ) → SoloWithin most → SoloOverMoves most
-solo-over-moves most within ws g xs old low made i o ys later begun solo =
-    let f = from-make ws g xs old low made in
-    let p = placeOver (here g (makeOf ws g .words)) xs in
-    let vs = wordsAfter (g .edition) (makeOf ws g .words) (callsIn xs) in
-    let b = call-both g (p .edition) vs (p .words) (f .ends) (begin i o) in
-    let run-is = follows g (callOf (g .edition) vs (begin i o) .words) (placeAfter p (call (begin i o))) ys later (b .later) .answers in
-    let steps = f .ends .head stepsAt (omega arith) (λ u. omega arith) in
-    rw run-is (within ws g (callsIn xs) made i o (callsIn ys)
-    (record { accepted = rw (b .answer) at (begun .accepted); enough = rw steps at (begun .enough) })
-    (rw run-is at solo))
-
-pub k3-over-moves : K3OverMoves
-k3-over-moves = (solo-over-moves k3Steps k3, solo-over-moves soloSteps solo-exact)

@@ -34,7 +34,7 @@ use Rattle.rules.proofs.queue.Turn.{queueKind}
 use Rattle.rules.proofs.stack.Inv.{versionsIn}
 use Rattle.rules.proofs.stack.Turn.{stackKind}
 use Rattle.rules.proofs.Transfer.{Whole, Related}
-use Rattle.rules.proofs.Theorem.{kindBy, kindOf}
+use Rattle.rules.proofs.BothKinds.{kindBy, kindOf}
 use Rattle.rules.proofs.moves.Slots.{slotMoved}
 use Rattle.rules.proofs.moves.May.{may-back, leads-apart}
 use Rattle.rules.proofs.moves.Words.{head-word, cell-word, first-kept, second-kept, moved-long, moved-settings, moved-blank, moved-next, moved-set, moved-live, moved-size, moved-none}
@@ -206,7 +206,6 @@ module _ (g : Settings) (limits : settingsFit g ≡ true) (b : ℕ) (ws : List �
   link (no n) same s₀ q₀ i z = rw (same i) (snap-moved g b (versionsIn s₀) q₀ (versionsIn s) (s .slot i .index) (phaseIn g s i) z)
 
 pub move-related : MoveRelated
-unfolding kindOf
 move-related g limits b ws s r area none =
     let w = move-accepted (g .edition) b ws area none in
     let own = r .says .settings in
