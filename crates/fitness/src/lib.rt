@@ -9,3 +9,5 @@ pub use limits::settings_fit;
 pub use limits::size_fit;
 pub use refusals::refusal;
 pub use refusals::source_refusal;
+pub use subs::sub_fit;
+pub use workers::past_window;

@@ -11,7 +11,7 @@ ghost use Prim.Native.Nat.{_+_, _<_, _≤_};
 ghost use lib.ListN.{length};
 ghost use Rattle.laws.specs.Choice.{cond, fourFrom};
 ghost use Rattle.rules.specs.Fit.{queueSubFit, subFit, subsFit, windowsFit};
-ghost use Rattle.rules.specs.Layout.{firstOf, secondOf, needed};
+ghost use Rattle.rules.specs.Layout.{firstOf, secondOf, workersAt, needed};
 ghost use Rattle.rules.specs.Limits.{Bounds};
 ghost use Rattle.rules.specs.Windows.{hasWindows, bottomOf};
 
@@ -27,8 +27,8 @@ fn queue_fit(g: Settings, bottom: u32, put: u32, taken: u32) -> bool
 
 // Whether sub `j` is fit. Each kind reads the words for itself: read before the test, they would have the compiler do both
 // tests at every sub.
-fn sub_fit(words: &[u32], g: Settings, bottom: u32, j: u32) -> bool
-    requires { ⌜ (needed g ≤ length (now words)) × (j < g .width) ⌝ }
+pub fn sub_fit(words: &[u32], g: Settings, bottom: u32, j: u32) -> bool
+    requires { ⌜ (workersAt g ≤ length (now words)) × (j < g .width) ⌝ }
     ensures { λ r. ⌜ r ≡ subFit g bottom (firstOf (now (words .entry)) j) (secondOf (now (words .entry)) j) ⌝ }
 {
     if g.kind == 0 {

@@ -69,7 +69,7 @@ fn phase_fit(kind: u32, x: u32) -> bool
 }
 
 // Whether a worker in phase `x` is past its window phase, and so has seen a window.
-fn past_window(x: u32) -> bool
+pub fn past_window(x: u32) -> bool
     ensures { λ r. ⌜ r ≡ pastWindow x ⌝ }
 {
     match x {

@@ -21,6 +21,7 @@ pub use head::put_shifted;
 pub use head::settings;
 pub use head::shipped_settings;
 pub use head::steps_counted;
+pub use pair::put_pair;
 pub use pairs::put_dropped;
 pub use pairs::put_raised;
 pub use places::BOTTOM;

@@ -1,8 +1,18 @@
 // A move of a pool from one edition to another, from a lent area into another, for all words of both. The source is lent for reading.
+mod may;
+mod windows;
+
+use crate::may::may_move;
+use crate::windows::above;
+use crate::windows::move_windows;
+use fitness::past_window;
 use fitness::source_refusal;
+use image::BOTTOM;
 use image::CELL_WORDS;
 use image::EDITION;
+use image::SEEN_WIDTH;
 use image::in_edition;
+use image::load;
 use image::settings;
 use image::sub_at;
 use image::sub_cells_at;
@@ -11,8 +21,10 @@ use image::worker_at;
 use image::worker_words;
 use rules::Answer;
 use rules::Settings;
+use rules::Slot;
+use rules::numbers::EXCEPTED;
+use rules::numbers::SHIPPED;
 use rules::numbers::TOO_FEW_WORDS;
-use rules::numbers::WINDOWED;
 use rules::numbers::WRONG_EDITION;
 ghost use mathlib.Core.Path.{_≡_};
 ghost use Prim.Native.Nat.{_+_, _<_, _≤_};
@@ -22,7 +34,7 @@ ghost use Rattle.rules.specs.Answers.{out};
 ghost use Rattle.rules.specs.Fit.{FitPool};
 ghost use Rattle.rules.specs.Layout.{workerWords, needed};
 ghost use Rattle.rules.specs.Make.{inEdition};
-ghost use Rattle.rules.specs.Move.{wordIn, workerMoved, workersMoved, headMoved, cellsMoved, movedWords, sourceChecked, fitMove, checkedMove, moveOf, Areas};
+ghost use Rattle.rules.specs.Move.{leads, newWord, wordIn, workerMoved, workersMoved, headMoved, cellsMoved, movedWords, sourceChecked, fitMove, checkedMove, moveOf, Areas};
 
 // Copies `n` words, from the place `at` of the source to the place `start` of the target.
 fn copy(from: &[u32], at: usize, to: &mut [u32], start: usize, n: usize)
@@ -36,15 +48,33 @@ fn copy(from: &[u32], at: usize, to: &mut [u32], start: usize, n: usize)
     }
 }
 
-// Word `k` of worker `i`; one that the edition does not have is 0.
+// A new word `k` of a worker: of the window that a queue's worker has seen, or 0.
+fn new_word(g: Settings, s: Slot, k: usize) -> u32
+    ensures { λ r. ⌜ r ≡ newWord g s k ⌝ }
+{
+    if g.kind == 0 {
+        if past_window(s.number) {
+            if k == BOTTOM {
+                return above(s.window, g.depth);
+            }
+            if k == SEEN_WIDTH {
+                return g.width;
+            }
+        }
+    }
+    0
+}
+
+// Word `k` of worker `i`; one that the edition does not have is new.
 fn word_in(from: &[u32], g: Settings, i: u32, k: usize) -> u32
     requires { ⌜ (needed g ≤ length (now from)) × (i < g .workers) ⌝ }
     ensures { λ r. ⌜ r ≡ wordIn (now (from .entry)) g i k ⌝ }
 {
+    let at = worker_at(g, i);
     if k < worker_words(g.edition) {
-        return from[worker_at(g, i) + k];
+        return from[at + k];
     }
-    0
+    new_word(g, load(from, g, at), k)
 }
 
 // The words of worker `i`.
@@ -97,6 +127,7 @@ fn move_words(from: &[u32], g: Settings, to: &mut [u32], h: Settings)
     move_head(from, g, to, h);
     move_workers(from, g, to, h);
     move_cells(from, g, to, h);
+    move_windows(from, to, h);
 }
 
 // Moves a fit pool to an edition.
@@ -105,11 +136,14 @@ fn fit_move(from: &[u32], g: Settings, to: &mut [u32], edition: u32) -> Answer
     ensures { λ r. ⌜ out r (now (to .exit)) ≡ fitMove (now (from .entry)) g (now (to .entry)) (inEdition edition g) ⌝ }
 {
     let h = in_edition(g, edition);
-    if to.len() < words_needed(h) {
-        return Answer::Refused(TOO_FEW_WORDS);
+    if may_move(from, g, h) {
+        if to.len() < words_needed(h) {
+            return Answer::Refused(TOO_FEW_WORDS);
+        }
+        move_words(from, g, to, h);
+        return Answer::Moving;
     }
-    move_words(from, g, to, h);
-    Answer::Moving
+    Answer::Refused(EXCEPTED)
 }
 
 // Moves a pool that is fit in one edition to another.
@@ -124,15 +158,28 @@ fn checked_move(from: &[u32], old: u32, to: &mut [u32], new: u32) -> Answer
     fit_move(from, g, to, new)
 }
 
-// Moves a pool of one edition to another. No move leads to an edition whose windows have sizes of their own, or back, yet.
+// Whether a move leads from one edition to the other: an edition on, or one back.
+fn leads_on(old: u32, new: u32) -> bool
+    ensures { λ r. ⌜ r ≡ leads old new ⌝ }
+{
+    if SHIPPED < old {
+        return false;
+    }
+    if SHIPPED < new {
+        return false;
+    }
+    if new == old + 1 {
+        return true;
+    }
+    old == new + 1
+}
+
+// Moves a pool of one edition to another. No move leads past an edition.
 pub fn move_pool(from: &[u32], old: u32, to: &mut [u32], new: u32) -> Answer
     ensures { λ r. ⌜ out r (now (to .exit)) ≡ moveOf old new (now (from .entry)) (now (to .entry)) ⌝ }
 {
-    if old >= WINDOWED {
-        return Answer::Refused(WRONG_EDITION);
+    if leads_on(old, new) {
+        return checked_move(from, old, to, new);
     }
-    if new >= WINDOWED {
-        return Answer::Refused(WRONG_EDITION);
-    }
-    checked_move(from, old, to, new)
+    Answer::Refused(WRONG_EDITION)
 }

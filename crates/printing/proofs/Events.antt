@@ -1,37 +1,41 @@
 -- A FILE'S EVENTS, what the quotes of its listing stand on (`known-file`): its calls are a run on its pool, so what holds of every run holds of them.
 -- The first word opens and leaves the words lent, the second makes the pool, and none after it does (`Begun`), since a word's place says which kinds may stand
--- there. So the tally's bound is the pool's from that word on; and what is no call is answered 0, so it has no distance and no item.
-use Prim.Native.Nat.{ℕ, _+_, suc, _≤_}
-use mathlib.Core.List.{List, [], _∷_, append-nil}
-use mathlib.Core.Path.{_≡_, refl, sym, subst, _∙_}
+-- there. So the tally's bound is the pool's from that word on, or that of the greatest size set since; and what is no call is answered 0, so it has no distance and no
+-- item. A take is within the bound by the size of its window, which is the pool's or one that the run has set (`sizes-known`). That holds of each front part of a
+-- file, so a take is within the bound that the tally has just then (`within-fronts`).
+use Prim.Native.Nat.{ℕ, _+_, zero, suc, _≤_, max}
+use mathlib.Core.List.{List, [], _∷_, _++_, append-nil}
+use mathlib.Core.Path.{_≡_, refl, sym, ap, subst, _∙_}
 use mathlib.Core.Bool.{Bool, true, false}
 use mathlib.Core.Logic.{_≢_}
 use mathlib.Core.Option.{Option, none, some}
 use native.Mathlib.Decide.{ℕ-discrete}
 use native.Mathlib.Omega.{arith}
+use borrow.Author.Tests.{eq-eqb, le-leb, leb-true}
+use lib.Dec.{eqb, leb}
 use lib.ListN.{length}
-use Rattle.laws.specs.Choice.{cond, cases}
+use Rattle.laws.specs.Choice.{cond, cases, cond-both, cond-true}
 use Rattle.rules.specs.Answers.{numberOf, Out, badWord}
 use Rattle.rules.specs.Make.{shippedFrom, makeOf, shipped}
 use Rattle.rules.specs.Statement.{All}
 use Rattle.rules.specs.Begin.{slotBegin, fitBegin, checkedBegin, beginOf}
-use Rattle.rules.specs.Consequences.{wordsAfter, itemsIn, hasStamp}
+use Rattle.rules.specs.Consequences.{wordsAfter, itemsIn, hasStamp, SetSizes}
 use Rattle.rules.specs.Fit.{Checked, Unfit, Fit, headChecked, checkedBy, checkedOf}
 use Rattle.rules.specs.Held.{Item, heldItems, heldBy, heldOf, countItems}
 use Rattle.rules.specs.Layout.{workerWords, windowsWords}
-use Rattle.rules.specs.Limits.{windowed, settingsFit}
+use Rattle.rules.specs.Limits.{settingsFit}
 use Rattle.rules.specs.Resize.{fitSetSize, checkedSetSize, setSizeOf}
 use Rattle.rules.specs.Run.{Call, beginPut, beginTake, step, setSize, callOf, Event, run, at, distanceIn}
 use Rattle.rules.specs.Sequential.{boundBy, demand3Rows, mostPassed}
-use Rattle.rules.specs.Windows.{hasWindows}
 use Rattle.rules.specs.declared.Settings.{Settings}
 use Rattle.rules.specs.declared.Size.{Size}
 use Rattle.rules.specs.declared.Answer.{Answer}
 use Rattle.rules.specs.declared.Side.{Side}
 use Rattle.rules.specs.declared.Side.the-variants.{Putting, Taking}
 use Rattle.rules.specs.declared.Answer.the-variants.{Moving, Put, Taken, Empty, Full, Refused}
-use Rattle.rules.proofs.Corollaries.{within-bound, own-sizes, nothing-lost, stamps-once}
-use Rattle.rules.proofs.Theorem.{kindOf}
+use Rattle.rules.proofs.Corollaries.{within-bound, nothing-lost, stamps-once}
+use Rattle.rules.proofs.KnownSizes.{sizes-known}
+use Rattle.rules.proofs.BothKinds.{kindOf}
 use Rattle.rules.proofs.Transfer.{related-fit, made-related, related-after}
 use Rattle.rules.proofs.counts.Held.{count-none, count-all}
 use Rattle.rules.proofs.words.Made.{accepted}
@@ -41,15 +45,15 @@ use Rattle.runfile.specs.declared.word.Read.{Read}
 use Rattle.runfile.specs.declared.word.Read.the-variants.{Word, Cut, End as NoMore}
 use Rattle.runfile.specs.declared.item.Place.the-variants.{First, Second, Later, Past}
 use Rattle.runfile.specs.declared.item.Item.{Item as Saying}
-use Rattle.runfile.specs.declared.item.Item.the-variants.{Open, Make, BeginPut, BeginTake, Step, End, Bad}
+use Rattle.runfile.specs.declared.item.Item.the-variants.{Open, Make, BeginPut, BeginTake, Step, End, SetSize, Bad}
 use Rattle.runfile.specs.declared.item.Place.{Place}
 use Rattle.replay.specs.Replay.{Asked, nothing, making, calling, askedOf, outOf, itemNext, nextOf, Happened, goesOn, nextPlace, replayFrom, replayOf, lent, faultIn, Next}
-use Rattle.replay.specs.Files.{poolIn, withCall, eventsIn, callsIn, wordsIn, RunsOn, RunsOnPool}
+use Rattle.replay.specs.Files.{poolIn, withCall, eventsIn, callsIn, wordsIn, RunsOn, RunsOnPool, FrontOf}
 use Rattle.replay.proofs.Files.{files-are-runs}
-use Rattle.printing.specs.Tally.{noTally, boundIn, boundAfter, tallyAfter}
-use Rattle.printing.specs.Quotes.{tallyOver}
+use Rattle.printing.specs.Tally.{noTally, boundIn, passedIn, boundAfter, tallyAfter}
+use Rattle.printing.specs.Quotes.{tallyOver, withSize, sizesSet, mostIn, boundOf}
 use Rattle.printing.specs.declared.tally.Tally.{Tally}
-use Rattle.replay.proofs.Begins.{Late, AllLate, Makes, Opens, Begun, file-begins}
+use Rattle.replay.proofs.Begins.{Late, AllLate, Makes, Opens, Begun, front-begins}
 
 -- ---- the calls among the events
 -- what is no call is answered 0
@@ -149,28 +153,65 @@ run-close most e ws (c ∷ cs) h =
     (call-close most e ws c (λ i. h i 0), run-close most e (callOf e ws c .words) cs (λ i f. h i (suc f)))
 
 -- ---- the bound
--- no word after the pool's changes it
-bound-late : (bound : ℕ) (item : Saying) (a : Answer) → Late (askedOf item) a → boundAfter bound item ≡ bound
-bound-late bound (Open opening) a h = refl
-bound-late bound (Make g) a h = absurd h
-bound-late bound (BeginPut worker value) a h = refl
-bound-late bound (BeginTake worker) a h = refl
-bound-late bound (Step worker) a h = refl
-bound-late bound End a h = refl
-bound-late bound Bad a h = refl
+most-more : (size : Size) (sizes : List Size) → mostIn (size ∷ sizes) ≡ max (passedIn size) (mostIn sizes)
+unfolding mostIn
+most-more size sizes = refl
 
-late-bound : (t : Tally) (xs : List Happened) → AllLate xs → tallyOver t xs .bound ≡ t .bound
-unfolding tallyOver tallyAfter
-late-bound t [] h = refl
-late-bound t (x ∷ xs) h = late-bound (tallyAfter t (x .event)) xs (h .1) ∙ bound-late (t .bound) (x .event .item) (x .event .answer) (h .0)
+-- after the pool's word it is raised by the sizes that are set
+bound-late : (bound : ℕ) (item : Saying) (a : Answer) (rest : List Size) → Late (askedOf item) a
+    → max (boundAfter bound item (numberOf a)) (mostIn rest) ≡ max bound (mostIn (withSize item a rest))
+bound-late bound (Open opening) a rest h = refl
+bound-late bound (Make g) a rest h = absurd h
+bound-late bound (BeginPut worker value) a rest h = refl
+bound-late bound (BeginTake worker) a rest h = refl
+bound-late bound (Step worker) a rest h = refl
+bound-late bound End a rest h = refl
+bound-late bound (SetSize width depth) a rest h =
+    cond-both (λ (n : ℕ) (sizes : List Size). max n (mostIn rest) ≡ max bound (mostIn sizes)) (eqb (numberOf a) 0) (λ _. omega (arith, most-more (record { width = width; depth = depth }) rest)) (λ _. refl)
+bound-late bound Bad a rest h = refl
 
-late-within : (t : Tally) (xs : List Happened) → AllLate xs → Close (t .bound) xs → Within t xs
-unfolding tallyAfter
-late-within t [] h c = tt
-late-within t (x ∷ xs) h c =
-    let t′ = tallyAfter t (x .event) in
-    let same : t′ .bound ≡ t .bound = bound-late (t .bound) (x .event .item) (x .event .answer) (h .0) in
-    (omega (arith, c .0), late-within t′ xs (h .1) (rw same (c .1)))
+late-bound : (t : Tally) (xs : List Happened) → AllLate xs → tallyOver t xs .bound ≡ max (t .bound) (mostIn (sizesSet xs))
+unfolding tallyOver tallyAfter sizesSet mostIn
+late-bound t [] h = omega arith
+late-bound t (x ∷ xs) h = late-bound (tallyAfter t (x .event)) xs (h .1) ∙ bound-late (t .bound) (x .event .item) (x .event .answer) (sizesSet xs) (h .0)
+
+-- events each within the bound of every front part that they stand in
+within-fronts : (t : Tally) (xs : List Happened) → ((ys zs : List Happened) → xs ≡ ys ++ zs → Close (tallyOver t ys .bound) ys) → Within t xs
+unfolding tallyOver
+within-fronts t [] h = tt
+within-fronts t (x ∷ xs) h =
+    (h (x ∷ []) xs refl .0, within-fronts (tallyAfter t (x .event)) xs (λ ys zs e. h (x ∷ ys) zs (ap (λ (l : List Happened). x ∷ l) e) .1))
+
+-- ---- the sizes that are set
+-- events none of which sets a size whose windows let more than so many pass
+abbrev SetsAtMost : ℕ → List Event → Type 0
+SetsAtMost most es = (f width depth : ℕ) → at es f .call ≡ setSize width depth → numberOf (at es f .answer) ≡ 0 → passedIn (record { width = width; depth = depth }) ≤ most
+
+sets-more : (item : Saying) (a : Answer) (ws : List ℕ) (rest : List Event) (sizes : List Size) → SetsAtMost (mostIn sizes) rest
+    → SetsAtMost (mostIn (withSize item a sizes)) (withCall ws (askedOf item) a rest)
+sets-more (Open opening) a ws rest sizes h f width depth e z = h f width depth e z
+sets-more (Make g) a ws rest sizes h f width depth e z = h f width depth e z
+sets-more (BeginPut worker value) a ws rest sizes h zero width depth e z = let w : _≡_ {A = ℕ} 0 1 = cc in absurd (omega arith)
+sets-more (BeginPut worker value) a ws rest sizes h (suc f) width depth e z = h f width depth e z
+sets-more (BeginTake worker) a ws rest sizes h zero width depth e z = let w : _≡_ {A = ℕ} 0 1 = cc in absurd (omega arith)
+sets-more (BeginTake worker) a ws rest sizes h (suc f) width depth e z = h f width depth e z
+sets-more (Step worker) a ws rest sizes h zero width depth e z = let w : _≡_ {A = ℕ} 0 1 = cc in absurd (omega arith)
+sets-more (Step worker) a ws rest sizes h (suc f) width depth e z = h f width depth e z
+sets-more End a ws rest sizes h f width depth e z = h f width depth e z
+sets-more (SetSize width depth) a ws rest sizes h zero width′ depth′ e z =
+    let same-width : width ≡ width′ = cc in
+    let same-depth : depth ≡ depth′ = cc in
+    rw (eq-eqb (numberOf a) 0 z, cond-true (record { width = width; depth = depth } ∷ sizes) sizes, sym same-width, sym same-depth)
+    (omega (arith, most-more (record { width = width; depth = depth }) sizes))
+sets-more (SetSize width depth) a ws rest sizes h (suc f) width′ depth′ e z =
+    cases (λ (l : List Size). passedIn (record { width = width′; depth = depth′ }) ≤ mostIn l) (eqb (numberOf a) 0) _ _
+    (λ _. omega (arith, most-more (record { width = width; depth = depth }) sizes, h f width′ depth′ e z)) (λ _. h f width′ depth′ e z)
+sets-more Bad a ws rest sizes h f width depth e z = h f width depth e z
+
+sets-all : (ws : List ℕ) (xs : List Happened) → SetsAtMost (mostIn (sizesSet xs)) (eventsIn ws xs)
+unfolding eventsIn sizesSet
+sets-all ws [] f width depth e z = let w : _≡_ {A = ℕ} 0 1 = cc in absurd (omega arith)
+sets-all ws (x ∷ xs) f width depth e z = sets-more (x .event .item) (x .event .answer) ws (eventsIn (x .words) xs) (sizesSet xs) (sets-all (x .words) xs) f width depth e z
 
 -- a file's edition of the settings has their bound
 made-bound : (g : Settings) → settingsFit (shippedFrom g) ≡ true → boundIn g ≡ mostPassed (shippedFrom g)
@@ -186,16 +227,26 @@ fit-after g cs made =
     let k = kindOf g (a .limits) in
     related-fit g (a .limits) k (related-after g (a .limits) k (made-related g (a .limits) k lent a) cs .related)
 
--- where windows have no sizes of their own a take's has the pool's, so that its distance is within the pool's own bound
-within-most : (g : Settings) (cs : List Call) → numberOf (makeOf lent g .answer) ≡ 0 → hasWindows g ≡ false
+-- the bound by a size is the pool's own in a stack
+by-size : (g : Settings) (most : ℕ) (size : Size) → mostPassed g ≤ most → passedIn size ≤ most → boundBy g (demand3Rows g) size ≤ most
+unfolding mostPassed
+by-size g most size own sized =
+    cond-both (λ (m n : ℕ). m ≤ most → n ≤ most) (eqb (g .kind) 0) (λ _ _. sized) (λ _ h. h) own
+
+-- a take's window has the pool's size or one that was set, so its distance is within a number that none of these passes
+within-most : (g : Settings) (cs : List Call) (most : ℕ) → numberOf (makeOf lent g .answer) ≡ 0 → mostPassed g ≤ most
+    → SetsAtMost most (run (g .edition) (makeOf lent g .words) cs)
     → (i f : ℕ) → at (run (g .edition) (makeOf lent g .words) cs) f .call ≡ step i
     → numberOf (at (run (g .edition) (makeOf lent g .words) cs) f .answer) ≡ 2
-    → distanceIn (at (run (g .edition) (makeOf lent g .words) cs) f .answer) ≤ mostPassed g
+    → distanceIn (at (run (g .edition) (makeOf lent g .words) cs) f .answer) ≤ most
 unfolding mostPassed
-within-most g cs made own i f e two =
-    subst (λ (size : Size). distanceIn (at (run (g .edition) (makeOf lent g .words) cs) f .answer) ≤ boundBy g (demand3Rows g) size)
-    (own-sizes lent g cs made i f own e two)
-    (within-bound lent g cs made i f e two)
+within-most g cs most made own sets i f e two =
+    let by : Size → ℕ = λ size. boundBy g (demand3Rows g) size in
+    let size = at (run (g .edition) (makeOf lent g .words) cs) f .measures .size in
+    let set : SetSizes (λ size. leb (by size) most) (run (g .edition) (makeOf lent g .words) cs) =
+    λ f′ width depth e′ z. le-leb _ _ (by-size g most (record { width = width; depth = depth }) own (sets f′ width depth e′ z)) in
+    let known : by size ≤ most = leb-true (by size) most (sizes-known lent g cs made (λ size. leb (by size) most) (le-leb _ _ own) set i f e two) in
+    omega (arith, known, within-bound lent g cs made i f e two)
 
 fit-held : (e : ℕ) (ws : List ℕ) (g : Settings) → checkedOf e ws ≡ Fit g → heldOf e ws ≡ length (heldItems ws g)
 unfolding heldOf heldBy
@@ -211,19 +262,14 @@ pub record Known (xs : List Happened) : Type 0 where
   -- what is no call is answered 0
   pub quiet : AllQuiet xs
   -- distances
-  pub within : Within noTally xs
   pub close : Close (tallyOver noTally xs .bound) xs
-  pub pool : (g : Settings) → poolIn xs ≡ some g → Close (mostPassed g) xs × (tallyOver noTally xs .bound ≡ mostPassed g)
+  pub pool : (g : Settings) → poolIn xs ≡ some g → tallyOver noTally xs .bound ≡ boundOf g xs
   -- items
   pub held : heldOf shipped (wordsIn lent xs) + length (itemsIn 2 (eventsIn lent xs)) ≡ length (itemsIn 1 (eventsIn lent xs))
   pub taken : (p : Item → Bool) → countItems p (itemsIn 2 (eventsIn lent xs)) ≤ countItems p (itemsIn 1 (eventsIn lent xs))
   pub once : (stamp : ℕ) → (countItems (hasStamp stamp) (itemsIn 1 (eventsIn lent xs)) ≤ 1) × (countItems (hasStamp stamp) (itemsIn 2 (eventsIn lent xs)) ≤ 1)
 
 -- without a pool there is no call
-no-distances : (t : Tally) (xs : List Happened) → Close 0 xs → Within t xs
-no-distances t [] c = tt
-no-distances t (x ∷ xs) c = let z = c .0 in (omega arith, no-distances (tallyAfter t (x .event)) xs (c .1))
-
 no-items : (n : ℕ) → itemsIn n [] ≡ []
 unfolding itemsIn
 no-items n = refl
@@ -233,7 +279,6 @@ known-none xs quiet calls pool words =
     let close : (most : ℕ) → Close most xs = λ most. close-all most lent xs quiet (rw calls tt) in
     record {
       quiet = quiet;
-      within = no-distances noTally xs (close 0);
       held = rw (calls, words, no-items 1, no-items 2, none-held) refl;
       taken = λ p. rw (calls, no-items 1, no-items 2) (omega arith);
       once = λ stamp. rw (calls, no-items 1, no-items 2) (omega (arith, count-none (hasStamp stamp)), omega (arith, count-none (hasStamp stamp)));
@@ -257,11 +302,13 @@ module _ (x y : Happened) (xs : List Happened) (opens : Opens x) (makes : Makes 
   whole-quiet : AllQuiet whole
   whole-quiet = (rw (opens .item) (opens .number), (rw (makes .item) (makes .number), late-quiet xs late))
 
-  whole-close : Close (mostPassed g) whole
-  unfolding windowed
+  whole-close : Close (boundOf g whole) whole
   whole-close =
-      close-all (mostPassed g) lent whole whole-quiet
-      (rw (runs .answers) (run-close (mostPassed g) (g .edition) (makeOf lent g .words) (callsIn whole) (within-most g (callsIn whole) (runs .made) refl)))
+      close-all (boundOf g whole) lent whole whole-quiet
+      (rw (runs .answers)
+      (run-close (boundOf g whole) (g .edition) (makeOf lent g .words) (callsIn whole)
+      (within-most g (callsIn whole) (boundOf g whole) (runs .made) (omega arith)
+      (λ f width depth e z. let h = sets-all lent whole f width depth (rw (runs .answers) e) (rw (runs .answers) z) in omega arith))))
 
   abbrev opened : Tally
   opened = tallyAfter (tallyAfter noTally (x .event)) (y .event)
@@ -270,18 +317,14 @@ module _ (x y : Happened) (xs : List Happened) (opens : Opens x) (makes : Makes 
   unfolding tallyAfter
   opened-bound = rw (makes .item) (made-bound (makes .settings) (accepted lent g (runs .made) .limits))
 
-  whole-bound : tallyOver noTally whole .bound ≡ mostPassed g
-  unfolding tallyOver
-  whole-bound = late-bound opened xs late ∙ opened-bound
+  -- the two opening words set no size
+  opened-sizes : sizesSet whole ≡ sizesSet xs
+  unfolding sizesSet
+  opened-sizes = rw (opens .item, makes .item) refl
 
-  whole-within : Within noTally whole
-  whole-within = (
-    omega (arith, no-distance (x .event .answer) (λ u. omega (arith, opens .number))),
-    (
-      omega (arith, no-distance (y .event .answer) (λ u. omega (arith, makes .number))),
-      late-within opened xs late (rw opened-bound (whole-close .1 .1)),
-    ),
-  )
+  whole-bound : tallyOver noTally whole .bound ≡ boundOf g whole
+  unfolding tallyOver
+  whole-bound = late-bound opened xs late ∙ rw (opened-bound, opened-sizes) refl
 
   account : (p : Item → Bool) → countItems p (heldItems (wordsIn lent whole) g) + countItems p (itemsIn 2 (eventsIn lent whole)) ≡ countItems p (itemsIn 1 (eventsIn lent whole))
   account p = rw (runs .answers, runs .words) (nothing-lost lent g (callsIn whole) (runs .made) p)
@@ -292,7 +335,6 @@ module _ (x y : Happened) (xs : List Happened) (opens : Opens x) (makes : Makes 
       fit-held shipped (wordsIn lent whole) g (rw (runs .words) (fit-after g (callsIn whole) (runs .made))) in
       record {
         quiet = whole-quiet;
-        within = whole-within;
         held = omega (
           arith,
           held,
@@ -306,7 +348,7 @@ module _ (x y : Happened) (xs : List Happened) (opens : Opens x) (makes : Makes 
         close = rw whole-bound whole-close;
         pool = λ h e.
             let same : g ≡ h = cc (pool-is x y xs opens makes) in
-            subst (λ (k : Settings). Close (mostPassed k) whole × (tallyOver noTally whole .bound ≡ mostPassed k)) same (whole-close, whole-bound);
+            subst (λ (k : Settings). tallyOver noTally whole .bound ≡ boundOf k whole) same whole-bound;
       }
 
 known : (xs : List Happened) → Begun xs → RunsOnPool (poolIn xs) xs → Known xs
@@ -320,10 +362,15 @@ known (x ∷ y ∷ xs) b r =
     let makes = b .1 .0 in
     known-pool x y xs opens makes (b .1 .1) (subst (λ (p : Option Settings). RunsOnPool p (x ∷ y ∷ xs)) (pool-is x y xs opens makes) r)
 
+known-front : (bytes : List ℕ) (xs : List Happened) → FrontOf bytes xs → Known xs
+known-front bytes xs front = known xs (front-begins bytes xs front) (files-are-runs bytes xs front)
+
 pub known-file : (bytes : List ℕ) → Known (replayOf bytes .events)
-known-file bytes =
-    let xs = replayOf bytes .events in
-    known xs (file-begins bytes) (files-are-runs bytes xs ([], sym (append-nil xs)))
+known-file bytes = let xs = replayOf bytes .events in known-front bytes xs ([], sym (append-nil xs))
+
+-- each event is within the bound that the tally has after it
+pub all-within : (bytes : List ℕ) → Within noTally (replayOf bytes .events)
+all-within bytes = within-fronts noTally (replayOf bytes .events) (λ ys zs e. known-front bytes ys (zs, e) .close)
 
 -- ---- the fault that ends a file: none has a number above that of a bad word
 fault-of : (place : Place) (read : Read) → faultOf place read ≤ badWord
@@ -351,6 +398,7 @@ fault-in ws (BeginPut worker value) = omega arith
 fault-in ws (BeginTake worker) = omega arith
 fault-in ws (Step worker) = omega arith
 fault-in ws End = omega arith
+fault-in ws (SetSize width depth) = omega arith
 fault-in ws Bad = omega arith
 
 pub faults : (place : Place) (position : ℕ) (ws : List ℕ) (reads : List Read) → replayFrom place position ws reads .end .fault ≤ badWord

@@ -12,14 +12,14 @@ use Rattle.rules.specs.Effects.{viewOf, nextOf, hopOf}
 use Rattle.rules.specs.Fit.{subFit, subsFit, phaseFit, seenFit, workerFit, workersFit, windowsFit, bodyChecked, headChecked, checkedBy}
 use Rattle.rules.specs.Held.{bandCount, bandOf, itemsAbove, heldBands, heldSub, heldBelow, countItems, distanceOf, heldBy, heldOf}
 use Rattle.rules.specs.Layout.{workerWords, windowsWords}
-use Rattle.rules.specs.Limits.{windowed, settingsFit}
+use Rattle.rules.specs.Limits.{windowed, settingsFit, sizeFit}
 use Rattle.rules.specs.Make.{zeroed, indexed, madeWords, makeOf}
 use Rattle.rules.specs.Read.{missOf, queuePutRead, queueTakeRead, stackRead}
 use Rattle.rules.specs.Sequential.{mostPassed}
 use Rattle.rules.specs.Shift.{shiftBy, queueShift, stackShift}
 use Rattle.rules.specs.Step.{ruleBy, ruleOf, slotStep, fitStep, checkedStep, stepOf}
 use Rattle.rules.specs.Window.{windowRule}
-use Rattle.rules.specs.Windows.{sizesOf, levelOf}
+use Rattle.rules.specs.Windows.{sizesOf, bottomOf, levelOf}
 use Rattle.rules.specs.Worker.{slotAt, putSlot, seenBy, queuePhase, stackPhase, phaseOf, encodePhase, encode}
 use Rattle.runfile.specs.Items.{firstOf, secondOf, laterOf, itemOf}
 use Rattle.runfile.specs.Words.{readsOf, readAt}
@@ -52,7 +52,7 @@ take-line = Line (itemEntry 9 2 0 7 0 (record { 0 = 1 }) (record { 0 = 1 }) 0)
 -- of the words that are answered 0 nothing is printed
 lines-are : printedOf Listing file
     ≡ Nothing ∷ Nothing ∷ Nothing ∷ Nothing ∷ Nothing ∷ put-line ∷ Nothing ∷ Nothing ∷ Nothing ∷ take-line ∷ Nothing ∷ Closing 0 0 ∷ []
-unfolding stored file queuePutCommit queueTakeCommit seenFit workerFit windowsFit bandCount bandOf heldBands windowsWords windowed sizesOf levelOf seenBy hopOf cond allBelow putItem putSub putLanded putShifted putRaised putDropped countLost putWorker takenOf applyBy applyOf slotBegin fitBegin checkedBegin beginOf checkRule commitBy queueCommit stackCommit confirmedOf confirmBy queueConfirm stackConfirm viewOf nextOf subFit subsFit phaseFit workersFit bodyChecked headChecked checkedBy itemsAbove heldSub heldBelow countItems distanceOf settingsFit zeroed indexed madeWords makeOf missOf queuePutRead queueTakeRead stackRead shiftBy queueShift stackShift ruleBy ruleOf slotStep fitStep checkedStep stepOf windowRule slotAt putSlot queuePhase stackPhase phaseOf encodePhase encode firstOf secondOf laterOf itemOf readsOf readAt mostPassed boundIn tallyAfter heldBy heldOf workerWords callOf outOf itemNext nextEvent replayFrom replayOf answerPrinted listedOf listedEnd eventPrinted endPrinted printFrom printedOf put-line take-line
+unfolding stored file queuePutCommit queueTakeCommit seenFit workerFit windowsFit bandCount bandOf heldBands windowsWords windowed sizeFit sizesOf bottomOf levelOf seenBy hopOf cond allBelow putItem putSub putLanded putShifted putRaised putDropped countLost putWorker takenOf applyBy applyOf slotBegin fitBegin checkedBegin beginOf checkRule commitBy queueCommit stackCommit confirmedOf confirmBy queueConfirm stackConfirm viewOf nextOf subFit subsFit phaseFit workersFit bodyChecked headChecked checkedBy itemsAbove heldSub heldBelow countItems distanceOf settingsFit zeroed indexed madeWords makeOf missOf queuePutRead queueTakeRead stackRead shiftBy queueShift stackShift ruleBy ruleOf slotStep fitStep checkedStep stepOf windowRule slotAt putSlot queuePhase stackPhase phaseOf encodePhase encode firstOf secondOf laterOf itemOf readsOf readAt mostPassed boundIn tallyAfter heldBy heldOf workerWords callOf outOf itemNext nextEvent replayFrom replayOf answerPrinted listedOf listedEnd eventPrinted endPrinted printFrom printedOf put-line take-line
 lines-are = refl
 
 -- "5 1 0 7 0 1 1 0", "9 2 0 7 0 1 1 0", "held 0 worst 0", a newline after each

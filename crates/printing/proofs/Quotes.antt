@@ -1,5 +1,5 @@
 -- WHAT IS QUOTED OF A LISTING holds of every run file.
--- No event is above the tally's bound (`known-file`), so each has its line (`lists-all`). The lines with a number are those of the answers with it
+-- No event is above the tally's bound (`all-within`), so each has its line (`lists-all`). The lines with a number are those of the answers with it
 -- (`one-line`): they have the items of the run's answers (`items-same`), and the tally counts them (`count-over`, `worst-over`). So what is proved
 -- of the items of every run, that none is lost and no stamp is handed out twice, holds of the lines.
 use Prim.Native.Nat.{ℕ, _+_, _≤_, max}
@@ -18,7 +18,6 @@ use Rattle.rules.specs.Statement.{All}
 use Rattle.rules.specs.Consequences.{itemsIn}
 use Rattle.rules.specs.Held.{Item, heldOf}
 use Rattle.rules.specs.Run.{Event, valueIn, stampIn, distanceIn}
-use Rattle.rules.specs.Sequential.{mostPassed}
 use Rattle.rules.specs.declared.Answer.{Answer}
 use Rattle.rules.specs.declared.Answer.the-variants.{Moving, Put, Taken, Empty, Full, Refused}
 use Rattle.runfile.specs.Words.{readsOf}
@@ -35,7 +34,7 @@ use Rattle.printing.specs.declared.tally.Tally.{Tally}
 use Rattle.printing.specs.declared.printed.Mode.the-variants.{Listing, Summing}
 use Rattle.printing.specs.declared.printed.Printed.{Printed}
 use Rattle.printing.specs.declared.printed.Printed.the-variants.{Nothing, Closing}
-use Rattle.printing.proofs.Events.{Quiet, AllQuiet, no-distance, Close, Within, known-file, faults}
+use Rattle.printing.proofs.Events.{Quiet, AllQuiet, no-distance, Close, Within, known-file, all-within, faults}
 
 -- ---- the line of an answer
 abbrev entryOf : ℕ → ℕ → Answer → Entry
@@ -185,7 +184,7 @@ items-same n ws (x ∷ xs) l h =
 -- ---- the theorems
 pub lists-all : ListsAll
 unfolding printedOf
-lists-all bytes = let r = replayOf bytes in lists-from noTally (r .events) (r .end) (known-file bytes .within)
+lists-all bytes = let r = replayOf bytes in lists-from noTally (r .events) (r .end) (all-within bytes)
 
 -- the listing's lines are its events'
 lines-are : (among : ℕ → Bool) (bytes : List ℕ) → listedIf among bytes ≡ linesOf among (replayOf bytes .events)
@@ -195,7 +194,9 @@ items-are : (n : ℕ) (bytes : List ℕ) → 1 ≤ n → itemsListed n bytes ≡
 items-are n bytes l = rw (lines-are (only n) bytes) (items-same n lent (replayOf bytes .events) l (known-file bytes .quiet))
 
 pub distances-within : DistancesWithin
-distances-within bytes g e = rw (lines-are (only 2) bytes) (lines-close (mostPassed g) (replayOf bytes .events) (known-file bytes .pool g e .0))
+distances-within bytes g e =
+    let k = known-file bytes in
+    rw (lines-are (only 2) bytes, sym (k .pool g e)) (lines-close _ (replayOf bytes .events) (k .close))
 
 pub takes-are-puts : TakesArePuts
 takes-are-puts bytes =
@@ -272,6 +273,6 @@ summary-counts bytes =
         held = omega (arith, adds-up bytes);
         worst = worst-is bytes;
         within = rw (worst-is bytes, lines-are (only 2) bytes) (close-greatest _ (r .events) (k .close));
-        bound = λ g e. k .pool g e .1;
+        bound = λ g e. k .pool g e;
       },
     )

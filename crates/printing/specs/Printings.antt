@@ -15,7 +15,7 @@ use Rattle.rules.specs.declared.Stamp.{Stamp}
 use Rattle.rules.specs.declared.Answer.{Answer}
 use Rattle.rules.specs.declared.Answer.the-variants.{Moving, Put, Taken, Empty, Full, Refused}
 use Rattle.runfile.specs.declared.item.Item.{Item}
-use Rattle.runfile.specs.declared.item.Item.the-variants.{Open, Make, BeginPut, BeginTake, Step, End, Bad}
+use Rattle.runfile.specs.declared.item.Item.the-variants.{Open, Make, BeginPut, BeginTake, Step, End, SetSize, Bad}
 use Rattle.replay.specs.Replay.{Event}
 use Rattle.lines.specs.Lines.{lineOf, numbersOf, closingOf}
 use Rattle.lines.specs.Summary.{summaryText}
@@ -28,6 +28,7 @@ use Rattle.printing.specs.declared.printed.Printed.{Printed}
 use Rattle.printing.specs.declared.printed.Printed.the-variants.{Nothing, Line, Last, Closing, Totals}
 
 -- ---- the lister: "for each answer 1 to 4 and each refusal it prints word position, number, worker, value, sub, row, stamp, distance"
+-- a size word names no worker: it is "refused and listed with worker 0"
 abbrev pub workerIn : Item → ℕ
 workerIn (Open opening) = 0
 workerIn (Make g) = 0
@@ -35,6 +36,7 @@ workerIn (BeginPut worker value) = worker
 workerIn (BeginTake worker) = worker
 workerIn (Step worker) = worker
 workerIn End = 0
+workerIn (SetSize width depth) = 0
 workerIn Bad = 0
 
 -- the entry of an item that was put or taken

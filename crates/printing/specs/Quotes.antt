@@ -8,17 +8,21 @@ use mathlib.Core.Path.{_≡_}
 use lib.Dec.{eqb, ltb}
 use lib.ListN.{length}
 use Rattle.laws.specs.Choice.{cond}
-use Rattle.rules.specs.Answers.{overBound}
+use Rattle.rules.specs.Answers.{numberOf, overBound}
 use Rattle.rules.specs.Consequences.{hasStamp}
 use Rattle.rules.specs.Held.{Item, countItems}
 use Rattle.rules.specs.Sequential.{mostPassed}
 use Rattle.rules.specs.Statement.{All}
 use Rattle.rules.specs.declared.Settings.{Settings}
+use Rattle.rules.specs.declared.Size.{Size}
+use Rattle.rules.specs.declared.Answer.{Answer}
+use Rattle.runfile.specs.declared.item.Item.{Item as Saying}
+use Rattle.runfile.specs.declared.item.Item.the-variants.{Open, Make, BeginPut, BeginTake, Step, End, SetSize, Bad}
 use Rattle.replay.specs.Files.{poolIn}
 use Rattle.replay.specs.Replay.{Happened, replayOf}
 use Rattle.lines.specs.declared.line.Entry.{Entry}
 use Rattle.lines.specs.declared.summary.Summary.{Summary}
-use Rattle.printing.specs.Tally.{noTally, tallyAfter}
+use Rattle.printing.specs.Tally.{noTally, passedIn, tallyAfter}
 use Rattle.printing.specs.Printings.{workerIn, answerPrinted, endPrinted}
 use Rattle.printing.specs.Print.{printedOf}
 use Rattle.printing.specs.declared.tally.Tally.{Tally}
@@ -96,10 +100,35 @@ NotOver x = (e : Entry) → x ≡ Last e → e .number ≢ overBound
 abbrev pub NeverOver : Type 0
 NeverOver = (bytes : List ℕ) → All NotOver (printedOf Listing bytes)
 
--- ---- "each distance listed is within the bound" of the file's pool
+-- ---- "each distance listed is within the bound": of the file's pool, or of a size that the file has set, whichever is the greatest
+-- the sizes that were set: those of its size words that were not refused
+abbrev pub withSize : Saying → Answer → List Size → List Size
+withSize (Open opening) a rest = rest
+withSize (Make g) a rest = rest
+withSize (BeginPut worker value) a rest = rest
+withSize (BeginTake worker) a rest = rest
+withSize (Step worker) a rest = rest
+withSize End a rest = rest
+withSize (SetSize width depth) a rest = cond (eqb (numberOf a) 0) (record { width = width; depth = depth } ∷ rest) rest
+withSize Bad a rest = rest
+
+unfoldable pub sizesSet : List Happened → List Size
+sizesSet [] = []
+sizesSet (x ∷ xs) = withSize (x .event .item) (x .event .answer) (sizesSet xs)
+
+-- the most that a take from a window of one of some sizes may pass over; 0 of none
+unfoldable pub mostIn : List Size → ℕ
+mostIn [] = 0
+mostIn (size ∷ sizes) = max (passedIn size) (mostIn sizes)
+
+-- the bound of some events on a pool
+abbrev pub boundOf : Settings → List Happened → ℕ
+boundOf g xs = max (mostPassed g) (mostIn (sizesSet xs))
+
 abbrev pub DistancesWithin : Type 0
 DistancesWithin =
-    (bytes : List ℕ) (g : Settings) → poolIn (replayOf bytes .events) ≡ some g → All (λ (e : Entry). e .distance ≤ mostPassed g) (listed 2 bytes)
+    (bytes : List ℕ) (g : Settings) → poolIn (replayOf bytes .events) ≡ some g
+    → All (λ (e : Entry). e .distance ≤ boundOf g (replayOf bytes .events)) (listed 2 bytes)
 
 -- ---- "a listing's takes are distinct stamps of its puts"
 pub record TakesOfPuts (bytes : List ℕ) : Type 0 where
@@ -128,7 +157,7 @@ pub record Counts (bytes : List ℕ) (s : Summary) : Type 0 where
   pub held : s .held + s .takes ≡ s .puts
   pub worst : s .worst ≡ greatest (listed 2 bytes)
   pub within : s .worst ≤ s .bound
-  pub bound : (g : Settings) → poolIn (replayOf bytes .events) ≡ some g → s .bound ≡ mostPassed g
+  pub bound : (g : Settings) → poolIn (replayOf bytes .events) ≡ some g → s .bound ≡ boundOf g (replayOf bytes .events)
 
 abbrev pub SummaryCounts : Type 0
 SummaryCounts = (bytes : List ℕ) → (s : Summary) × (lastOf (printedOf Summing bytes) ≡ Totals s) × Counts bytes s

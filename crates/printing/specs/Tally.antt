@@ -1,5 +1,5 @@
 -- What is counted over the events of a file: operations finished by kind, calls refused, the greatest distance, and the bound on one.
-use Prim.Native.Nat.{ℕ, _+_, _%_, _^_, max}
+use Prim.Native.Nat.{ℕ, _+_, _-_, _*_, _%_, _^_, max}
 use mathlib.Core.Bool.{Bool}
 use lib.Dec.{eqb, ltb}
 use Rattle.laws.specs.Choice.{cond}
@@ -9,9 +9,10 @@ use Rattle.rules.specs.Make.{shippedFrom}
 use Rattle.rules.specs.Run.{distanceIn}
 use Rattle.rules.specs.Sequential.{mostPassed}
 use Rattle.rules.specs.declared.Settings.{Settings}
+use Rattle.rules.specs.declared.Size.{Size}
 use Rattle.rules.specs.declared.Answer.{Answer}
 use Rattle.runfile.specs.declared.item.Item.{Item}
-use Rattle.runfile.specs.declared.item.Item.the-variants.{Open, Make, BeginPut, BeginTake, Step, End, Bad}
+use Rattle.runfile.specs.declared.item.Item.the-variants.{Open, Make, BeginPut, BeginTake, Step, End, SetSize, Bad}
 use Rattle.replay.specs.Replay.{Event}
 use Rattle.printing.specs.declared.tally.Tally.{Tally}
 
@@ -26,15 +27,21 @@ withBound t bound = record { puts = t .puts; takes = t .takes; empties = t .empt
 unfoldable pub boundIn : Settings → ℕ
 boundIn g = cond (settingsFit (shippedFrom g)) (mostPassed (shippedFrom g)) 0
 
--- from the word that makes the pool on
-abbrev pub boundAfter : ℕ → Item → ℕ
-boundAfter bound (Open opening) = bound
-boundAfter bound (Make g) = boundIn g
-boundAfter bound (BeginPut worker value) = bound
-boundAfter bound (BeginTake worker) = bound
-boundAfter bound (Step worker) = bound
-boundAfter bound End = bound
-boundAfter bound Bad = bound
+-- "at most (width - 1) × depth older items", of a window of a size
+abbrev pub passedIn : Size → ℕ
+passedIn size = (size .width - 1) * size .depth
+
+-- the bound after a word that has an answer of this number: from the word that makes the pool on it is the pool's, and a size that is set may raise it,
+-- since from then on a take's window may have that size
+abbrev pub boundAfter : ℕ → Item → ℕ → ℕ
+boundAfter bound (Open opening) n = bound
+boundAfter bound (Make g) n = boundIn g
+boundAfter bound (BeginPut worker value) n = bound
+boundAfter bound (BeginTake worker) n = bound
+boundAfter bound (Step worker) n = bound
+boundAfter bound End n = bound
+boundAfter bound (SetSize width depth) n = cond (eqb n 0) (max bound (passedIn (record { width = width; depth = depth }))) bound
+boundAfter bound Bad n = bound
 
 -- 1 put, 2 taken, 3 empty, 4 full; above these are the refusals
 abbrev pub isRefused : Answer → Bool
@@ -51,7 +58,7 @@ tallyBy on t e =
       fulls = on (t .fulls) (eqb n 4);
       refused = on (t .refused) (isRefused (e .answer));
       worst = max (t .worst) (distanceIn (e .answer));
-      bound = boundAfter (t .bound) (e .item);
+      bound = boundAfter (t .bound) (e .item) n;
     }
 
 abbrev pub countOn : ℕ → Bool → ℕ

@@ -60,6 +60,7 @@ fn worker_in(said: Said) -> u8
         Said::BeginTake { worker } => worker,
         Said::Step { worker } => worker,
         Said::End => 0,
+        Said::SetSize { width: _, depth: _ } => 0,
     }
 }
 

@@ -2,6 +2,7 @@
 use fitness::settings_fit;
 use image::in_edition;
 use replay::Done;
+use replay::Said;
 use rules::Answer;
 use rules::Settings;
 use rules::numbers::SHIPPED;
@@ -11,8 +12,8 @@ ghost use Prim.Native.Nat.{max};
 ghost use Rattle.rules.specs.Limits.{Bounds};
 ghost use Rattle.rules.specs.Run.{distanceIn};
 ghost use Rattle.rules.specs.Sequential.{mostPassed};
-ghost use Rattle.replay.specs.Told.{eventDone};
-ghost use Rattle.printing.specs.Tally.{noTally, boundIn, wrapOn, tallied};
+ghost use Rattle.replay.specs.Told.{itemSaid, eventDone};
+ghost use Rattle.printing.specs.Tally.{noTally, boundIn, passedIn, boundAfter, wrapOn, tallied};
 
 // How many operations were put, taken, empty and full, how many calls were refused, the greatest distance, and the bound on one.
 pub struct Tally {
@@ -94,6 +95,37 @@ fn greater(a: u32, b: u32) -> u32
     if a < b { b } else { a }
 }
 
+// What a take from a window of a size may pass over.
+fn passed_in(width: u8, depth: u8) -> u32
+    ensures { λ r. ⌜ r ≡ passedIn (record { width = width; depth = depth }) ⌝ }
+{
+    if width < 1 {
+        return 0;
+    }
+    (width as u32 - 1) * (depth as u32)
+}
+
+// The bound after a word that is neither of the first two, and whose answer has this number: a size that is set may raise it.
+fn bound_after(bound: u32, said: Said, n: u32) -> u32
+    ensures { λ r. ⌜ r ≡ boundAfter bound (itemSaid said) n ⌝ }
+{
+    match said {
+        Said::BeginPut {
+            worker: _,
+            value: _,
+        } => bound,
+        Said::BeginTake { worker: _ } => bound,
+        Said::Step { worker: _ } => bound,
+        Said::End => bound,
+        Said::SetSize { width, depth } => {
+            if n == 0 {
+                return greater(bound, passed_in(width, depth));
+            }
+            bound
+        }
+    }
+}
+
 // Counts on where something is so.
 fn on(x: u64, so: bool) -> u64
     ensures { λ r. ⌜ r ≡ wrapOn x so ⌝ }
@@ -108,6 +140,7 @@ fn on(x: u64, so: bool) -> u64
 pub fn count(t: Tally, d: Done) -> Tally
     ensures { λ r. ⌜ r ≡ tallied t (eventDone d) ⌝ }
 {
+    let said = d.said;
     let a = d.answer;
     let n = number(a);
     let distance = distance_in(a);
@@ -118,6 +151,6 @@ pub fn count(t: Tally, d: Done) -> Tally
         fulls: on(t.fulls, n == 4),
         refused: on(t.refused, 4 < n),
         worst: greater(t.worst, distance),
-        bound: t.bound,
+        bound: bound_after(t.bound, said, n),
     }
 }

@@ -48,7 +48,7 @@ use Rattle.rules.proofs.words.Writes.{slot-off, raised-below, dropped-b
 use Rattle.rules.proofs.words.Fit.{checked-fit}
 use Rattle.rules.proofs.words.Stores.{view-same}
 use Rattle.rules.proofs.Transfer.{Related, related-fit, next-related, made-related}
-use Rattle.rules.proofs.Theorem.{kindOf}
+use Rattle.rules.proofs.BothKinds.{kindOf}
 use Rattle.rules.proofs.words.Made.{accepted, made-card}
 
 pub cards-from-one : CardsFromOne

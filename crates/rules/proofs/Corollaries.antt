@@ -3,7 +3,7 @@ use Prim.Native.Nat.{ℕ}
 use mathlib.Core.List.{List}
 use mathlib.Core.Path.{_∙_}
 use native.Mathlib.Omega.{arith}
-use Rattle.rules.specs.Full.{FullMeans}
+use Rattle.rules.specs.Full.{FullMeans, UnsetPlaces}
 use Rattle.rules.specs.Make.{makeOf}
 use Rattle.rules.specs.Held.{passedOf, distanceOf}
 use Rattle.rules.specs.Sequential.{demand3Rows}
@@ -17,9 +17,10 @@ use Rattle.rules.proofs.Fitness.{settings-bounds}
 use Rattle.rules.proofs.Spacers.{without-spacers}
 use Rattle.rules.proofs.figures.Figures.{bound-le, exact-most}
 use Rattle.rules.proofs.Transfer.{made-related, made-no-spacers}
-use Rattle.rules.proofs.Runs.{accounted, takes-within-after, no-spacers-after, stamped-once, sizes-at, places-at, safe-after, fine-at, full-after}
+use Rattle.rules.proofs.Runs.{accounted, takes-within-after, no-spacers-after, stamped-once, sizes-at, places-at, safe-after, fine-at, full-after, unset-after}
 use Rattle.rules.proofs.order.Orders.{bounded, in-real-time}
-use Rattle.rules.proofs.Theorem.{kindOf, exact, demand3}
+use Rattle.rules.proofs.BothKinds.{kindOf}
+use Rattle.rules.proofs.Theorem.{exact, demand3}
 use Rattle.rules.proofs.words.Made.{accepted}
 
 -- no item is lost or invented
@@ -54,6 +55,12 @@ pub full-means : OfEveryRun FullMeans
 full-means ws g cs made =
     let a = accepted ws g made in
     full-after g (a .limits) (kindOf g (a .limits)) (made-related g (a .limits) (kindOf g (a .limits)) ws a) cs
+
+-- and how many places these are where no size was set
+pub unset-places : OfEveryRun UnsetPlaces
+unset-places ws g cs made =
+    let a = accepted ws g made in
+    unset-after g (a .limits) (kindOf g (a .limits)) (made-related g (a .limits) (kindOf g (a .limits)) ws a) cs
 
 -- and "full" has demand 3's number of places
 pub own-places : OfEveryRun OwnPlaces

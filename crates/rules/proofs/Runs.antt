@@ -9,11 +9,12 @@ use native.Mathlib.Decide.{ℕ-discrete}
 use native.Mathlib.Omega.{arith}
 use lib.Dec.{leb, eqb}
 use borrow.Author.Tests.{leb-true, leb-false, eqb-true}
-use Rattle.rules.specs.Full.{PlacesHeld, FullMeans}
+use lib.ListN.{getD}
+use Rattle.rules.specs.Full.{PlacesHeld, FullMeans, unsetPlaces, UnsetPlaces}
 use Rattle.rules.proofs.machine.Slots.{has-queue}
 use Rattle.rules.specs.Worker.{slotAt}
 use Rattle.rules.specs.Windows.{sizeOf, hasWindows, nthSize, bottomOf}
-use Rattle.rules.specs.Layout.{settingsOf, workerAt, secondOf}
+use Rattle.rules.specs.Layout.{settingsOf, setAt, workerAt, secondOf}
 use Rattle.rules.specs.Measures.{measured, seenSize, placesOf, measuresOf}
 use Rattle.laws.specs.Choice.{cond, cases, both}
 use Rattle.rules.specs.Answers.{numberOf, tooFewWords, notFit}
@@ -68,20 +69,32 @@ module _ (g : Settings) (limits : settingsFit g ≡ true) (k : Kind g) where
       λ j l. held-order g _ (s .first j) (s .second j) (k .counts s (r .list) (r .whole .inv) .sub j l) in
       held-same g ws s (r .says) (k .counts s (r .list) (r .whole .inv)) p ∙ sym (held-count (k .holding s (r .list) (r .whole .inv) .held) order p)
 
+  -- one call more: with so many held in the end
+  pub one-accounted : {ws : List ℕ} {s : State} (r : Rel ws s) (c : Call) (es : List Event) (held : ℕ) (p : Item → Bool)
+      → held + countItems p (itemsIn 2 es) ≡ countItems p (next-related g limits k r c .related .list .items) + countItems p (itemsIn 1 es)
+      → held + countItems p (itemsIn 2 (eventOf ws c (callOf (g .edition) ws c .answer) ∷ es))
+      ≡ countItems p (r .list .items) + countItems p (itemsIn 1 (eventOf ws c (callOf (g .edition) ws c .answer) ∷ es))
+  unfolding itemsIn
+  one-accounted {ws} r c es held p rest =
+      omega (
+        arith,
+        next-related g limits k r c .changed .counts p,
+        count-append p (itemIn 1 (callOf (g .edition) ws c .answer)) (itemsIn 1 es),
+        count-append p (itemIn 2 (callOf (g .edition) ws c .answer)) (itemsIn 2 es),
+      )
+
+  -- and none
+  pub none-accounted : {ws : List ℕ} {s : State} (r : Rel ws s) (p : Item → Bool)
+      → countItems p (heldItems ws g) + countItems p (itemsIn 2 []) ≡ countItems p (r .list .items) + countItems p (itemsIn 1 [])
+  unfolding itemsIn
+  none-accounted r p = omega (arith, held-listed r p, count-none p)
+
   pub accounted : {ws : List ℕ} {s : State} (r : Rel ws s) (cs : List Call) (p : Item → Bool)
       → countItems p (heldItems (wordsAfter (g .edition) ws cs) g) + countItems p (itemsIn 2 (run (g .edition) ws cs))
       ≡ countItems p (r .list .items) + countItems p (itemsIn 1 (run (g .edition) ws cs))
-  unfolding wordsAfter run itemsIn
-  accounted r [] p = omega (arith, held-listed r p, count-none p)
-  accounted {ws} r (c ∷ cs) p =
-      let n = next-related g limits k r c in
-      omega (
-        arith,
-        accounted (n .related) cs p,
-        n .changed .counts p,
-        count-append p (itemIn 1 (callOf (g .edition) ws c .answer)) (itemsIn 1 (run (g .edition) (callOf (g .edition) ws c .words) cs)),
-        count-append p (itemIn 2 (callOf (g .edition) ws c .answer)) (itemsIn 2 (run (g .edition) (callOf (g .edition) ws c .words) cs)),
-      )
+  unfolding wordsAfter run
+  accounted r [] p = none-accounted r p
+  accounted r (c ∷ cs) p = one-accounted r c _ _ p (accounted (next-related g limits k r c .related) cs p)
 
   -- ---- both counts of a take are those of the pool just before
   taken-within : {ws : List ℕ} {s : State} (r : Rel ws s) (i : ℕ) → numberOf (callOf (g .edition) ws (step i) .answer) ≡ 2
@@ -184,6 +197,19 @@ module _ (g : Settings) (limits : settingsFit g ≡ true) (k : Kind g) where
       }) in
       let taken : rowsBelow g (secondOf ws j) ≡ s .second j = queue-below g (has-queue g has) (secondOf ws j) ∙ r .says .second j lj in
       record { above = rw taken (p .0); up-to = rw (r .says .first j lj) (p .1); window = λ has. h }
+
+  -- how many there are, where no size was set
+  unset-places-at : {ws : List ℕ} {s : State} (r : Rel ws s) (i : ℕ) → hasWindows g ≡ true → getD ws (setAt g) 0 ≡ 0 → numberOf (callOf (g .edition) ws (step i) .answer) ≡ 4
+      → placesOf ws g ≡ unsetPlaces g
+  unfolding callOf nextIn
+  unset-places-at {ws} {s} r i has unset four =
+      let counts = k .counts s (r .list) (r .whole .inv) in
+      let four′ : numberOf (stepIn g s i .answer) ≡ 4 = ap numberOf (sym (next-related g limits k r (step i) .answer)) ∙ four in
+      let p = full-here s (r .list) (r .whole .common) (r .whole .inv) i four′ in
+      places-said g s ws (r .says) (λ has. counts .windows has .fits) ∙ p .unset has (sym (r .says .windows has .set) ∙ unset)
+
+  pub unset-after : {ws : List ℕ} {s : State} → Rel ws s → (cs : List Call) → UnsetPlaces g ws cs
+  unset-after r cs i has unset four = unset-places-at (related-after g limits k r cs .related) i has unset four
 
   pub full-after : {ws : List ℕ} {s : State} → Rel ws s → (cs : List Call) → FullMeans g ws cs
   full-after r cs i has four = places-held-at (related-after g limits k r cs .related) i has four

@@ -1,5 +1,5 @@
--- From a kind's law of one step to demand 3 over the words: the machine's run has its order (Order), and the run over the
--- words has the same events, since the words follow the machine from make on.
+-- From a kind's law of one step to the words: every call keeps the machine's invariant, with the specification's list, and the words follow the machine
+-- from make on. So the run over the words is one of the machine's, which has its order (Course).
 use mathlib.Core.Path.{_≡_, refl, sym, ap, _∙_, subst}
 use mathlib.Core.Bool.{true}
 use mathlib.Core.List.{List, [], _∷_}
@@ -12,15 +12,13 @@ use Rattle.rules.specs.Fit.{Fit, checkedOf}
 use Rattle.rules.specs.Make.{makeOf}
 use Rattle.rules.specs.Measures.{Measures}
 use Rattle.rules.specs.Sequential.{Contents, noItems, boundBy}
-use Rattle.rules.specs.Run.{Call, callOf, measuresAt, run}
+use Rattle.rules.specs.Run.{Call, callOf, measuresAt}
 use Rattle.rules.specs.Consequences.{wordsAfter}
 use Rattle.rules.specs.Newer.{exactRows}
 use Rattle.rules.specs.Spacers.{NoSpacer}
-use Rattle.rules.proofs.order.Closest.{OneAtATime}
 use Rattle.rules.proofs.Types.{Settings, Answer}
 use Rattle.rules.proofs.counts.Held.{count-none}
-use Rattle.rules.proofs.order.Law.{Next, events, Status, idle, pending, tried, AllSame, refused, passes, opened, walks, tries, stays, loses, ends, wins, Others}
-use Rattle.rules.proofs.order.Order.{one-at-a-time}
+use Rattle.rules.proofs.order.Law.{Next, Status, idle, pending, tried, AllSame, refused, passes, opened, walks, tries, stays, loses, ends, wins, Others}
 use Rattle.rules.proofs.order.NoSpacers.{NoSpacerUnderWay, NoSpacers as NoSpacersOf, no-spacers-next, begun-no-spacer, no-spacer-joins}
 use Rattle.rules.proofs.Fitness.{settings-bounds}
 use Rattle.rules.proofs.machine.Machine.{State, nextIn, madeIn}
@@ -68,7 +66,7 @@ module _ (g : Settings) (limits : settingsFit g ≡ true) (k : Kind g) where
   with-common m (ends i op u n a b w q′ give h) = ends i op u n a b (rest w) q′ give (whole m h)
   with-common m (wins i op u n l a b w h z) = wins i op u n l a b (rest w) (whole m h) z
 
-  whole-turn : (s : State) (q : Contents) → Whole s q → (c : Call) → After s q c (nextIn g s c)
+  pub whole-turn : (s : State) (q : Contents) → Whole s q → (c : Call) → After s q c (nextIn g s c)
   whole-turn s q h c =
       with-common (common-next g (settings-bounds g limits) s (h .common) (sized-in g s (λ has. k .counts s q (h .inv) .windows has .fits)) c) (turn g k s q (h .common) (h .inv) c)
 
@@ -133,15 +131,12 @@ module _ (g : Settings) (limits : settingsFit g ≡ true) (k : Kind g) where
   pub made-whole : Whole (madeIn g) noItems
   made-whole = record { common = common-made g width1; inv = k .at-first }
 
-  made-idle : (i : ℕ) → statusIn g (madeIn g) i ≡ idle
+  pub made-idle : (i : ℕ) → statusIn g (madeIn g) i ≡ idle
   unfolding madeIn
   made-idle i = ap (statusOf 0) (idle-phase g _ refl)
 
   pub made-no-spacers : NoSpacers (madeIn g) noItems
   made-no-spacers = record { listed = count-none isSpacer; under-way = λ i. rw (made-idle i) tt }
-
-  machine-order : (cs : List Call) → OneAtATime g (events (nextIn g) (madeIn g) cs)
-  machine-order cs = one-at-a-time g (nextIn g) (statusIn g) Whole (k .Snap) whole-turn (madeIn g) made-whole made-idle cs
 
   -- ---- the words
   pub record Related (ws : List ℕ) (s : State) : Type 0 where
@@ -179,14 +174,6 @@ module _ (g : Settings) (limits : settingsFit g ≡ true) (k : Kind g) where
         no-spacers = n .no-spacers;
       }
 
-  pub events-same : {ws : List ℕ} {s : State} → Related ws s → (cs : List Call) → run (g .edition) ws cs ≡ events (nextIn g) s cs
-  unfolding run events
-  events-same r [] = refl
-  events-same r (c ∷ cs) =
-      let n = next-related r c in
-      let rest = events-same (n .related) cs in
-      λ u. record { call = c; answer = n .answer u; measures = n .measures u } ∷ rest u
-
   -- the words after a list of calls
   pub record After-calls (ws : List ℕ) : Type 0 where
     pub state : State
@@ -200,6 +187,3 @@ module _ (g : Settings) (limits : settingsFit g ≡ true) (k : Kind g) where
   unfoldable pub made-related : (ws : List ℕ) → Accepted ws g → Related (makeOf ws g .words) (madeIn g)
   made-related ws a =
       record { says = rw (a .words) (made-says ws g (a .enough)); list = noItems; whole = made-whole }
-
-  pub words-order : (ws : List ℕ) → Accepted ws g → (cs : List Call) → OneAtATime g (run (g .edition) (makeOf ws g .words) cs)
-  words-order ws a cs = rw (events-same (made-related ws a) cs) (machine-order cs)

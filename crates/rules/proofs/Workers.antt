@@ -10,8 +10,8 @@ use native.Mathlib.Decide.{ℕ-discrete, decLt}
 use native.Mathlib.Omega.{arith}
 use lib.ListN.{length}
 use borrow.Author.Tests.{leb-true, leb-false}
-use Rattle.rules.specs.Layout.{headWords, subWords, workerWords, slotWords, lostWord, widthWord, windowsWords, workerAt, lostAt, cellsAt, needed, Lent}
-use Rattle.rules.specs.Limits.{widest, mostWorkers, windowed, Bounds}
+use Rattle.rules.specs.Layout.{headWords, subWords, workerWords, slotWords, lostWord, widthWord, windowsWords, workerAt, lostAt, cellsAt, pairAt, needed, Lent}
+use Rattle.rules.specs.Limits.{widest, mostWorkers, mostLive, windowed, Bounds}
 use Rattle.rules.specs.declared.Settings.{Settings}
 
 -- ---- one worker's
@@ -80,6 +80,10 @@ windowed-is g e = leb-true _ _ e
 pub windowed-not : (g : Settings) → windowed g ≡ false → g .edition < 2
 unfolding windowed
 windowed-not g e = leb-false _ _ e
+
+-- the pairs of all windows are among the needed words
+pub pairs-within : (g : Settings) (n : ℕ) → windowed g ≡ true → needed g ≤ n → pairAt g mostLive ≤ n
+pairs-within g n w l = omega (arith, windows-some (g .edition) (windowed-is g w))
 
 -- ---- the words that the rules read: a worker's but its failed commits
 pub record Read (e k : ℕ) : Type 0 where

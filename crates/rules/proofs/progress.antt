@@ -14,6 +14,7 @@ pub mod StackLeft
 pub mod StackPass
 pub mod StackShift
 pub mod Law
+pub mod Moved
 pub mod Solo
 pub mod Forms
 pub mod Theorem

@@ -56,6 +56,10 @@ wrongEdition = 31
 abbrev pub offSize : ℕ
 offSize = 32
 
+-- a move: "any other move back, or an excepted move on"
+abbrev pub excepted : ℕ
+excepted = 33
+
 -- ---- the answers
 abbrev pub numberOf : Answer → ℕ
 numberOf Moving = 0

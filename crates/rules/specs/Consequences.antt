@@ -79,11 +79,11 @@ OwnSizes g ws cs =
 abbrev pub SetSizes : (Size → Bool) → List Event → Type 0
 SetSizes p es = (f width depth : ℕ) → at es f .call ≡ setSize width depth → numberOf (at es f .answer) ≡ 0 → p (record { width = width; depth = depth }) ≡ true
 
+abbrev pub KnownSizes : (Size → Bool) → List Event → Type 0
+KnownSizes p es = SetSizes p es → (i f : ℕ) → at es f .call ≡ step i → numberOf (at es f .answer) ≡ 2 → p (at es f .measures .size) ≡ true
+
 abbrev pub SizesKnown : Settings → List ℕ → List Call → Type 0
-SizesKnown g ws cs =
-    (p : Size → Bool) → p (sizeOf g) ≡ true → SetSizes p (run (g .edition) ws cs)
-    → (i f : ℕ) → at (run (g .edition) ws cs) f .call ≡ step i → numberOf (at (run (g .edition) ws cs) f .answer) ≡ 2
-    → p (at (run (g .edition) ws cs) f .measures .size) ≡ true
+SizesKnown g ws cs = (p : Size → Bool) → p (sizeOf g) ≡ true → KnownSizes p (run (g .edition) ws cs)
 
 -- and "full" is answered with w (R - d) places after a queue's take window
 abbrev pub OwnPlaces : Settings → List ℕ → List Call → Type 0

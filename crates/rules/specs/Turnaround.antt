@@ -1,6 +1,7 @@
 -- Paper 02, K6, the statements: "Old to new to old gives the needed words exactly, and operations under way go on: edition 0, by the rules before K5,
 -- and edition 1 give the same answers to the same later begins and steps." The move itself is in specs/Move; the rules before K5 are the same
--- definitions at edition 0. All of it speaks of these two editions, in which every window has the pool's own size.
+-- definitions at edition 0. What is said of going on in step speaks of these two editions, in which every window has the pool's own size. With moves to
+-- edition 2 and back (K8) answers may differ, and what goes on holding, demand 3 first, is said of the run over all moves itself, at the end.
 use Prim.Native.Nat.{ℕ, zero, suc, _+_, _*_, _≤_, _<_}
 use mathlib.Core.Path.{_≡_}
 use mathlib.Core.Logic.{_≢_}
@@ -21,10 +22,15 @@ use Rattle.rules.specs.Dispatch.{DispatchOut, dispatchOf}
 use Rattle.rules.specs.Untouched.{Beyond}
 use Rattle.rules.specs.Sequential.{Operation, demand3Rows}
 use Rattle.rules.specs.Run.{Call, begin, callOf, Event, eventOf, run}
-use Rattle.rules.specs.Statement.{OneAtATimeWithin}
+use Rattle.rules.specs.Statement.{All, OneAtATimeWithin}
+use Rattle.rules.specs.Newer.{exactRows}
 use Rattle.rules.specs.Solo.{Begun, Solo, EndsWithin, k3Steps, soloSteps}
-use Rattle.rules.specs.Consequences.{wordsAfter, OfEveryRun, itemsIn}
+use Rattle.rules.specs.Consequences.{wordsAfter, OfEveryRun, itemsIn, KnownSizes, NoSumWraps}
+use Rattle.rules.specs.Spacers.{TakesWithin}
+use Rattle.rules.specs.Full.{FullMeans}
+use Rattle.rules.specs.Windows.{sizeOf}
 use Rattle.rules.specs.declared.Settings.{Settings}
+use Rattle.rules.specs.declared.Size.{Size}
 use Rattle.rules.specs.declared.Answer.the-variants.{Moving}
 
 -- ---- one pool in two areas
@@ -49,13 +55,16 @@ SameItems = (g : Settings) (ws : List ℕ) (h : Settings) (vs : List ℕ) → Sa
 
 -- ---- what a move that answers 0 has done
 pub record Moved (a b : ℕ) (from : List ℕ) (g : Settings) (to vs : List ℕ) : Type 0 where
-  -- it was a fit pool of edition a, and is one of edition b, the same
+  -- it was a fit pool of edition a, and is one of edition b
   pub fit-before : checkedOf a from ≡ Fit g
   pub fit-after : checkedOf b vs ≡ Fit (inEdition b g)
-  pub pool : SamePool g from (inEdition b g) vs
-  -- the workers' words that both editions have are kept; "forward, the new words are zero"
+  -- the words of the head but the edition, of the subs and of the cells are kept, and of the workers those that both editions have
+  pub head : (m : ℕ) → m < workersAt g → m ≢ editionAt → getD vs m 0 ≡ getD from m 0
   pub kept : (i k : ℕ) → i < g .workers → k < workerWords a → k < workerWords b → getD vs (workerAt (inEdition b g) i + k) 0 ≡ getD from (workerAt g i + k) 0
-  pub new : (i k : ℕ) → i < g .workers → workerWords a ≤ k → k < workerWords b → getD vs (workerAt (inEdition b g) i + k) 0 ≡ 0
+  pub cell : (m : ℕ) → m < cellWords * (g .width * g .rows) → getD vs (cellsAt (inEdition b g) + m) 0 ≡ getD from (cellsAt g + m) 0
+  -- of K6's editions it is the same pool, and "forward, the new words are zero"; those of edition 2 are in specs/Widening
+  pub pool : a < 2 → b < 2 → SamePool g from (inEdition b g) vs
+  pub new : b < 2 → (i k : ℕ) → i < g .workers → workerWords a ≤ k → k < workerWords b → getD vs (workerAt (inEdition b g) i + k) 0 ≡ 0
   -- the target's words beyond the needed ones are as they were
   pub beyond : Beyond (needed (inEdition b g)) to vs
 
@@ -96,7 +105,7 @@ Lockstep = (g : Settings) (ws : List ℕ) (h : Settings) (vs : List ℕ) (cs : L
 -- "operations under way go on", in whichever phase the move found them: after a move, either way
 abbrev pub OperationsGoOn : Type 0
 OperationsGoOn =
-    (a b : ℕ) (from to : List ℕ) (cs : List Call) → numberOf (moveOf a b from to .answer) ≡ 0
+    (a b : ℕ) (from to : List ℕ) (cs : List Call) → a < 2 → b < 2 → numberOf (moveOf a b from to .answer) ≡ 0
     → InStep (settingsOf from) from (inEdition b (settingsOf from)) (moveOf a b from to .words) cs
 
 -- so do the dispatcher's turns: whom it names, from whichever worker and with whichever count
@@ -110,7 +119,7 @@ DispatchLockstep =
     → DispatchInStep g (dispatchOf (g .edition) ws i steps) h (dispatchOf (h .edition) vs i steps)
 
 -- ---- over the years
--- what a site does with a pool: begins and steps, by the calls of the pool's edition, and moves from an edition to another into an area
+-- what a site does with a pool: begins, steps and size calls, by the calls of the pool's edition, and moves from an edition to another into an area
 pub data Act : Type 0 where
   call : Call → Act
   move : ℕ → ℕ → List ℕ → Act
@@ -135,7 +144,7 @@ unfoldable pub placeOver : Place → List Act → Place
 placeOver p [] = p
 placeOver p (x ∷ xs) = placeOver (placeAfter p x) xs
 
--- the begins and steps among the acts, and the run of them as one list, wherever the pool lies
+-- the calls among the acts, and the run of them as one list, wherever the pool lies
 abbrev pub callIn : Act → List Call
 callIn (call c) = c ∷ []
 callIn (move a b area) = []
@@ -152,27 +161,45 @@ unfoldable pub runOver : Place → List Act → List Event
 runOver p [] = []
 runOver p (x ∷ xs) = eventIn p x ++ runOver (placeAfter p x) xs
 
--- no call sees a move: the run from a place on, over any number of moves, is that of the pool in `ws`, which never moves, and it ends as that pool
+-- K6's moves: none leads to edition 2
+abbrev pub Low : Act → Type 0
+Low (call c) = Unit {0}
+Low (move a b area) = b < 2
+
+-- no call sees such a move: the run from a place on, over any number of moves, is that of the pool in `ws`, which never moves, and it ends as that pool
 pub record Unseen (g : Settings) (ws : List ℕ) (p : Place) (xs : List Act) : Type 0 where
   pub answers : runOver p xs ≡ run (g .edition) ws (callsIn xs)
   pub ends : SamePool g (wordsAfter (g .edition) ws (callsIn xs)) (inEdition (placeOver p xs .edition) g) (placeOver p xs .words)
 
 abbrev pub MovesUnseen : Type 0
-MovesUnseen = (g : Settings) (ws : List ℕ) (xs : List Act) → g .edition < 2 → checkedOf (g .edition) ws ≡ Fit g → Unseen g ws (here g ws) xs
+MovesUnseen = (g : Settings) (ws : List ℕ) (xs : List Act) → g .edition < 2 → All Low xs → checkedOf (g .edition) ws ≡ Fit g → Unseen g ws (here g ws) xs
 
--- a claim about a new pool of edition 0 or 1, and any begins, steps and moves of it
-abbrev pub OfEveryTurnaround : (Settings → List ℕ → List Act → Type 0) → Type 0
-OfEveryTurnaround P =
-    (ws : List ℕ) (g : Settings) (xs : List Act) → g .edition < 2 → numberOf (makeOf ws g .answer) ≡ 0 → P g (makeOf ws g .words) xs
+-- a claim about a new pool of edition 0 or 1, and any calls and moves of it between these
+abbrev pub OfEveryLowTurnaround : (Settings → List ℕ → List Act → Type 0) → Type 0
+OfEveryLowTurnaround P =
+    (ws : List ℕ) (g : Settings) (xs : List Act) → g .edition < 2 → All Low xs → numberOf (makeOf ws g .answer) ≡ 0 → P g (makeOf ws g .words) xs
 
--- whatever is so of the run of every list of calls on a new pool is so over any moves
+-- whatever is so of the run of every list of calls on a new pool is so over any such moves
 abbrev pub RunsOverMoves : Type 1
 RunsOverMoves =
-    (P : Settings → List Event → Type 0) → OfEveryRun (λ g ws cs. P g (run (g .edition) ws cs)) → OfEveryTurnaround (λ g ws xs. P g (runOver (here g ws) xs))
+    (P : Settings → List Event → Type 0) → OfEveryRun (λ g ws cs. P g (run (g .edition) ws cs)) → OfEveryLowTurnaround (λ g ws xs. P g (runOver (here g ws) xs))
 
--- demand 3: the begins and steps have one order, as one run
+-- ---- over all editions
+-- Paper 02, K8: "demand 3 goes on holding over a move", from edition 1 to 2 and back too. Editions 1 and 2 may answer differently, so the run is not that
+-- of a pool that never moves: what follows is said of the run itself. A claim about a new pool of edition 0, 1 or 2, and any calls and moves of it
+abbrev pub OfEveryTurnaround : (Settings → List ℕ → List Act → Type 0) → Type 0
+OfEveryTurnaround P = (ws : List ℕ) (g : Settings) (xs : List Act) → numberOf (makeOf ws g .answer) ≡ 0 → P g (makeOf ws g .words) xs
+
+-- demand 3: the calls have one order, as one run; with a bound on the newer items of each other sub of a stack
+abbrev pub OrderOverMoves : (Settings → ℕ) → Type 0
+OrderOverMoves each = OfEveryTurnaround (λ g ws xs. OneAtATimeWithin (each g) g (runOver (here g ws) xs))
+
 abbrev pub Demand3OverMoves : Type 0
-Demand3OverMoves = OfEveryTurnaround (λ g ws xs. OneAtATimeWithin (demand3Rows g) g (runOver (here g ws) xs))
+Demand3OverMoves = OrderOverMoves demand3Rows
+
+-- and with the closest one
+abbrev pub ExactOverMoves : Type 0
+ExactOverMoves = OrderOverMoves exactRows
 
 -- and no item is lost or invented: what is held where the pool lies in the end, and what was taken, is what was put
 abbrev pub NothingLostOverMoves : Type 0
@@ -180,6 +207,21 @@ NothingLostOverMoves = OfEveryTurnaround (λ g ws xs.
     (p : Item → Bool)
     → countItems p (heldItems (placeOver (here g ws) xs .words) (inEdition (placeOver (here g ws) xs .edition) g)) + countItems p (itemsIn 2 (runOver (here g ws) xs))
     ≡ countItems p (itemsIn 1 (runOver (here g ws) xs)))
+
+-- and the size that a take is held to is the pool's, or one that was set: whatever test these pass, it passes
+abbrev pub SizesKnownOverMoves : Type 0
+SizesKnownOverMoves = OfEveryTurnaround (λ g ws xs. (p : Size → Bool) → p (sizeOf g) ≡ true → KnownSizes p (runOver (here g ws) xs))
+
+-- and wherever it lies it is as every pool from make is: fit; a take counts what it reports and passes over just before it, within the closest bound; "full"
+-- means that every place after the take window is held; and no sum of a step wraps but those that may
+pub record Sound (h : Settings) (ws : List ℕ) : Type 0 where
+  pub fit : checkedOf (h .edition) ws ≡ Fit h
+  pub takes : TakesWithin exactRows h ws []
+  pub full : FullMeans h ws []
+  pub sums : NoSumWraps h ws
+
+abbrev pub SoundOverMoves : Type 0
+SoundOverMoves = OfEveryTurnaround (λ g ws xs. Sound (inEdition (placeOver (here g ws) xs .edition) g) (placeOver (here g ws) xs .words))
 
 -- K3 with moves before the begin and after it: how soon the operation of a worker ends that alone steps from then on
 abbrev pub SoloFrom : Place → ℕ → Operation → ℕ → List Act → Type 0

@@ -25,6 +25,8 @@ pub const WRONG_EDITION: u32 = 31;
 
 pub const OFF_SIZE: u32 = 32;
 
+pub const EXCEPTED: u32 = 33;
+
 // The phases of a put; a take's are these and `TAKING`.
 pub const IDLE: u32 = 0;
 

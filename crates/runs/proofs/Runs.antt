@@ -11,8 +11,8 @@ use borrow.Author.Tests.{eqb-true}
 use Rattle.laws.specs.Choice.{cond, allBelow, both-true, all, all-holds, Holds as Passed}
 use Rattle.rules.specs.Answers.{numberOf, out, refuse}
 use Rattle.rules.specs.Layout.{workerWords, windowsWords, needed}
-use Rattle.rules.specs.Limits.{windowed, settingsFit}
-use Rattle.rules.specs.Windows.{sizesOf, levelOf}
+use Rattle.rules.specs.Limits.{windowed, settingsFit, sizeFit}
+use Rattle.rules.specs.Windows.{sizesOf, levelOf, bottomOf}
 use Rattle.rules.specs.Worker.{slotAt, putSlot, seenBy, queuePhase, stackPhase, phaseOf, encode, encodePhase}
 use Rattle.rules.specs.Fit.{subFit, subsFit, phaseFit, seenFit, workerFit, workersFit, windowsFit, bodyChecked, headChecked, checkedBy}
 use Rattle.rules.specs.Make.{zeroed, indexed, madeWords, makeOf}
@@ -26,8 +26,9 @@ use Rattle.rules.specs.Shift.{shiftBy, queueShift, stackShift}
 use Rattle.rules.specs.Confirm.{confirmedOf, confirmBy, queueConfirm, stackConfirm}
 use Rattle.rules.specs.Held.{bandCount, bandOf, itemsAbove, heldBands, heldSub, heldBelow, countItems, passedOf, distanceOf}
 use Rattle.rules.specs.Segments.{segmentsFrom, segmentsAbove, upFrom}
-use Rattle.rules.specs.Apply.{putItem, putSub, putLanded, putShifted, putRaised, putDropped, countLost, putWorker, takenOf, applyBy, applyOf}
+use Rattle.rules.specs.Apply.{putItem, putSub, putLanded, putShifted, putRaised, putDropped, countLost, putWorker, takenOf, applyBy, applyOf, pairAdded, wordsDown, pairGone}
 use Rattle.rules.specs.Step.{ruleBy, ruleOf, slotStep, fitStep, checkedStep, stepOf}
+use Rattle.rules.specs.Resize.{putSize, fitSetSize, checkedSetSize, setSizeOf}
 use Rattle.rules.specs.Sequential.{mostPassed, leastFull}
 use Rattle.rules.specs.Newer.{k14Bound, frameworkBound, thesisBound, exactBound}
 use Rattle.rules.specs.Statement.{All}
@@ -45,9 +46,10 @@ use Rattle.runs.specs.Extremes.{extremes}
 use Rattle.runs.specs.Spacers.{spacers}
 use Rattle.runs.specs.Solos.{solos}
 use Rattle.runs.specs.Stretches.{Stretch, Unanswered, stretches}
-use Rattle.rules.specs.Move.{workerMoved, workersMoved, headMoved, cellsMoved, movedWords, fitMove, checkedMove, moveOf}
+use Rattle.rules.specs.Move.{mayMove, newWord, windowsMoved, cleared, ownPairs, workerMoved, workersMoved, headMoved, cellsMoved, movedWords, fitMove, checkedMove, moveOf}
 use Rattle.runs.specs.Moves.{MovesByHand}
 use Rattle.runs.specs.Cards.{Cards, Says, carded, editionZero, editionOne, EditionsByHand}
+use Rattle.runs.specs.Sizes.{sized, parting, putsBelow, linesBelow}
 use Rattle.runs.specs.Tests.{every, sameList, lineTests, sameLine, holds, gives, reaches, says, unanswered}
 
 pub make-number : (ws : List ℕ) (g : Settings) → numberOf (makeOf ws g .answer) ≡ makeNumber g (length ws)
@@ -111,11 +113,11 @@ stretch-unanswered s t =
     }
 
 -- ---- the tables
-tables-pass : (every holds table ≡ true) × (every holds strides ≡ true) × (every reaches extremes ≡ true) × (every reaches spacers ≡ true) × (every reaches solos ≡ true) × (every unanswered stretches ≡ true) × (every says carded ≡ true) × (every holds editionZero ≡ true) × (every holds editionOne ≡ true)
-unfolding table strides extremes spacers solos stretches carded editionZero editionOne wordsAfter mostPassed leastFull frameworkBound exactBound thesisBound k14Bound countedSteps eventsOf runOf linesOf makeNumber windowed settingsFit workerWords windowsWords sizesOf levelOf seenBy run callOf cond allBelow slotAt putSlot queuePhase stackPhase phaseOf encode encodePhase subFit subsFit phaseFit seenFit workerFit workersFit windowsFit bodyChecked headChecked checkedBy zeroed indexed madeWords makeOf slotBegin fitBegin checkedBegin beginOf viewOf nextOf hopOf windowRule missOf queuePutRead queueTakeRead stackRead checkRule commitBy queuePutCommit queueTakeCommit queueCommit stackCommit shiftBy queueShift stackShift confirmedOf confirmBy queueConfirm stackConfirm bandCount bandOf itemsAbove heldBands heldSub heldBelow countItems passedOf distanceOf putItem putSub putLanded putShifted putRaised putDropped countLost putWorker takenOf applyBy applyOf ruleBy ruleOf slotStep fitStep checkedStep stepOf
-tables-pass = (refl, refl, refl, refl, refl, refl, refl, refl, refl)
+tables-pass : (every holds table ≡ true) × (every holds strides ≡ true) × (every reaches extremes ≡ true) × (every reaches spacers ≡ true) × (every reaches solos ≡ true) × (every unanswered stretches ≡ true) × (every says carded ≡ true) × (every holds editionZero ≡ true) × (every holds editionOne ≡ true) × (every holds sized ≡ true) × (every holds parting ≡ true)
+unfolding table strides extremes spacers solos stretches carded editionZero editionOne sized parting putsBelow linesBelow wordsAfter mostPassed leastFull frameworkBound exactBound thesisBound k14Bound countedSteps eventsOf runOf linesOf makeNumber windowed settingsFit sizeFit workerWords windowsWords sizesOf bottomOf levelOf seenBy run callOf cond allBelow slotAt putSlot queuePhase stackPhase phaseOf encode encodePhase subFit subsFit phaseFit seenFit workerFit workersFit windowsFit bodyChecked headChecked checkedBy zeroed indexed madeWords makeOf slotBegin fitBegin checkedBegin beginOf viewOf nextOf hopOf windowRule missOf queuePutRead queueTakeRead stackRead checkRule commitBy queuePutCommit queueTakeCommit queueCommit stackCommit shiftBy queueShift stackShift confirmedOf confirmBy queueConfirm stackConfirm bandCount bandOf itemsAbove heldBands heldSub heldBelow countItems passedOf distanceOf putItem putSub putLanded putShifted pairAdded putRaised wordsDown pairGone putDropped countLost putWorker takenOf applyBy applyOf ruleBy ruleOf slotStep fitStep checkedStep stepOf putSize fitSetSize checkedSetSize setSizeOf
+tables-pass = (refl, refl, refl, refl, refl, refl, refl, refl, refl, refl, refl)
 
-pub runs-hold : AllHold table × AllHold strides × All Reaches extremes × All Reaches spacers × All Reaches solos × All Unanswered stretches × All Says carded × AllHold editionZero × AllHold editionOne
+pub runs-hold : AllHold table × AllHold strides × All Reaches extremes × All Reaches spacers × All Reaches solos × All Unanswered stretches × All Says carded × AllHold editionZero × AllHold editionOne × AllHold sized × AllHold parting
 runs-hold = (
   all-from-tests holds row-holds table (tables-pass .0),
   all-from-tests holds row-holds strides (tables-pass .1),
@@ -126,6 +128,8 @@ runs-hold = (
   all-from-tests says cards-say carded (tables-pass .6),
   all-from-tests holds row-holds editionZero (tables-pass .7),
   all-from-tests holds row-holds editionOne (tables-pass .8),
+  all-from-tests holds row-holds sized (tables-pass .9),
+  all-from-tests holds row-holds parting (tables-pass .10),
 )
 
 -- ---- a sub's segments
@@ -146,10 +150,10 @@ segments-by-hand = (
 
 -- ---- editions
 pub editions-by-hand : EditionsByHand
-unfolding makeOf madeWords zeroed indexed workerWords windowsWords windowed settingsFit headChecked checkedBy bodyChecked windowsFit subsFit subFit levelOf workersFit workerFit slotAt seenFit phaseFit allBelow cond
+unfolding makeOf madeWords zeroed indexed workerWords windowsWords windowed settingsFit sizeFit bottomOf headChecked checkedBy bodyChecked windowsFit subsFit subFit levelOf workersFit workerFit slotAt seenFit phaseFit allBelow cond
 editions-by-hand = (refl, refl, refl, refl, refl, refl, refl, refl, refl, refl, refl, refl, refl)
 
 -- ---- moves
 pub moves-by-hand : MovesByHand
-unfolding moveOf checkedMove fitMove movedWords headMoved workersMoved workerMoved cellsMoved workerWords windowsWords windowed settingsFit headChecked checkedBy bodyChecked windowsFit subsFit subFit levelOf workersFit workerFit slotAt seenFit phaseFit allBelow cond
+unfolding moveOf checkedMove mayMove fitMove movedWords newWord windowsMoved cleared ownPairs headMoved workersMoved workerMoved cellsMoved workerWords windowsWords windowed settingsFit headChecked checkedBy bodyChecked windowsFit subsFit subFit levelOf workersFit workerFit slotAt seenFit phaseFit allBelow cond
 moves-by-hand = (refl, refl, refl, refl, refl, refl, refl, refl, refl, refl, refl, refl, refl, refl, refl, refl, refl, refl, refl, refl, refl, refl, refl)

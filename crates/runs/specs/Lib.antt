@@ -9,5 +9,6 @@ pub mod Spacers
 pub mod Solos
 pub mod Stretches
 pub mod Cards
+pub mod Sizes
 pub mod Moves
 pub mod Tests

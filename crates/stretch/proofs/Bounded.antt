@@ -1,23 +1,22 @@
 -- A stretch of a queue's run without a final answer has at most as many counted steps as its workers owe: each pays one.
-use mathlib.Core.Path.{_≡_, refl, _∙_}
+use mathlib.Core.Path.{_≡_, ap, _∙_}
 use mathlib.Core.Logic.{_⊎_, inl, inr}
-use mathlib.Core.Bool.{true}
 use mathlib.Core.List.{List, [], _∷_}
 use Prim.Native.Nat.{ℕ, suc, _+_, _*_, _≤_}
 use native.Mathlib.Nat.{le-refl}
 use native.Mathlib.Omega.{arith}
-use Rattle.rules.specs.Limits.{settingsFit}
-use Rattle.rules.specs.Run.{Call, step, Event, run, Final}
+use Rattle.rules.specs.Sequential.{Contents}
+use Rattle.rules.specs.Run.{Call, step, Event, Final}
 use Rattle.stretch.specs.Stretch.{countedCall, countedSteps, Finishes}
 use Rattle.stretch.proofs.Types.{Settings}
 use Rattle.rules.proofs.counts.Sums.{sumN}
 use Rattle.rules.proofs.machine.Machine.{State, nextIn}
-use Rattle.rules.proofs.machine.Good.{Good}
-use Rattle.rules.proofs.queue.Turn.{queueKind, queue-inv}
-use Rattle.rules.proofs.Transfer.{Related, next-related}
+use Rattle.rules.proofs.Course.{At, settingsAt, HoldsAt, nextAt, movedAt, Course, none, calls, moves, after-call}
 use Rattle.rules.proofs.progress.Law.{twice}
 use Rattle.stretch.proofs.Owed.{Debts}
 use Rattle.stretch.proofs.Debts.{Account, pays, answers, account}
+use Rattle.stretch.proofs.Over.{debts-over}
+use Rattle.stretch.proofs.Past.{goodAt, invAt}
 
 -- a final answer among the events, or at most so many counted steps
 abbrev pub Bounded : ℕ → List Event → Type 0
@@ -46,20 +45,22 @@ pub bounded-none : (n : ℕ) → Bounded n []
 unfolding countedSteps
 bounded-none n = inr (omega arith)
 
-module _ (g : Settings) (good : Good g) (kind : g .kind ≡ 0) (limits : settingsFit g ≡ true) where
-  -- one event more, from how the rest goes on
-  one-more : (s : State) (debt : ℕ → ℕ) (c : Call) (e : Event) (es : List Event) → e .call ≡ c → e .answer ≡ nextIn g s c .answer
-      → ((after : ℕ → ℕ) → Debts g (2 * g .width) (nextIn g s c .state) after → Bounded (sumN after (g .workers)) es)
-      → Account g (2 * g .width) s debt c (nextIn g s c) → Bounded (sumN debt (g .workers)) (e ∷ es)
-  one-more s debt c e es u v rest (answers i w l f idle) = let f′ : Final (e .answer) = rw v f in inl (finishes-here i e es (u ∙ w) f′)
-  one-more s debt c e es u v rest (pays x) = bounded-more _ (sumN (x .after) (g .workers)) e es (rw (u, v) (x .paid)) (rest (x .after) (x .owed))
+-- one event more, from how the rest goes on
+one-more : (g : Settings) (s : State) (debt : ℕ → ℕ) (c : Call) (e : Event) (es : List Event) → e .call ≡ c → e .answer ≡ nextIn g s c .answer
+    → ((after : ℕ → ℕ) → Debts g (2 * g .width) (nextIn g s c .state) after → Bounded (sumN after (g .workers)) es)
+    → Account g (2 * g .width) s debt c (nextIn g s c) → Bounded (sumN debt (g .workers)) (e ∷ es)
+one-more g s debt c e es u v rest (answers i w l f idle) = let f′ : Final (e .answer) = rw v f in inl (finishes-here i e es (u ∙ w) f′)
+one-more g s debt c e es u v rest (pays x) = bounded-more _ (sumN (x .after) (g .workers)) e es (rw (u, v) (x .paid)) (rest (x .after) (x .owed))
 
-  pub bounded-by-debts : {ws : List ℕ} {s : State} → Related g limits (queueKind g good kind) ws s → (debt : ℕ → ℕ) → Debts g (2 * g .width) s debt → (ds : List Call)
-      → Bounded (sumN debt (g .workers)) (run (g .edition) ws ds)
-  unfolding run
-  bounded-by-debts r debt owed [] = bounded-none _
-  bounded-by-debts {ws} {s} r debt owed (c ∷ ds) =
-      let x = next-related g limits (queueKind g good kind) r c in
-      one-more s debt c _ _ refl (x .answer)
-      (λ after y. bounded-by-debts (x .related) after y ds)
-      (account g good kind (2 * g .width) (twice g good kind) s (r .list) (r .whole .common) (queue-inv g good kind s (r .list) (r .whole .inv)) (λ l. inl (le-refl _)) debt owed c)
+module _ (g : Settings) (kind : g .kind ≡ 0) where
+  pub bounded-by-debts : (x : At g) (q : Contents) → HoldsAt g x q → (debt : ℕ → ℕ) → Debts (settingsAt g x) (2 * g .width) (x .state) debt → {es : List Event} → Course g x es
+      → Bounded (sumN debt (g .workers)) es
+  bounded-by-debts x q h debt owed none = bounded-none _
+  bounded-by-debts x q h debt owed (calls {e = e} {es = es} c u r) =
+      let k = settingsAt g x in
+      let o = after-call g x q h c in
+      one-more k (x .state) debt c e es (ap (λ (z : Event). z .call) u) (ap (λ (z : Event). z .answer) u)
+      (λ after y. bounded-by-debts (nextAt g x c .state) (o .list) (o .whole) after y r)
+      (account k (goodAt g kind x) kind (2 * g .width) (twice k (goodAt g kind x) kind) (x .state) q (h .common) (invAt g kind x q h) (λ l. inl (le-refl _)) debt owed c)
+  bounded-by-debts x q h debt owed (moves b fits m r) =
+      bounded-by-debts (movedAt g x b fits) q (m .whole q h) debt (debts-over (settingsAt g x) b (x .state) (m .phase) (2 * g .width) debt owed) r

@@ -1,17 +1,16 @@
 -- A stretch of a queue's run that starts with no put under way. While none begins, the put window stands still, and a take window that
 -- moves finds an item: takes owe less than in the worst case. Once a put begins, its worker owes w + 4, whatever its share was while it was
 -- idle. So two debts are kept of each worker: `worst`, where a take that starts low has 2w left, and `calm`, where it has w + 1.
-use mathlib.Core.Path.{_≡_, refl, _∙_}
+use mathlib.Core.Path.{_≡_, sym, ap, _∙_}
 use mathlib.Core.Logic.{_⊎_, inl, inr}
-use mathlib.Core.Bool.{true}
-use mathlib.Core.List.{List, [], _∷_}
+use mathlib.Core.List.{List, _∷_}
 use Prim.Native.Nat.{ℕ, _+_, _-_, _*_, _≤_, _<_}
 use native.Mathlib.Nat.{le-refl}
 use native.Mathlib.Decide.{ℕ-discrete}
 use native.Mathlib.Omega.{arith}
-use Rattle.rules.specs.Limits.{settingsFit}
+use Rattle.rules.specs.Make.{inEdition}
 use Rattle.rules.specs.Sequential.{Contents}
-use Rattle.rules.specs.Run.{Call, step, Event, run, Final}
+use Rattle.rules.specs.Run.{Call, step, Event, Final}
 use Rattle.stretch.specs.Stretch.{countedCall}
 use Rattle.stretch.proofs.Types.{Settings, Size, Putting, Taking, Idle}
 use Rattle.rules.proofs.counts.Sums.{upd, upd-all, sumN, sum-swap}
@@ -20,8 +19,8 @@ use Rattle.rules.proofs.machine.Calls.{begun}
 use Rattle.rules.proofs.machine.Good.{Good}
 use Rattle.rules.proofs.machine.Turns.{Common}
 use Rattle.rules.proofs.queue.Inv.{Inv}
-use Rattle.rules.proofs.queue.Turn.{queueKind, queue-inv}
-use Rattle.rules.proofs.Transfer.{Related, next-related}
+use Rattle.rules.proofs.Course.{At, settingsAt, HoldsAt, nextAt, movedAt, Course, none as no-more, calls, moves, after-call}
+use Rattle.rules.proofs.moves.Kept.{movedIn}
 use Rattle.rules.proofs.progress.QueueLeft.{Behind}
 use Rattle.rules.proofs.progress.QueueResult.{putIn, Filled, Moved}
 use Rattle.rules.proofs.progress.Law.{twice}
@@ -30,7 +29,8 @@ use Rattle.stretch.proofs.Acts.{Acts, acts, put-begun, put-begun-other}
 use Rattle.stretch.proofs.Debts.{Pays, Account, account}
 use Rattle.stretch.proofs.Bounded.{Bounded, finishes-here, bounded-more, bounded-none, bounded-by-debts}
 use Rattle.stretch.proofs.Stocked.{Keeps, put-or-keeps, ready-filled}
-use Rattle.stretch.proofs.Past.{once}
+use Rattle.stretch.proofs.Over.{SamePhases, put-over, debts-over}
+use Rattle.stretch.proofs.Past.{once, goodAt, invAt}
 
 -- no put is under way, and a take window below the put window finds an item when it moves
 pub record Calm (g : Settings) (s : State) : Type 0 where
@@ -131,14 +131,37 @@ module _ (g : Settings) (good : Good g) (kind : g .kind ≡ 0) where
     one-call : Bounded n (e ∷ es)
     one-call = by-acts (acts g good kind s q common inv call)
 
-  -- ---- the words
-  module _ (limits : settingsFit g ≡ true) where
-    pub calm-stretch : {ws : List ℕ} {s : State} → Related g limits (queueKind g good kind) ws s → Calm g s → (b c : ℕ → ℕ) (n : ℕ) → Enough g s b c n
-        → (ds : List Call) → Bounded n (run (g .edition) ws ds)
-    unfolding run
-    calm-stretch r calm b c n x [] = bounded-none n
-    calm-stretch {ws} {s} r calm b c n x (call ∷ ds) =
-        let y = next-related g limits (queueKind g good kind) r call in
-        one-call s (r .list) (r .whole .common) (queue-inv g good kind s (r .list) (r .whole .inv)) calm b c n x call _ _ refl (y .answer)
-        (λ after owed. bounded-by-debts g good kind limits (y .related) after owed ds)
-        (λ b′ c′ m still-calm z. calm-stretch (y .related) still-calm b′ c′ m z ds)
+-- ---- over a move
+module _ (g : Settings) (b : ℕ) (s : State) (same : SamePhases g b s) where
+  abbrev h : Settings
+  h = inEdition b g
+
+  abbrev moved : State
+  moved = movedIn g h s
+
+  calm-over : Calm g s → Calm h moved
+  calm-over x = record { no-put = λ i l. put-over g b s same i ∙ x .no-put i l; stock = x .stock }
+
+  enough-over : (worst calm : ℕ → ℕ) (n : ℕ) → Enough g s worst calm n → Enough h moved worst calm n
+  enough-over worst calm n x =
+      record {
+        most = debts-over g b s same (2 * g .width) worst (x .most);
+        least = debts-over g b s same (g .width + 1) calm (x .least);
+        takes = x .takes;
+        spare = λ i l idle. x .spare i l (sym (same i) ∙ idle);
+      }
+
+-- ---- along a course
+module _ (g : Settings) (kind : g .kind ≡ 0) where
+  pub calm-stretch : (x : At g) (q : Contents) → HoldsAt g x q → Calm (settingsAt g x) (x .state) → (b c : ℕ → ℕ) (n : ℕ) → Enough (settingsAt g x) (x .state) b c n
+      → {es : List Event} → Course g x es → Bounded n es
+  calm-stretch x q h calm b c n y no-more = bounded-none n
+  calm-stretch x q h calm b c n y (calls {e = e} {es = es} call u r) =
+      let k = settingsAt g x in
+      let o = after-call g x q h call in
+      one-call k (goodAt g kind x) kind (x .state) q (h .common) (invAt g kind x q h) calm b c n y call e es (ap (λ (z : Event). z .call) u) (ap (λ (z : Event). z .answer) u)
+      (λ after owed. bounded-by-debts g kind (nextAt g x call .state) (o .list) (o .whole) after owed r)
+      (λ b′ c′ m still-calm z. calm-stretch (nextAt g x call .state) (o .list) (o .whole) still-calm b′ c′ m z r)
+  calm-stretch x q h calm b c n y (moves e fits m r) =
+      calm-stretch (movedAt g x e fits) q (m .whole q h) (calm-over (settingsAt g x) e (x .state) (m .phase) calm) b c n
+      (enough-over (settingsAt g x) e (x .state) (m .phase) b c n y) r

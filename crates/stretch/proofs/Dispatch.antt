@@ -23,7 +23,8 @@ use Rattle.stretch.proofs.Types.{Settings}
 use Rattle.rules.specs.declared.Turn.the-variants.{Worker}
 use Rattle.rules.proofs.machine.Machine.{State, nextIn}
 use Rattle.rules.proofs.machine.Good.{Good, good}
-use Rattle.rules.proofs.queue.Turn.{queueKind, queue-inv}
+use Rattle.rules.proofs.BothKinds.{kindOf, inv-of}
+use Rattle.rules.proofs.Course.{At, calls-course}
 use Rattle.rules.proofs.words.Made.{accepted}
 use Rattle.rules.proofs.words.Stores.{number-same}
 use Rattle.rules.proofs.Transfer.{Related, related-fit, Next-related, next-related}
@@ -57,10 +58,10 @@ zero-more ed ws j m moving rest =
 
 module _ (g : Settings) (good : Good g) (kind : g .kind ≡ 0) (limits : settingsFit g ≡ true) where
   abbrev Rel : List ℕ → State → Type 0
-  Rel ws s = Related g limits (queueKind g good kind) ws s
+  Rel ws s = Related g limits (kindOf g limits) ws s
 
   fit : {ws : List ℕ} {s : State} → Rel ws s → checkedOf (g .edition) ws ≡ Fit g
-  fit r = related-fit g limits (queueKind g good kind) r
+  fit r = related-fit g limits (kindOf g limits) r
 
   -- the turns come to a final answer, or there are m steps without one
   abbrev Comes : List ℕ → ℕ → ℕ → ℕ → Type 0
@@ -69,8 +70,8 @@ module _ (g : Settings) (good : Good g) (kind : g .kind ≡ 0) (limits : setting
   -- ---- one turn, from how the next ones go on
   module _ {ws : List ℕ} {s : State} (r : Rel ws s) (i j k m : ℕ) (turn : turnFrom ws g i ≡ Worker j) (busy : HasTurn ws g j) (time : s .steps < stepLimit)
       (rest : nextIn g s (step j) .state .steps ≡ suc (s .steps) → Busy g (stepOf (g .edition) ws j .words) → Comes (stepOf (g .edition) ws j .words) (workerAfter g j) k m) where
-    abbrev x : Next-related g limits (queueKind g good kind) ws s (r .list) (step j)
-    x = next-related g limits (queueKind g good kind) r (step j)
+    abbrev x : Next-related g limits (kindOf g limits) ws s (r .list) (step j)
+    x = next-related g limits (kindOf g limits) r (step j)
 
     answer : stepOf (g .edition) ws j .answer ≡ nextIn g s (step j) .answer
     unfolding callOf
@@ -109,7 +110,7 @@ module _ (g : Settings) (good : Good g) (kind : g .kind ≡ 0) (limits : setting
         on (inr u) = inr (zero-more (g .edition) ws j m moving u)
 
     one-turn : Comes ws i (suc k) (suc m)
-    one-turn = by (busy-step g good kind s (r .list) (r .whole .common) (queue-inv g good kind s (r .list) (r .whole .inv)) j (busy .among) number time)
+    one-turn = by (busy-step g good kind s (r .list) (r .whole .common) (inv-of g limits kind s (r .list) (r .whole .inv)) j (busy .among) number time)
 
   turns-come : (m k : ℕ) → m ≤ k → {ws : List ℕ} {s : State} → Rel ws s → (i : ℕ) → i < g .workers → Busy g ws → s .steps + m ≤ stepLimit → Comes ws i k m
   unfolding callOf
@@ -118,15 +119,18 @@ module _ (g : Settings) (good : Good g) (kind : g .kind ≡ 0) (limits : setting
   turns-come (suc m) (suc k) l {ws} {s} r i li busy time =
       let f = busy-found ws g i (busy .0) li (busy .1) (busy .2) in
       one-turn r i (f .0) k m (f .1) (has-turn ws g i (f .0) li (f .1)) (omega arith)
-      (λ more next. turns-come m k (omega arith) (next-related g limits (queueKind g good kind) r (step (f .0)) .related) (workerAfter g (f .0)) (mod-lt _ (omega arith)) next (omega arith))
+      (λ more next. turns-come m k (omega arith) (next-related g limits (kindOf g limits) r (step (f .0)) .related) (workerAfter g (f .0)) (mod-lt _ (omega arith)) next (omega arith))
 
   -- ---- from any words that a new queue comes to
-  module _ {ws : List ℕ} (r : Reached g good kind limits ws) (i steps : ℕ) (li : i < g .workers) where
+  module _ {ws : List ℕ} (r : Reached g kind limits ws) (i steps : ℕ) (li : i < g .workers) where
     -- a stretch that is too long
     too-long : Unfinished (g .edition) ws (suc (exactStretch g)) → ⊥
-    too-long u = let f = finishes-within g good kind limits r (u .calls) (omega (arith, u .counted)) in u .none (f .position) (f .final)
+    too-long u =
+        let x : At g = record { edition = g .edition; limits = limits; state = r .state } in
+        let f = finishes-within g kind x (r .related .list) (r .related .whole) (r .past) (calls-course g x (r .related) (u .calls)) (omega (arith, u .counted)) in
+        u .none (f .position) (f .final)
 
-    reached-finishes : Busy g ws → exactStretch g < steps → getD ws stepsAt 0 + exactStretch g < stepLimit → FinishesIn g (dispatchOf (g .edition) ws i steps)
+    pub reached-finishes : Busy g ws → exactStretch g < steps → getD ws stepsAt 0 + exactStretch g < stepLimit → FinishesIn g (dispatchOf (g .edition) ws i steps)
     reached-finishes busy many time =
         rw (fit-turns ws g (fit (r .related)) i steps li) (by (turns-come (suc (exactStretch g)) steps many (r .related) i li busy (omega (arith, r .related .says .steps))))
       where
@@ -139,7 +143,7 @@ pub dispatch-finishes : DispatchFinishes
 dispatch-finishes ws g cs made kind i steps li busy many time =
     let a = accepted ws g made in
     let h = good g (a .limits) in
-    reached-finishes g h kind (a .limits) (reached g h kind (a .limits) ws a cs) i steps li busy many time
+    reached-finishes g h kind (a .limits) (reached g kind (a .limits) ws a cs) i steps li busy many time
 
 pub dispatch-k7 : DispatchK7
 dispatch-k7 ws g cs made kind i steps li busy many time =

@@ -4,12 +4,12 @@ pub mod Owed
 pub mod Kept
 pub mod Acts
 pub mod Debts
-pub mod Bounded
+pub mod Over
 pub mod Stocked
 pub mod Lead
 pub mod Past
+pub mod Bounded
 pub mod Calm
-pub mod Parts
 pub mod Within
 pub mod Theorem
 pub mod Dispatch

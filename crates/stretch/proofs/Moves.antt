@@ -1,39 +1,40 @@
--- K7 over moves between editions: the run is that of the pool that never moved, so no stretch of it is longer; and where the pool lies in the end the
--- same worker is busy, and the dispatcher comes to the same result.
-use Prim.Native.Nat.{ℕ}
-use mathlib.Core.Path.{_∙_}
+-- K7 over moves between editions: the run over any acts is a course of the machine (rules: moves/Acts), so that no stretch of it is longer; and where the pool
+-- lies in the end a dispatcher finishes an operation, by the edition that it is in there.
 use native.Mathlib.Omega.{arith}
-use Rattle.rules.specs.Layout.{stepsAt}
-use Rattle.rules.specs.Make.{makeOf}
-use Rattle.rules.specs.Consequences.{wordsAfter}
-use Rattle.rules.specs.Turnaround.{here, placeOver, callsIn}
-use Rattle.stretch.specs.Stretch.{k7Stretch, exactStretch, StretchesWithin, StretchWithin, DispatchWithin, OverMoves, K7OverMoves}
-use Rattle.stretch.proofs.Types.{Settings}
-use Rattle.rules.proofs.moves.InStep.{number-same}
-use Rattle.rules.proofs.moves.Dispatches.{dispatch-lockstep}
-use Rattle.rules.proofs.moves.Over.{from-make, runs-over-moves}
-use Rattle.stretch.proofs.Theorem.{k7, stretch-exact}
-use Rattle.stretch.proofs.Dispatch.{dispatch-finishes, dispatch-k7}
+use Rattle.rules.specs.Make.{makeOf, inEdition}
+use Rattle.rules.specs.Turnaround.{here, placeOver}
+use Rattle.stretch.specs.Stretch.{exactStretch, OverMoves, K7OverMoves}
+use Rattle.rules.proofs.machine.Good.{good}
+use Rattle.rules.proofs.words.Made.{accepted}
+use Rattle.rules.proofs.moves.Acts.{made-lies, course-over, lies-so-over}
+use Rattle.stretch.proofs.Past.{PastAt, past-kept, past-first}
+use Rattle.stretch.proofs.Theorem.{stretches, exact-k7}
+use Rattle.stretch.proofs.Dispatch.{reached-finishes}
 
-over-moves : (most : Settings → ℕ) → StretchWithin most → DispatchWithin most → OverMoves most
-over-moves most stretches dispatches =
+exact-over-moves : OverMoves exactStretch
+exact-over-moves =
     record {
-      stretches = runs-over-moves (λ g es. StretchesWithin g (most g) es) stretches;
-      dispatches = λ ws g xs old made kind i steps li busy many time.
-          let pool = from-make ws g xs old made .ends in
+      stretches = λ ws g xs made kind.
+          let a = accepted ws g made in
+          stretches g kind (a .limits) (course-over g (here g (makeOf ws g .words)) (made-lies g ws a) xs);
+      dispatches = λ ws g xs made kind i steps li busy many time.
+          let a = accepted ws g made in
           let p = placeOver (here g (makeOf ws g .words)) xs in
-          let vs = wordsAfter (g .edition) (makeOf ws g .words) (callsIn xs) in
-          let same = number-same g (p .edition) vs (p .words) pool (busy .0) (busy .1) in
-          let count = pool .head stepsAt (omega arith) (λ u. omega arith) in
-          let f = dispatches ws g (callsIn xs) made kind i steps li (busy .0, busy .1, rw same at (busy .2)) many (rw count at time) in
-          record {
-            worker = f .worker;
-            among = f .among;
-            answer = f .answer;
-            result = dispatch-lockstep g vs _ (p .words) i steps pool .result ∙ f .result;
-            final = f .final;
-          };
+          let h = inEdition (p .edition) g in
+          let x = lies-so-over g (PastAt g kind) (past-kept g kind) (here g (makeOf ws g .words)) (record { lies = made-lies g ws a; so = past-first g kind (a .limits) }) xs in
+          let l = x .lies in
+          reached-finishes h (good h (l .limits)) kind (l .limits) (record { state = l .state; related = l .related; past = x .so }) i steps li busy many time;
     }
 
 pub k7-over-moves : K7OverMoves
-k7-over-moves = (over-moves k7Stretch k7 dispatch-k7, over-moves exactStretch stretch-exact dispatch-finishes)
+k7-over-moves = (
+  record {
+    stretches = λ ws g xs made kind p m many.
+        let few = exact-k7 g (good g (accepted ws g made .limits)) in
+        exact-over-moves .stretches ws g xs made kind p m (omega arith);
+    dispatches = λ ws g xs made kind i steps li busy many time.
+        let few = exact-k7 g (good g (accepted ws g made .limits)) in
+        exact-over-moves .dispatches ws g xs made kind i steps li busy (omega arith) (omega arith);
+  },
+  exact-over-moves,
+)

@@ -3,7 +3,7 @@
 --   lead      some worker owes no more than an operation that it has just begun (Lead), where a take that starts low has 2w left
 --   second    the same with w + 1, which is enough where the take window's next move finds an item; or a put is under way
 --   stocked   where the take window is below the put window, it finds one; or a put is under way (Stocked)
-use mathlib.Core.Path.{_≡_, refl}
+use mathlib.Core.Path.{_≡_, refl, sym, _∙_}
 use mathlib.Core.Logic.{_⊎_, inl, inr}
 use mathlib.Core.Bool.{true}
 use mathlib.Core.List.{List, [], _∷_}
@@ -12,22 +12,25 @@ use native.Mathlib.Decide.{decLt}
 use native.Mathlib.Nat.{le-refl}
 use native.Mathlib.Omega.{arith}
 use Rattle.rules.specs.Limits.{settingsFit}
-use Rattle.rules.specs.Make.{makeOf}
+use Rattle.rules.specs.Make.{makeOf, inEdition}
 use Rattle.rules.specs.Sequential.{Contents}
 use Rattle.rules.specs.Run.{Call}
 use Rattle.rules.specs.Consequences.{wordsAfter}
 use Rattle.stretch.proofs.Types.{Settings, Idle}
 use Rattle.rules.proofs.machine.Machine.{State, phaseIn, withSize, nextIn, madeIn}
 use Rattle.rules.proofs.machine.Phases.{idle-phase}
-use Rattle.rules.proofs.machine.Good.{Good}
+use Rattle.rules.proofs.machine.Good.{Good, good}
 use Rattle.rules.proofs.machine.Turns.{Common}
 use Rattle.rules.proofs.queue.Inv.{Inv}
-use Rattle.rules.proofs.queue.Turn.{queueKind, queue-inv}
 use Rattle.rules.proofs.words.Made.{Accepted}
 use Rattle.rules.proofs.Transfer.{Related, next-related, made-related}
+use Rattle.rules.proofs.BothKinds.{kindOf, inv-of}
+use Rattle.rules.proofs.Course.{At, settingsAt, HoldsAt, Kept, madeAt}
+use Rattle.rules.proofs.moves.Kept.{movedIn}
 use Rattle.rules.proofs.progress.QueueResult.{Filled}
 use Rattle.rules.proofs.progress.Law.{twice}
 use Rattle.stretch.proofs.Acts.{Acts, acts}
+use Rattle.stretch.proofs.Over.{SamePhases, put-over, owes-over}
 use Rattle.stretch.proofs.Stocked.{PutOpen, put-open-begins, put-open-goes, Stocked, stocked-next, ready-filled}
 use Rattle.stretch.proofs.Lead.{Lead, idle-leads, lead-next}
 
@@ -87,23 +90,76 @@ module _ (g : Settings) (good : Good g) (kind : g .kind ≡ 0) where
           stocked = stocked-next g s (past .stocked) (acts g good kind s q common inv c);
         }
 
-  -- ---- the words after a list of calls on a new queue
+-- ---- after a move
+module _ (g : Settings) (b : ℕ) (s : State) (same : SamePhases g b s) where
+  abbrev h : Settings
+  h = inEdition b g
+
+  abbrev moved : State
+  moved = movedIn g h s
+
+  lead-over : (L : ℕ) → Lead g L s → Lead h L moved
+  lead-over L x =
+      record {
+        who = x .who;
+        among = x .among;
+        debt = x .debt;
+        small = x .small;
+        put-small = λ one. x .put-small (sym (put-over g b s same (x .who)) ∙ one);
+        owes = owes-over g b s same L (x .debt) (x .who) (x .owes);
+      }
+
+  open-over : PutOpen g s → PutOpen h moved
+  open-over x = record { who = x .who; among = x .among; putting = put-over g b s same (x .who) ∙ x .putting }
+
+  pub past-over : Past g s → Past h moved
+  past-over x = record { lead = lead-over (2 * g .width) (x .lead); second = second (x .second); stocked = λ l. stocked (x .stocked l) }
+    where
+      second : Lead g (g .width + 1) s ⊎ PutOpen g s → Lead h (g .width + 1) moved ⊎ PutOpen h moved
+      second (inl y) = inl (lead-over (g .width + 1) y)
+      second (inr y) = inr (open-over y)
+
+      stocked : Filled s ⊎ PutOpen g s → Filled moved ⊎ PutOpen h moved
+      stocked (inl y) = inl y
+      stocked (inr y) = inr (open-over y)
+
+-- ---- along any course of a new queue
+module _ (g : Settings) (kind : g .kind ≡ 0) where
+  abbrev pub goodAt : (x : At g) → Good (settingsAt g x)
+  goodAt x = good (settingsAt g x) (x .limits)
+
+  pub invAt : (x : At g) (q : Contents) → HoldsAt g x q → Inv (settingsAt g x) (x .state) q
+  invAt x q h = inv-of (settingsAt g x) (x .limits) kind (x .state) q (h .inv)
+
+  abbrev pub PastAt : At g → Type 0
+  PastAt x = Past (settingsAt g x) (x .state)
+
+  pub past-kept : Kept g PastAt
+  past-kept =
+      record {
+        called = λ x q h past c. past-next (settingsAt g x) (goodAt x) kind (x .state) q (h .common) (invAt x q h) past c;
+        carried = λ x q h past b fits m. past-over (settingsAt g x) b (x .state) (m .phase) past;
+      }
+
+  pub past-first : (limits : settingsFit g ≡ true) → PastAt (madeAt g limits)
+  past-first limits = past-made g (good g limits) kind
+
+  -- ---- where a queue lies: words that a new one comes to
   pub record Reached (limits : settingsFit g ≡ true) (ws : List ℕ) : Type 0 where
     pub state : State
-    pub related : Related g limits (queueKind g good kind) ws state
+    pub related : Related g limits (kindOf g limits) ws state
     pub past : Past g state
 
-  module _ (limits : settingsFit g ≡ true) where
-    pub reached-after : {ws : List ℕ} → Reached limits ws → (cs : List Call) → Reached limits (wordsAfter (g .edition) ws cs)
-    unfolding wordsAfter
-    reached-after r [] = r
-    reached-after r (c ∷ cs) =
-        let k = r .related in
-        reached-after (record {
-          state = nextIn g (r .state) c .state;
-          related = next-related g limits (queueKind g good kind) k c .related;
-          past = past-next (r .state) (k .list) (k .whole .common) (queue-inv g good kind (r .state) (k .list) (k .whole .inv)) (r .past) c;
-        }) cs
-
-    pub reached : (ws : List ℕ) → Accepted ws g → (cs : List Call) → Reached limits (wordsAfter (g .edition) (makeOf ws g .words) cs)
-    reached ws a cs = reached-after (record { state = madeIn g; related = made-related g limits (queueKind g good kind) ws a; past = past-made }) cs
+  pub reached : (limits : settingsFit g ≡ true) (ws : List ℕ) → Accepted ws g → (cs : List Call) → Reached limits (wordsAfter (g .edition) (makeOf ws g .words) cs)
+  unfolding wordsAfter
+  reached limits ws a cs = go (record { state = madeIn g; related = made-related g limits (kindOf g limits) ws a; past = past-first limits }) cs
+    where
+      go : {ws : List ℕ} → Reached limits ws → (cs : List Call) → Reached limits (wordsAfter (g .edition) ws cs)
+      go r [] = r
+      go r (c ∷ cs) =
+          let k = r .related in
+          go (record {
+            state = nextIn g (r .state) c .state;
+            related = next-related g limits (kindOf g limits) k c .related;
+            past = past-next g (good g limits) kind (r .state) (k .list) (k .whole .common) (inv-of g limits kind (r .state) (k .list) (k .whole .inv)) (r .past) c;
+          }) cs

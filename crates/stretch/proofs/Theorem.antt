@@ -6,20 +6,21 @@ use mathlib.Core.List.{List}
 use Prim.Native.Nat.{ℕ, _+_, _-_, _*_, _≤_, _<_, max}
 use native.Mathlib.Nat.{mul-le-mul-left, mul-le-mul-right}
 use native.Mathlib.Omega.{arith}
-use lib.ListN.{take, drop}
 use lib.Dec.{eqb}
 use borrow.Author.Tests.{eqb-true, eqb-false}
 use Rattle.laws.specs.Choice.{cases}
 use Rattle.rules.specs.Limits.{settingsFit}
-use Rattle.rules.specs.Make.{makeOf}
-use Rattle.rules.specs.Run.{Call, run}
-use Rattle.stretch.specs.Stretch.{k7Stretch, exactStretch, countedSteps, Finishes, K7, StretchExact}
+use Rattle.rules.specs.Sequential.{Contents, noItems}
+use Rattle.rules.specs.Run.{Event}
+use Rattle.stretch.specs.Stretch.{k7Stretch, exactStretch, stretch, countedSteps, Finishes, K7, StretchExact}
 use Rattle.stretch.proofs.Types.{Settings}
 use Rattle.rules.proofs.counts.Sums.{times-pred}
 use Rattle.rules.proofs.machine.Good.{Good, good}
 use Rattle.rules.proofs.words.Made.{accepted}
-use Rattle.stretch.proofs.Past.{Reached, reached}
-use Rattle.stretch.proofs.Parts.{run-stretch}
+use Rattle.rules.proofs.Transfer.{made-whole, made-related}
+use Rattle.rules.proofs.BothKinds.{kindOf}
+use Rattle.rules.proofs.Course.{At, settingsAt, HoldsAt, Course, madeAt, course-take, course-drop, calls-course}
+use Rattle.stretch.proofs.Past.{goodAt, PastAt, past-kept, past-first}
 use Rattle.stretch.proofs.Within.{owedWorst, owedCalm, finishes-beyond}
 
 -- ---- the figures
@@ -54,18 +55,24 @@ module _ (g : Settings) (good : Good g) (kind : g .kind ≡ 0) where
       (λ e. one-worker (eqb-true _ _ e) (owedCalm g) _ _ (omega arith))
       (λ e. rw worst-is at (room (omega (arith, good .bounds .workers1, eqb-false (g .workers) 1 e))))
 
-  -- from any words that a new queue comes to
-  pub finishes-within : (limits : settingsFit g ≡ true) {ws : List ℕ} → Reached g good kind limits ws → (ds : List Call)
-      → exactStretch g < countedSteps (run (g .edition) ws ds) → Finishes (run (g .edition) ws ds)
-  finishes-within limits r ds many = finishes-beyond g good kind limits r ds (exactStretch g) with-a-put with-none many
-
 -- ---- the theorem
+module _ (g : Settings) (kind : g .kind ≡ 0) where
+  -- from any state that a new queue comes to
+  pub finishes-within : (x : At g) (q : Contents) → HoldsAt g x q → PastAt g kind x → {es : List Event} → Course g x es → exactStretch g < countedSteps es → Finishes es
+  finishes-within x q h past r many =
+      finishes-beyond g kind x q h past r (exactStretch g) (with-a-put (settingsAt g x) (goodAt g kind x) kind) (with-none (settingsAt g x) (goodAt g kind x) kind) many
+
+  -- every stretch of a run is one from such a state
+  pub stretches : (limits : settingsFit g ≡ true) {es : List Event} → Course g (madeAt g limits) es → (p m : ℕ) → exactStretch g < countedSteps (stretch p m es)
+      → Finishes (stretch p m es)
+  stretches limits course p m many =
+      let r = course-drop g (PastAt g kind) (past-kept g kind) (madeAt g limits) noItems (made-whole g limits (kindOf g limits)) (past-first g kind limits) course p in
+      finishes-within (r .start) (r .list) (r .holds) (r .so) (course-take g (r .course) m) many
+
 pub stretch-exact : StretchExact
-stretch-exact ws g cs made kind p m many =
+stretch-exact ws g cs made kind =
     let a = accepted ws g made in
-    let h = good g (a .limits) in
-    let is = run-stretch (g .edition) (makeOf ws g .words) cs p m in
-    rw is (finishes-within g h kind (a .limits) (reached g h kind (a .limits) ws a (take p cs)) (take m (drop p cs)) (rw is at many))
+    stretches g kind (a .limits) (calls-course g (madeAt g (a .limits)) (made-related g (a .limits) (kindOf g (a .limits)) ws a) cs)
 
 -- K7's figure is not below it
 pub exact-k7 : (g : Settings) → Good g → exactStretch g ≤ k7Stretch g

@@ -89,7 +89,7 @@ DispatchFinishes = DispatchWithin exactStretch
 abbrev pub DispatchK7 : Type 0
 DispatchK7 = DispatchWithin k7Stretch
 
--- ---- both over any moves between editions (K6): of the run, and of a dispatcher where the pool lies then
+-- ---- both over any moves between editions (K6, K8): of the run, and of a dispatcher where the pool lies then
 pub record OverMoves (most : Settings → ℕ) : Type 0 where
   pub stretches : OfEveryTurnaround (λ g ws xs. StretchesWithin g (most g) (runOver (here g ws) xs))
   pub dispatches : OfEveryTurnaround (λ g ws xs.

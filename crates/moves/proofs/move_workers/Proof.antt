@@ -23,7 +23,7 @@ move-worker-requires : tie.Need-move-worker-requires Inv-loop μ-loop
 move-worker-requires c κs =
     let s = c .before .before .before .before .before .before in
     let l = c .before .before .before .loop in
-    (record { bounds = s .pre .bounds; same = s .pre .same; source = s .pre .source; target = omega (arith, s .pre .target, l .inv .1) }, c .before .if1 .taken)
+    (record { bounds = s .pre .bounds; same = s .pre .same; source = s .pre .source; target = omega (arith, s .pre .target, l .inv .1); on = s .pre .on }, c .before .if1 .taken)
 
 add-i : tie.Need-add-i Inv-loop μ-loop
 add-i c = search needs

@@ -30,6 +30,7 @@ use mathlib.Core.Bool.{true, false}
 use Prim.Native.Nat.{ℕ, suc, _+_, _*_, _^_, _≤_, _<_}
 use native.Mathlib.Omega.{arith}
 use lib.Dec.{eqb}
+use Rattle.rules.specs.Full.{unsetPlaces}
 use Rattle.rules.specs.Measures.{seenSize}
 use Rattle.laws.specs.Choice.{cases, both, both-true}
 use Rattle.rules.specs.Limits.{deepest, mostLive, stepLimit, windowed, sizeFit}
@@ -146,10 +147,12 @@ pub record Safe (g : Settings) (s : State) : Type 0 where
   pub able : (i : ℕ) → numberOf (applyIn g s i (ruleOf g (viewIn g s i)) .answer) ≢ notFit
 
 -- ---- where a step answers "full"
--- each place of the windows after the take window is held; and where windows have no sizes of their own, there are so many of them as demand 3 says
+-- each place of the windows after the take window is held; where windows have no sizes of their own, or none was set, there are so many of them as demand 3 says, or
+-- as there is room for
 pub record FullAt (g : Settings) (s : State) : Type 0 where
   pub held : hasWindows g ≡ true → (k j r : ℕ) → s .frame .head < k → InLive (s .frame) k j r → (s .second j < r) × (r ≤ s .first j)
   pub own : hasWindows g ≡ false → leastBy g (placesIn g s) ≡ leastFull g
+  pub unset : hasWindows g ≡ true → s .set ≡ 0 → placesIn g s ≡ unsetPlaces g
 
 -- ---- how far worker i's operation is
 abbrev pub statusIn : Settings → State → ℕ → Status

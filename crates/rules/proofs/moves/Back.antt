@@ -3,26 +3,33 @@
 use Prim.Native.Nat.{ℕ, zero, suc, _+_, _-_, _*_, _≤_, _<_}
 use mathlib.Core.Path.{_≡_, refl, sym, ap, subst, _∙_}
 use mathlib.Core.Logic.{_≢_, inr}
+use mathlib.Core.Bool.{Bool, true, false}
 use mathlib.Core.List.{List}
 use native.Mathlib.Nat.{zero-add, mul-zero, mul-suc}
 use native.Mathlib.Decide.{ℕ-discrete, decLt}
 use native.Mathlib.Omega.{arith}
 use lib.ListN.{getD, length, length-set}
 use lib.Seq.{getD-set-same, getD-set-other, ext-getD, paste, length-paste}
+use lib.Dec.{leb, eqb}
 use borrow.Author.Tests.{lt-ltb, le-ltb}
-use Rattle.laws.specs.Choice.{cond}
+use Rattle.laws.specs.Choice.{cond, both-true}
 use Rattle.rules.specs.Answers.{out}
-use Rattle.rules.specs.Layout.{editionAt, settingsOf, workerWords, slotWords, lostWord, workersAt, workerAt, lostAt, cellWords, cellsAt, needed}
-use Rattle.rules.specs.Fit.{Fit, checkedOf}
-use Rattle.rules.specs.Make.{inEdition}
-use Rattle.rules.specs.Move.{wordIn, movedWords, moveOf}
+use Rattle.rules.specs.Layout.{editionAt, settingsOf, workerWords, slotWords, lostWord, bottomWord, workersAt, workerAt, lostAt, cellWords, cellsAt, needed}
+use Rattle.rules.specs.Limits.{mostLive}
+use Rattle.rules.specs.Windows.{hasWindows}
+use Rattle.rules.specs.Make.{shipped, inEdition}
+use Rattle.rules.specs.Move.{leads, mayMove, wordIn, ownLive, movedWords, moveOf}
 use Rattle.rules.specs.Untouched.{Beyond}
-use Rattle.rules.specs.Turnaround.{withoutCards, OldToNewToOld, NewToOldToNew}
+use Rattle.rules.specs.Turnaround.{Moved, withoutCards, OldToNewToOld, NewToOldToNew}
 use Rattle.rules.specs.declared.Answer.the-variants.{Moving}
 use Rattle.rules.proofs.Types.{Settings}
 use Rattle.rules.proofs.Workers.{word-lt, words-none, words-one, windows-none, read-low, worker-within, same-worker, lost-apart}
-use Rattle.rules.proofs.Fitness.{fit-pool, fit-head, fit-own}
-use Rattle.rules.proofs.moves.Moved.{copy-only, copied, head-word, edition-word, moved-word, cell-word, moved-beyond, moved-is, move-accepted, move-accepts}
+use Rattle.rules.proofs.machine.Slots.{has-none}
+use Rattle.rules.proofs.moves.Stores.{windowed-old}
+use Rattle.rules.proofs.moves.Only.{copy-only, copied}
+use Rattle.rules.proofs.moves.Words.{edition-word, moved-word}
+use Rattle.rules.proofs.moves.Fits.{Movable, source-pool, source-long, few-live}
+use Rattle.rules.proofs.moves.Moved.{new-zero, moved-is, move-accepted, move-accepts}
 
 -- ---- where a needed word lies
 data Part (g : Settings) (m : ℕ) : Type 0 where
@@ -48,9 +55,22 @@ part g m old l = elim (decLt m (workersAt g)) [
 ]
 
 -- ---- a pool moved on, and back again
-module _ (b : ℕ) (from : List ℕ) (g : Settings) (middle to : List ℕ)
-    (old : g .edition < 2) (new : b < 2)
-    (fit : checkedOf (g .edition) from ≡ Fit g) (on : needed (inEdition b g) ≤ length middle) (back : needed g ≤ length to) where
+-- a move that leads on leads back
+leads-back : (a b : ℕ) → leads a b ≡ true → leads b a ≡ true
+unfolding cond
+leads-back a b e =
+    let t = both-true (leb a shipped) _ e in
+    let r = both-true (leb b shipped) _ (t .1) in
+    rw (r .0, t .0) (by (eqb b (a + 1)) refl (eqb a (b + 1)) refl (r .1))
+  where
+    by : (x : Bool) → eqb b (a + 1) ≡ x → (y : Bool) → eqb a (b + 1) ≡ y → cond x true y ≡ true → cond y true x ≡ true
+    by true u true v z = refl
+    by true u false v z = refl
+    by false u true v z = refl
+    by false u false v z = z
+
+module _ (b : ℕ) (from : List ℕ) (g : Settings) (middle to : List ℕ) (old : g .edition < 2) (on : Movable b from g middle)
+    (back : needed g ≤ length to) (may : mayMove (movedWords from g middle (inEdition b g)) (inEdition b g) g ≡ true) where
   abbrev h : Settings
   h = inEdition b g
 
@@ -60,14 +80,23 @@ module _ (b : ℕ) (from : List ℕ) (g : Settings) (middle to : List ℕ)
   abbrev again : List ℕ
   again = movedWords there h to g
 
-  enough : needed g ≤ length from
-  enough = fit-pool (g .edition) from g fit .enough
+  there-is : Moved (g .edition) b from g middle there
+  there-is = moved-is b from g middle on
 
-  enough-there : needed h ≤ length there
-  enough-there = moved-is b from g middle old new fit on .pool .enough-two
+  movable-back : Movable (g .edition) there h to
+  movable-back = record { fit = there-is .fit-after; leads-on = leads-back (g .edition) b (on .leads-on); may = may; long = back }
 
   goes-back : moveOf b (g .edition) there to ≡ out Moving again
-  goes-back = move-accepts b (g .edition) there to h new old (moved-is b from g middle old new fit on .fit-after) back
+  goes-back = move-accepts (g .edition) there h to movable-back
+
+  again-is-moved : Moved b (g .edition) there h to again
+  again-is-moved = moved-is (g .edition) there h to movable-back
+
+  enough-there : needed h ≤ length there
+  enough-there = source-long (g .edition) there h to movable-back
+
+  few-there : hasWindows g ≡ true → ownLive there h ≤ mostLive
+  few-there = few-live (g .edition) there h to movable-back
 
   -- the words of a list that has at each place what is there after both moves
   module _ (ws : List ℕ) (long : needed g ≤ length ws)
@@ -78,14 +107,14 @@ module _ (b : ℕ) (from : List ℕ) (g : Settings) (middle to : List ℕ)
     at-part m (in-head l) = elim (ℕ-discrete m editionAt) [
       | yes y ↦
           rw y
-          (edition-word there h to (g .edition) enough-there back
-          ∙ sym (ap (λ (f : Settings). f .edition) (fit-pool (g .edition) from g fit .settings))
+          (edition-word there h to (g .edition) enough-there back few-there
+          ∙ sym (ap (λ (f : Settings). f .edition) (source-pool b from g middle on .settings))
           ∙ sym (head editionAt (omega arith)))
-      | no n ↦ head-word there h to (g .edition) enough-there back m l n ∙ head-word from g middle b enough on m l n ∙ sym (head m l)
+      | no n ↦ again-is-moved .head m l n ∙ there-is .head m l n ∙ sym (head m l)
     ]
-    at-part m (in-worker i k l a e) = rw e (moved-word there h to (g .edition) enough-there back i k l a ∙ sym (word i k l a))
+    at-part m (in-worker i k l a e) = rw e (moved-word there h to (g .edition) enough-there back few-there i k l a ∙ sym (word i k l a))
     at-part m (in-cells n l e) =
-        rw e (cell-word there h to (g .edition) enough-there back n l ∙ cell-word from g middle b enough on n l ∙ sym (cell n l))
+        rw e (again-is-moved .cell n l ∙ there-is .cell n l ∙ sym (cell n l))
 
     again-is : again ≡ paste to 0 ws (needed g)
     again-is =
@@ -95,34 +124,38 @@ module _ (b : ℕ) (from : List ℕ) (g : Settings) (middle to : List ℕ)
         ])
       where
         beyond : Beyond (needed g) to again
-        beyond = moved-beyond there h to (g .edition) enough-there back
+        beyond = again-is-moved .beyond
 
-    there-and-back : moveOf b (g .edition) there to ≡ out Moving (paste to 0 ws (needed g))
+    pub there-and-back : moveOf b (g .edition) there to ≡ out Moving (paste to 0 ws (needed g))
     there-and-back = goes-back ∙ ap (out Moving) again-is
 
 -- what the pool that was moved on has of a worker, where the editions have it
-word-kept : (b : ℕ) (from : List ℕ) (g : Settings) (middle : List ℕ) (old : g .edition < 2) (new : b < 2)
-    (fit : checkedOf (g .edition) from ≡ Fit g) → needed (inEdition b g) ≤ length middle
+pub word-kept : (b : ℕ) (from : List ℕ) (g : Settings) (middle : List ℕ) → Movable b from g middle
     → (i k : ℕ) → i < g .workers → k < workerWords (g .edition) → k < workerWords b
     → wordIn (movedWords from g middle (inEdition b g)) (inEdition b g) i k ≡ getD from (workerAt g i + k) 0
 unfolding cond
-word-kept b from g middle old new fit on i k l a z = rw (lt-ltb k (workerWords b) z) (moved-is b from g middle old new fit on .kept i k l a z)
+word-kept b from g middle on i k l a z = rw (lt-ltb k (workerWords b) z) (moved-is b from g middle on .kept i k l a z)
 
--- and where the one between has not
-word-dropped : (from : List ℕ) (h : Settings) (i k : ℕ) → workerWords (h .edition) ≤ k → wordIn from h i k ≡ 0
+-- and where the one between has not: a card
+word-dropped : (from : List ℕ) (h : Settings) (i k : ℕ) → workerWords (h .edition) ≤ k → k < bottomWord → wordIn from h i k ≡ 0
 unfolding cond
-word-dropped from h i k l = rw (le-ltb k (workerWords (h .edition)) l) refl
+word-dropped from h i k l z = rw (le-ltb k (workerWords (h .edition)) l) (new-zero h _ k z)
+
+-- between editions without windows of their own sizes every fit pool moves
+may-low : (from : List ℕ) (g h : Settings) → g .edition < 2 → h .edition < 2 → mayMove from g h ≡ true
+unfolding mayMove cond
+may-low from g h old new = rw (has-none h (windowed-old h new), has-none g (windowed-old g old)) refl
 
 pub old-to-new-to-old : OldToNewToOld
 old-to-new-to-old from middle to none long =
     let w = move-accepted 0 1 from middle none in
     let g = settingsOf from in
-    let fit = fit-own 0 from g (w .fit) in
-    let zero : g .edition ≡ 0 = fit-head 0 from g (w .fit) .1 in
-    let few = words-none (g .edition) zero in
+    let on = w .movable in
+    let zero : g .edition ≡ 0 = w .edition in
     let old : g .edition < 2 = omega arith in
-    let same = there-and-back 1 from g middle to old (omega arith) fit (w .long) long from (fit-pool 0 from g (w .fit) .enough) (λ m l. refl)
-    (λ i k l a. sym (word-kept 1 from g middle old (omega arith) fit (w .long) i k l a (word-lt 1 k (omega arith)))) (λ m l. refl) in
+    let few = words-none (g .edition) zero in
+    let same = there-and-back 1 from g middle to old on long (may-low _ (inEdition 1 g) g (omega arith) old) from (source-long 1 from g middle on) (λ m l. refl)
+    (λ i k l a. sym (word-kept 1 from g middle on i k l a (word-lt 1 k (omega arith)))) (λ m l. refl) in
     rw (w .is) (subst (λ (a : ℕ). moveOf 1 a (movedWords from g middle (inEdition 1 g)) to ≡ out Moving (paste to 0 from (needed g))) zero same)
 
 -- ---- without cards
@@ -153,12 +186,12 @@ pub new-to-old-to-new : NewToOldToNew
 new-to-old-to-new from middle to none long =
     let w = move-accepted 1 0 from middle none in
     let g = settingsOf from in
-    let fit = fit-own 1 from g (w .fit) in
-    let one : g .edition ≡ 1 = fit-head 1 from g (w .fit) .1 in
+    let on = w .movable in
+    let one : g .edition ≡ 1 = w .edition in
     let old : g .edition < 2 = omega arith in
     let nine = words-one (g .edition) one in
     let eight = words-none 0 refl in
-    let enough = fit-pool 1 from g (w .fit) .enough in
+    let enough = source-long 0 from g middle on in
     let cards : lostWord < workerWords (g .edition) = omega arith in
     let there = movedWords from g middle (inEdition 0 g) in
     let ws = withoutCards from g (g .workers) in
@@ -166,12 +199,12 @@ new-to-old-to-new from middle to none long =
     λ i k l a. elim (decLt k slotWords) [
       | yes y ↦
           without-off from g cards (g .workers) _ (λ j m. lost-apart g j i k cards (read-low (g .edition) k y))
-          ∙ sym (word-kept 0 from g middle old (omega arith) fit (w .long) i k l a (omega arith))
+          ∙ sym (word-kept 0 from g middle on i k l a (omega arith))
       | no z ↦
           let last : k ≡ lostWord = omega arith in
-          rw last (without-on from g cards (g .workers) i (omega arith) l (omega arith) ∙ sym (word-dropped there (inEdition 0 g) i lostWord (omega arith)))
+          rw last (without-on from g cards (g .workers) i (omega arith) l (omega arith) ∙ sym (word-dropped there (inEdition 0 g) i lostWord (omega arith) (omega arith)))
     ] in
-    let same = there-and-back 0 from g middle to old (omega arith) fit (w .long) long ws (rw (without-long from g cards (g .workers)) enough)
+    let same = there-and-back 0 from g middle to old on long (may-low _ (inEdition 0 g) g (omega arith) old) ws (rw (without-long from g cards (g .workers)) enough)
     (λ m l. without-off from g cards (g .workers) m (λ i a u. omega arith)) word
     (λ m l. without-off from g cards (g .workers) _ (λ i a u. omega (arith, worker-within g i a))) in
     rw (w .is) (subst (λ (a : ℕ). moveOf 0 a there to ≡ out Moving (paste to 0 ws (needed g))) one same)

@@ -1,89 +1,64 @@
 -- Over any number of moves: after each the pool is the one that never moved, in another area, so that it stays in step with it. The run is then that
 -- pool's, and demand 3 of the one is demand 3 of the other.
 use Prim.Native.Nat.{ℕ, _<_}
-use mathlib.Core.Path.{_≡_, refl, sym, subst}
+use mathlib.Core.Path.{_≡_, refl, sym, ap, subst}
 use mathlib.Core.List.{List, [], _∷_}
 use native.Mathlib.Omega.{arith}
 use lib.Dec.{eqb}
 use borrow.Author.Tests.{eqb-true}
 use Rattle.laws.specs.Choice.{cases}
 use Rattle.rules.specs.Answers.{numberOf}
-use Rattle.rules.specs.Layout.{stepsAt, settingsOf}
-use Rattle.rules.specs.Run.{begin, callOf, run}
-use Rattle.rules.specs.Sequential.{Operation, demand3Rows}
-use Rattle.rules.specs.Statement.{OneAtATimeWithin}
+use Rattle.rules.specs.Layout.{settingsOf}
+use Rattle.rules.specs.Run.{callOf, run}
+use Rattle.rules.specs.Statement.{All}
 use Rattle.rules.specs.Consequences.{wordsAfter}
-use Rattle.rules.specs.Solo.{k3Steps, soloSteps, SoloWithin}
 use Rattle.rules.specs.Make.{makeOf, inEdition}
 use Rattle.rules.specs.Move.{moveOf}
-use Rattle.rules.specs.Turnaround.{SamePool, OperationsGoOn, Act, call, move, Place, here, placeAfter, placeOver, callsIn, runOver, Unseen, MovesUnseen, RunsOverMoves, Demand3OverMoves, NothingLostOverMoves, SoloOverMoves, K3OverMoves}
+use Rattle.rules.specs.Turnaround.{SamePool, OperationsGoOn, Act, call, move, Low, Place, here, placeAfter, placeOver, callsIn, runOver, Unseen, MovesUnseen, RunsOverMoves}
 use Rattle.rules.proofs.Types.{Settings}
 use Rattle.rules.proofs.Fitness.{fit-pool}
 use Rattle.rules.proofs.words.Made.{accepted, made-says}
-use Rattle.rules.proofs.Theorem.{demand3}
-use Rattle.rules.proofs.Corollaries.{nothing-lost}
-use Rattle.rules.proofs.progress.Theorem.{k3, solo-exact}
 use Rattle.rules.proofs.moves.Stores.{itself, joined}
-use Rattle.rules.proofs.moves.InStep.{call-both, event-both, in-step, same-items}
-use Rattle.rules.proofs.moves.Moved.{move-does}
+use Rattle.rules.proofs.moves.InStep.{call-both, event-both, in-step}
+use Rattle.rules.proofs.moves.Moved.{move-accepted, move-does}
 
 pub operations-go-on : OperationsGoOn
-operations-go-on a b from to cs none = in-step (settingsOf from) b from _ cs (move-does a b from to none .pool)
+operations-go-on a b from to cs old new none = in-step (settingsOf from) b from _ cs (move-does a b from to none .pool old new)
 
--- a move to another place leaves it the same
-moved-on : (g : Settings) (ws : List ℕ) (p : Place) (a b : ℕ) (area : List ℕ) → SamePool g ws (inEdition (p .edition) g) (p .words)
+-- a move to another place leaves it the same: it is from the edition that the pool is of
+moved-on : (g : Settings) (ws : List ℕ) (p : Place) (a b : ℕ) (area : List ℕ) → b < 2 → SamePool g ws (inEdition (p .edition) g) (p .words)
     → numberOf (moveOf a b (p .words) area .answer) ≡ 0 → SamePool g ws (inEdition b g) (moveOf a b (p .words) area .words)
-moved-on g ws p a b area pool none =
+moved-on g ws p a b area new pool none =
+    let own : settingsOf (p .words) .edition ≡ a = move-accepted a b (p .words) area none .edition in
+    let here : settingsOf (p .words) .edition ≡ p .edition = ap (λ (h : Settings). h .edition) (pool .settings-two) in
     joined g (p .edition) b pool
-    (subst (λ (h : Settings). SamePool h (p .words) (inEdition b h) (moveOf a b (p .words) area .words)) (pool .settings-two) (move-does a b (p .words) area none .pool))
+    (subst (λ (h : Settings). SamePool h (p .words) (inEdition b h) (moveOf a b (p .words) area .words)) (pool .settings-two)
+    (move-does a b (p .words) area none .pool (omega (arith, pool .old-two)) new))
 
-follows : (g : Settings) (ws : List ℕ) (p : Place) (xs : List Act) → SamePool g ws (inEdition (p .edition) g) (p .words) → Unseen g ws p xs
+follows : (g : Settings) (ws : List ℕ) (p : Place) (xs : List Act) → All Low xs → SamePool g ws (inEdition (p .edition) g) (p .words) → Unseen g ws p xs
 unfolding runOver placeOver callsIn run wordsAfter
-follows g ws p [] pool = record { answers = refl; ends = pool }
-follows g ws p (call c ∷ xs) pool =
+follows g ws p [] low pool = record { answers = refl; ends = pool }
+follows g ws p (call c ∷ xs) low pool =
     let b = call-both g (p .edition) ws (p .words) pool c in
-    let rest = follows g (callOf (g .edition) ws c .words) (placeAfter p (call c)) xs (b .later) in
+    let rest = follows g (callOf (g .edition) ws c .words) (placeAfter p (call c)) xs (low .1) (b .later) in
     record { answers = λ u. event-both g (p .edition) ws (p .words) pool c u ∷ rest .answers u; ends = rest .ends }
-follows g ws p (move a b area ∷ xs) pool =
+follows g ws p (move a b area ∷ xs) low pool =
     let o = moveOf a b (p .words) area in
-    let rest = follows g ws (placeAfter p (move a b area)) xs
+    let rest = follows g ws (placeAfter p (move a b area)) xs (low .1)
     (cases (λ (q : Place). SamePool g ws (inEdition (q .edition) g) (q .words)) (eqb (numberOf (o .answer)) 0) (record { edition = b; words = o .words }) p
-    (λ t. moved-on g ws p a b area pool (eqb-true _ _ t)) (λ t. pool)) in
+    (λ t. moved-on g ws p a b area (low .0) pool (eqb-true _ _ t)) (λ t. pool)) in
     record { answers = rest .answers; ends = rest .ends }
 
 pub moves-unseen : MovesUnseen
-moves-unseen g ws xs old fit = let pool = fit-pool (g .edition) ws g fit in follows g ws (here g ws) xs (itself g old (pool .settings) (pool .enough))
+moves-unseen g ws xs old low fit = let pool = fit-pool (g .edition) ws g fit in follows g ws (here g ws) xs low (itself g old (pool .settings) (pool .enough))
 
 -- ---- from make on
-pub from-make : (ws : List ℕ) (g : Settings) (xs : List Act) → g .edition < 2 → numberOf (makeOf ws g .answer) ≡ 0 → Unseen g (makeOf ws g .words) (here g (makeOf ws g .words)) xs
-from-make ws g xs old made =
+pub from-make : (ws : List ℕ) (g : Settings) (xs : List Act) → g .edition < 2 → All Low xs → numberOf (makeOf ws g .answer) ≡ 0
+    → Unseen g (makeOf ws g .words) (here g (makeOf ws g .words)) xs
+from-make ws g xs old low made =
     let a = accepted ws g made in
     let says = made-says ws g (a .enough) in
-    follows g _ (here g (makeOf ws g .words)) xs (itself g old (rw (a .words) (says .settings)) (rw (a .words) (says .long)))
+    follows g _ (here g (makeOf ws g .words)) xs low (itself g old (rw (a .words) (says .settings)) (rw (a .words) (says .long)))
 
 pub runs-over-moves : RunsOverMoves
-runs-over-moves P holds ws g xs old made = subst (P g) (sym (from-make ws g xs old made .answers)) (holds ws g (callsIn xs) made)
-
-pub demand3-over-moves : Demand3OverMoves
-demand3-over-moves = runs-over-moves (λ g. OneAtATimeWithin (demand3Rows g) g) demand3
-
-pub nothing-lost-over-moves : NothingLostOverMoves
-nothing-lost-over-moves ws g xs old made p =
-    let f = from-make ws g xs old made in
-    rw (f .answers, same-items g _ _ _ (f .ends) (accepted ws g made .limits)) (nothing-lost ws g (callsIn xs) made p)
-
--- after the begin it is the pool that never moved, after the same begin
-solo-over-moves : (most : Settings → Operation → ℕ) → SoloWithin most → SoloOverMoves most
-solo-over-moves most within ws g xs old made i o ys begun solo =
-    let f = from-make ws g xs old made in
-    let p = placeOver (here g (makeOf ws g .words)) xs in
-    let vs = wordsAfter (g .edition) (makeOf ws g .words) (callsIn xs) in
-    let b = call-both g (p .edition) vs (p .words) (f .ends) (begin i o) in
-    let run-is = follows g (callOf (g .edition) vs (begin i o) .words) (placeAfter p (call (begin i o))) ys (b .later) .answers in
-    let steps = f .ends .head stepsAt (omega arith) (λ u. omega arith) in
-    rw run-is (within ws g (callsIn xs) made i o (callsIn ys)
-    (record { accepted = rw (b .answer) at (begun .accepted); enough = rw steps at (begun .enough) })
-    (rw run-is at solo))
-
-pub k3-over-moves : K3OverMoves
-k3-over-moves = (solo-over-moves k3Steps k3, solo-over-moves soloSteps solo-exact)
+runs-over-moves P holds ws g xs old low made = subst (P g) (sym (from-make ws g xs old low made .answers)) (holds ws g (callsIn xs) made)

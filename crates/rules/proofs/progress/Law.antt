@@ -44,11 +44,11 @@ module _ (g : Settings) (good : Good g) (kind : g .kind ≡ 0) where
   pub twice : g .width < 2 * g .width
   twice = omega (arith, good .bounds .width1)
 
-  queue-begins : (s : State) (index : ℕ) (side : Side) → queueLeft g (2 * g .width) s (queueBegun g side) index (Window side)
+  pub queue-begins : (s : State) (index : ℕ) (side : Side) → queueLeft g (2 * g .width) s (queueBegun g side) index (Window side)
   queue-begins s index Putting = PutWindow.any (le-refl _)
   queue-begins s index Taking = TakeWindow.any (le-refl _)
 
-  pub queueSolo : SoloLaw g (queueKind g good kind) (queueBegun g)
+  unfoldable pub queueSolo : SoloLaw g (queueKind g good kind) (queueBegun g)
   unfolding queueKind
   queueSolo =
       record {
@@ -65,7 +65,7 @@ abbrev pub stackBegun : Settings → Side → ℕ
 stackBegun g side = due (g .width) (stackBase g) 2
 
 module _ (g : Settings) (good : Good g) (kind : g .kind ≡ 1) where
-  stack-by : (s : State) (q : Contents) → Common g s → StackInv g s q → (i n : ℕ) (p : Phase) → phaseIn g s i ≡ p → stackLeft g s n (subIn s i) p
+  pub stack-by : (s : State) (q : Contents) → Common g s → StackInv g s q → (i n : ℕ) (p : Phase) → phaseIn g s i ≡ p → stackLeft g s n (subIn s i) p
       → Result g (stackLeft g) s i n (applyIn g s i (ruleBy g (viewIn g s i) p))
   unfolding ruleBy
   stack-by s q common inv i n Idle now x = absurd x
@@ -81,7 +81,7 @@ module _ (g : Settings) (good : Good g) (kind : g .kind ≡ 1) where
   stack-by s q common inv i n (QueueConfirm window scan sum) now x = absurd x
   stack-by s q common inv i n (StackConfirm side scan sum) now x = stack-confirm g good kind s q common inv i n side scan sum now x
 
-  stack-begins : (s : State) (q : Contents) → StackInv g s q → (index : ℕ) (side : Side) → stackLeft g s (stackBegun g side) index (Window side)
+  pub stack-begins : (s : State) (q : Contents) → StackInv g s q → (index : ℕ) (side : Side) → stackLeft g s (stackBegun g side) index (Window side)
   stack-begins s q inv index Putting =
       record {
         shifts = 2;
@@ -95,7 +95,7 @@ module _ (g : Settings) (good : Good g) (kind : g .kind ≡ 1) where
         left = le-refl _;
       }
 
-  pub stackSolo : SoloLaw g (stackKind g good kind) (stackBegun g)
+  unfoldable pub stackSolo : SoloLaw g (stackKind g good kind) (stackBegun g)
   unfolding stackKind ruleOf
   stackSolo =
       record {

@@ -1,29 +1,29 @@
 -- K3: a worker left by itself ends its operation within w + 5 steps (a queue's put), 3w + 3 (a queue's take), or the greater of 2w + 8 and
 -- 3w + 4 (a stack's put or take), and so within 3w + 8.
 use mathlib.Core.Path.{_≡_, refl}
-use mathlib.Core.Bool.{true}
 use mathlib.Core.List.{List}
 use Prim.Native.Nat.{ℕ, suc, _+_, _*_, _≤_}
+use native.Mathlib.Decide.{ℕ-discrete}
 use native.Mathlib.Omega.{arith}
 use lib.ListN.{replicate}
 use lib.Dec.{eqb}
 use borrow.Author.Tests.{eqb-true, eqb-false}
 use Rattle.laws.specs.Choice.{cases}
-use Rattle.rules.specs.Limits.{settingsFit}
-use Rattle.rules.specs.Make.{makeOf}
+use Rattle.rules.specs.Answers.{numberOf}
+use Rattle.rules.specs.Limits.{stepLimit}
+use Rattle.rules.specs.Make.{makeOf, inEdition}
 use Rattle.rules.specs.Sequential.{Operation, putting, taking}
-use Rattle.rules.specs.Run.{Call, beginPut, beginTake, step, begin, callOf, run}
+use Rattle.rules.specs.Run.{Call, beginPut, beginTake, step, begin, callOf, Event, run}
 use Rattle.rules.specs.Consequences.{wordsAfter}
 use Rattle.rules.specs.Solo.{k3Steps, queueSteps, stackSteps, soloSteps, Begun, afterBegin, Solo, EndsWithin, SoloWithin, K3, SoloExact, PlainWithin, PlainK3, PlainExact}
 use Rattle.rules.proofs.Types.{Settings, Side, Putting, Taking}
-use Rattle.rules.proofs.machine.Machine.{State, nextIn}
-use Rattle.rules.proofs.machine.Good.{good}
-use Rattle.rules.proofs.machine.Turns.{Kind}
-use Rattle.rules.proofs.queue.Turn.{queueKind}
-use Rattle.rules.proofs.stack.Turn.{stackKind}
-use Rattle.rules.proofs.words.Made.{Accepted, accepted}
-use Rattle.rules.proofs.Transfer.{Related, made-related, related-after}
-use Rattle.rules.proofs.progress.Law.{SoloLaw, queueBegun, queueSolo, stackBegun, stackSolo}
+use Rattle.rules.proofs.machine.Machine.{nextIn}
+use Rattle.rules.proofs.BothKinds.{kindOf}
+use Rattle.rules.proofs.words.Made.{accepted}
+use Rattle.rules.proofs.Transfer.{Related, next-related, made-related, related-after}
+use Rattle.rules.proofs.Course.{At, settingsAt, kindAt, nextAt, Course, calls-course}
+use Rattle.rules.proofs.progress.Law.{queueBegun, stackBegun}
+use Rattle.rules.proofs.progress.Moved.{begunBy, begunOf}
 use Rattle.rules.proofs.progress.Solo.{begun-ends}
 use Rattle.rules.proofs.progress.Forms.{by-position, ends-later, plain, steps-length, steps-own, steps-before, steps-solo}
 
@@ -38,19 +38,6 @@ EndsSolo ed n ws i o ds = Begun ed ws i o n → Solo i (afterBegin ed ws i o ds)
 later : (ed n m : ℕ) → n ≤ m → (ws : List ℕ) (i : ℕ) (o : Operation) (ds : List Call) → EndsSolo ed n ws i o ds → EndsSolo ed m ws i o ds
 later ed n m l ws i o ds ends b solo = ends-later l (ends (record { accepted = b .accepted; enough = omega (arith, b .enough) }) solo)
 
-module _ (g : Settings) (limits : settingsFit g ≡ true) (k : Kind g) {most : Side → ℕ} (law : SoloLaw g k most) where
-  -- a figure that is not below what a begin leaves, and its final step
-  ends-solo : {ws : List ℕ} {s : State} → Related g limits k ws s → (i : ℕ) (o : Operation) (ds : List Call) (n : ℕ) → suc (most (sideOf o)) ≤ n → EndsSolo (g .edition) n ws i o ds
-  unfolding nextIn
-  ends-solo {ws} r i (putting v) ds n l =
-      later (g .edition) (suc (most Putting)) n l ws i (putting v) ds (λ b solo. by-position (begun-ends g k law limits r i Putting v (beginPut i v) refl (b .accepted) (b .enough) ds solo))
-  ends-solo {ws} r i taking ds n l =
-      later (g .edition) (suc (most Taking)) n l ws i taking ds (λ b solo. by-position (begun-ends g k law limits r i Taking 0 (beginTake i) refl (b .accepted) (b .enough) ds solo))
-
-  made-solo : (ws : List ℕ) → Accepted ws g → (cs : List Call) (i : ℕ) (o : Operation) (ds : List Call) (n : ℕ) → suc (most (sideOf o)) ≤ n
-      → EndsSolo (g .edition) n (wordsAfter (g .edition) (makeOf ws g .words) cs) i o ds
-  made-solo ws a cs = ends-solo (related-after g limits k (made-related g limits k ws a) cs .related)
-
 -- the figures are one more than what a begin leaves
 queue-figure : (g : Settings) (o : Operation) → suc (queueBegun g (sideOf o)) ≤ queueSteps g o
 queue-figure g (putting v) = omega arith
@@ -59,18 +46,54 @@ queue-figure g taking = omega arith
 stack-figure : (g : Settings) (o : Operation) → suc (stackBegun g (sideOf o)) ≤ stackSteps g
 stack-figure g o = omega arith
 
+figure : (g : Settings) (o : Operation) → suc (begunOf g (sideOf o)) ≤ soloSteps g o
+unfolding begunBy
+figure g o = by (ℕ-discrete (g .kind) 0)
+  where
+    by : (d : Dec (g .kind ≡ 0)) → suc (begunBy g d (sideOf o)) ≤ soloSteps g o
+    by (yes e) = cases (λ (n : ℕ). suc (queueBegun g (sideOf o)) ≤ n) (eqb (g .kind) 0) _ _ (λ t. queue-figure g o) (λ t. absurd (eqb-false _ _ t e))
+    by (no n) = cases (λ (m : ℕ). suc (stackBegun g (sideOf o)) ≤ m) (eqb (g .kind) 0) _ _ (λ t. absurd (n (eqb-true _ _ t))) (λ t. stack-figure g o)
+
+-- it asks for no edition
+steps-same : (g : Settings) (e : ℕ) (o : Operation) → soloSteps (inEdition e g) o ≡ soloSteps g o
+steps-same g e (putting v) = refl
+steps-same g e taking = refl
+
+-- ---- from any place of a pool's course: after a begin there, with so many steps left in the step count
+module _ (g : Settings) (x : At g) {ws : List ℕ} (r : Related (settingsAt g x) (x .limits) (kindAt g x) ws (x .state)) (i : ℕ) where
+  abbrev h : Settings
+  h = settingsAt g x
+
+  module _ (o : Operation) (b : Begun (x .edition) ws i o (soloSteps g o)) where
+    most : suc (begunOf h (sideOf o)) ≤ soloSteps g o
+    most = rw (steps-same g (x .edition) o) at (figure h o)
+
+    accepted-in : numberOf (nextIn h (x .state) (begin i o) .answer) ≡ 0
+    accepted-in = rw (next-related h (x .limits) (kindAt g x) r (begin i o) .answer) at (b .accepted)
+
+    enough-in : x .state .steps + suc (begunOf h (sideOf o)) ≤ stepLimit
+    enough-in = omega (arith, most, b .enough, r .says .steps)
+
+  pub ends-solo : (o : Operation) → Begun (x .edition) ws i o (soloSteps g o) → {es : List Event} → Course g (nextAt g x (begin i o) .state) es → Solo i es
+      → EndsWithin i (soloSteps g o) es
+  unfolding nextIn
+  ends-solo (putting v) b course solo =
+      ends-later (most (putting v) b)
+      (by-position (begun-ends g x (r .list) (r .whole) i Putting v (beginPut i v) refl (accepted-in (putting v) b) (enough-in (putting v) b) course solo))
+  ends-solo taking b course solo =
+      ends-later (most taking b)
+      (by-position (begun-ends g x (r .list) (r .whole) i Taking 0 (beginTake i) refl (accepted-in taking b) (enough-in taking b) course solo))
+
 pub solo-exact : SoloExact
-solo-exact ws g cs made i o ds =
+solo-exact ws g cs made i o ds b solo =
     let a = accepted ws g made in
-    let h = good g (a .limits) in
-    cases (λ (n : ℕ). EndsSolo (g .edition) n (wordsAfter (g .edition) (makeOf ws g .words) cs) i o ds) (eqb (g .kind) 0) (queueSteps g o) (stackSteps g)
-    (λ e. made-solo g (a .limits) (queueKind g h (eqb-true _ _ e)) (queueSolo g h (eqb-true _ _ e)) ws a cs i o ds (queueSteps g o) (queue-figure g o))
-    (λ e.
-    let one : g .kind ≡ 1 = omega (arith, h .bounds .kind1, eqb-false (g .kind) 0 e) in
-    made-solo g (a .limits) (stackKind g h one) (stackSolo g h one) ws a cs i o ds (stackSteps g) (stack-figure g o))
+    let k = kindOf g (a .limits) in
+    let there = related-after g (a .limits) k (made-related g (a .limits) k ws a) cs in
+    let x : At g = record { edition = g .edition; limits = a .limits; state = there .state } in
+    ends-solo g x (there .related) i o b (calls-course g (nextAt g x (begin i o) .state) (next-related g (a .limits) k (there .related) (begin i o) .related) ds) solo
 
 -- each figure is within 3w + 8
-exact-k3 : (g : Settings) (o : Operation) → soloSteps g o ≤ k3Steps g o
+pub exact-k3 : (g : Settings) (o : Operation) → soloSteps g o ≤ k3Steps g o
 exact-k3 g o = cases (λ n. n ≤ 3 * g .width + 8) (eqb (g .kind) 0) (queueSteps g o) (stackSteps g) (λ e. queue o) (λ e. omega arith)
   where
     queue : (p : Operation) → queueSteps g p ≤ 3 * g .width + 8

@@ -1,15 +1,18 @@
 -- "Full": at a shift of the put window that can't move up, every place in the windows after the take window holds an item, so the
--- list has at least as many items as those places are.
+-- list has at least as many items as those places are; and how many they are where no size was set.
 use mathlib.Core.Path.{_≡_, refl, ap, _∙_}
+use mathlib.Core.Logic.{_⊎_, inl, inr}
 use mathlib.Core.Bool.{Bool, true, false, _&&_}
-use Prim.Native.Nat.{ℕ, zero, suc, _+_, _-_, _*_, _≤_, _<_}
-use native.Mathlib.Nat.{le-refl, add-sub-of-le}
+use Prim.Native.Nat.{ℕ, zero, suc, _+_, _-_, _*_, _/_, _%_, _≤_, _<_}
+use native.Mathlib.Nat.{le-refl, add-sub-of-le, lt-of-mul-lt-mul-right, mod-lt, div-add-mod'}
 use native.Mathlib.Decide.{decLt, ℕ-discrete}
 use native.Mathlib.Omega.{arith}
 use lib.Dec.{ltb}
 use lib.ListN.{length}
 use borrow.Author.Tests.{lt-ltb, le-ltb}
-use Rattle.rules.specs.Limits.{windowed}
+use Rattle.rules.specs.Limits.{windowed, mostLive}
+use Rattle.rules.specs.Windows.{lower}
+use Rattle.rules.specs.Full.{unsetPlaces}
 use Rattle.rules.specs.Sequential.{Contents}
 use Rattle.rules.proofs.Types.{Settings}
 use Rattle.rules.proofs.counts.Sums.{sumN, sum-ext, sum-none, sum-more, sum-zero, sum-same, upTo, rows-more, rows-all, rows-flat}
@@ -154,15 +157,19 @@ times-less a b d l =
     let e : (a + (b - a)) * d ≡ b * d = ap (λ (n : ℕ). n * d) (add-sub-of-le l) in
     omega arith
 
-module _ {g : Settings} {s : State} {q : Contents} (o : Pool g s q) (before : windowed g ≡ false) where
-  z : Old g (s .set)
-  z = o .old before
-
+-- where no size was set, all windows have the pool's
+module _ {g : Settings} {s : State} {q : Contents} (o : Pool g s q) (unset : s .set ≡ 0) where
   abbrev fr : Frame
   fr = s .frame
 
   p : Plain g fr (s .next) (s .first) (s .puts)
-  p = o .plain (z .not-set)
+  p = o .plain unset
+
+  top-is : topOf fr ≡ suc (fr .tail) * g .depth
+  top-is = p .base-is (suc (fr .tail)) (le-refl _)
+
+  bottom-is : fr .base (fr .head) ≡ fr .head * g .depth
+  bottom-is = p .base-is (fr .head) (omega (arith, o .windows .order))
 
   -- each window after the take window has w × d places
   pub places-are : placesAfter (s .frame) ≡ (fr .tail - fr .head) * (g .width * g .depth)
@@ -174,17 +181,71 @@ module _ {g : Settings} {s : State} {q : Contents} (o : Pool g s q) (before : wi
       let b : fr .base (suc k) - fr .base k ≡ g .depth = omega (arith, p .base-is k (omega arith), p .base-is (suc k) (omega arith)) in
       rw (a, b) refl)
 
-  -- R and the windows are multiples of the depth, so the live windows take up all R rows
-  pub places-old : g .rows < topOf fr + s .next .depth - fr .base (fr .head) → placesAfter (s .frame) ≡ g .width * (g .rows - g .depth)
-  places-old full =
-      let top-is : topOf fr ≡ suc (fr .tail) * g .depth = p .base-is (suc (fr .tail)) (le-refl _) in
-      let bottom-is : fr .base (fr .head) ≡ fr .head * g .depth = p .base-is (fr .head) (omega (arith, o .windows .order)) in
-      let m : (fr .head + z .times) * g .depth ≤ suc (fr .tail) * g .depth =
-      multiple-le (fr .head + z .times) (suc (fr .tail)) (g .depth) (omega (arith, top-is, bottom-is, z .rows-is, p .next-deep)) in
-      let n : ℕ = fr .tail - fr .head in
-      let n-rows : n * g .depth + fr .head * g .depth ≡ fr .tail * g .depth = times-less (fr .head) (fr .tail) (g .depth) (o .windows .order) in
-      let rows-are : n * g .depth ≡ g .rows - g .depth = omega (arith, z .rows-is, top-is, bottom-is, o .windows .room) in
-      places-are ∙ swap n (g .width) (g .depth) ∙ ap (λ (r : ℕ). g .width * r) rows-are
+  swap : (a b c : ℕ) → a * (b * c) ≡ b * (c * a)
+  swap a b c = omega arith
+
+  -- the put window can't move up where the rows are used up or all pairs are: then as many windows are live as R has room for, or 16
+  pub places-unset : 1 ≤ g .depth → windowed g ≡ true → (g .rows < topOf fr + s .next .depth - fr .base (fr .head)) ⊎ (mostLive ≤ suc (fr .tail) - fr .head)
+      → placesAfter (s .frame) ≡ unsetPlaces g
+  places-unset deep one stuck =
+      places-are ∙ swap (fr .tail - fr .head) (g .width) (g .depth) ∙ ap (λ (m : ℕ). g .width * (g .depth * m)) count-is
     where
-      swap : (a b c : ℕ) → a * (b * c) ≡ b * (a * c)
-      swap a b c = omega arith
+      live : ℕ
+      live = suc (fr .tail) - fr .head
+
+      all : ℕ
+      all = g .rows / g .depth
+
+      divides : all * g .depth + g .rows % g .depth ≡ g .rows
+      divides = div-add-mod' (g .rows) (g .depth)
+
+      left : g .rows % g .depth < g .depth
+      left = mod-lt (g .rows) deep
+
+      live-rows : live * g .depth + fr .head * g .depth ≡ suc (fr .tail) * g .depth
+      live-rows = times-less (fr .head) (suc (fr .tail)) (g .depth) (omega (arith, o .windows .order))
+
+      live-le : live ≤ all
+      live-le =
+          let m : live * g .depth < suc all * g .depth = omega (arith, o .windows .room, top-is, bottom-is, live-rows, divides, left) in
+          let l : live < suc all = lt-of-mul-lt-mul-right (g .depth) m in
+          omega arith
+
+      few : live ≤ mostLive
+      few = omega (arith, o .live one, o .windows .order)
+
+      least : (g .rows < topOf fr + s .next .depth - fr .base (fr .head)) ⊎ (mostLive ≤ suc (fr .tail) - fr .head) → (all ≤ live) ⊎ (mostLive ≤ live)
+      least (inl h) =
+          let m : all * g .depth < suc live * g .depth = omega (arith, h, top-is, bottom-is, live-rows, divides, p .next-deep) in
+          let l : all < suc live = lt-of-mul-lt-mul-right (g .depth) m in
+          inl (omega arith)
+      least (inr h) = inr h
+
+      by : (all ≤ live) ⊎ (mostLive ≤ live) → fr .tail - fr .head ≡ lower mostLive all - 1
+      by (inl h) = omega (arith, live-le, few, o .windows .order)
+      by (inr h) = omega (arith, live-le, few, o .windows .order)
+
+      count-is : fr .tail - fr .head ≡ lower mostLive all - 1
+      count-is = by (least stuck)
+
+module _ {g : Settings} {s : State} {q : Contents} (o : Pool g s q) (before : windowed g ≡ false) where
+  z : Old g (s .set)
+  z = o .old before
+
+  abbrev fr′ : Frame
+  fr′ = s .frame
+
+  -- R and the windows are multiples of the depth, so the live windows take up all R rows
+  pub places-old : g .rows < topOf fr′ + s .next .depth - fr′ .base (fr′ .head) → placesAfter (s .frame) ≡ g .width * (g .rows - g .depth)
+  places-old full =
+      let top = top-is o (z .not-set) in
+      let bottom = bottom-is o (z .not-set) in
+      let m : (fr′ .head + z .times) * g .depth ≤ suc (fr′ .tail) * g .depth =
+      multiple-le (fr′ .head + z .times) (suc (fr′ .tail)) (g .depth) (omega (arith, top, bottom, z .rows-is, p o (z .not-set) .next-deep)) in
+      let n : ℕ = fr′ .tail - fr′ .head in
+      let n-rows : n * g .depth + fr′ .head * g .depth ≡ fr′ .tail * g .depth = times-less (fr′ .head) (fr′ .tail) (g .depth) (o .windows .order) in
+      let rows-are : n * g .depth ≡ g .rows - g .depth = omega (arith, z .rows-is, top, bottom, o .windows .room) in
+      places-are o (z .not-set) ∙ rotate n (g .width) (g .depth) ∙ ap (λ (r : ℕ). g .width * r) rows-are
+    where
+      rotate : (a b c : ℕ) → a * (b * c) ≡ b * (a * c)
+      rotate a b c = omega arith

@@ -34,7 +34,7 @@ use Rattle.rules.proofs.queue.Inv.{Windows, Pool, Sees, PutReads, PutSh
 use Rattle.rules.proofs.queue.Moves.{Stepped, walk, raise-window, end-full}
 use Rattle.rules.proofs.queue.View.{of-now, window-told, next-depth, live-is, put-window-is, take-bottom, places-same}
 use Rattle.rules.proofs.queue.Raise.{raise}
-use Rattle.rules.proofs.queue.Full.{places-held, places-old, place-held}
+use Rattle.rules.proofs.queue.Full.{places-held, places-old, places-unset, place-held}
 
 module _ (g : Settings) (bounds : Bounds g) (kind : g .kind ≡ 0) (s : State) (q : Contents) (inv : Inv g s q) (i : ℕ) where
   abbrev Steps : Effect → Type 0
@@ -135,18 +135,37 @@ module _ (g : Settings) (bounds : Bounds g) (kind : g .kind ≡ 0) (s : State) (
     least : topOf f ≡ window .top → placesIn g s ≤ length (q .items)
     least same = rw (places-same kind (inv .pool)) (places-held (inv .pool) (reached same))
 
-    -- and where windows have no sizes of their own the live ones take up all rows
-    all : topOf f ≡ window .top → (windowed g ≡ false → g .rows < s .top + s .next .depth - f .base (f .head)) → FullAt g s
-    all same full =
+    -- and where windows have no sizes of their own, or none was set, the live ones take up all rows, or all pairs
+    all : topOf f ≡ window .top → (windowed g ≡ false → g .rows < s .top + s .next .depth - f .base (f .head))
+        → (windowed g ≡ true → (g .rows < s .top + s .next .depth - f .base (f .head)) ⊎ (mostLive ≤ suc (f .tail) - f .head)) → FullAt g s
+    all same full stuck =
         record {
           held = λ has k j r a h. let p = place-held (inv .pool) (reached same) k j r a (h .to-tail) (h .wide) (h .above) (h .up-to) in (p .0, p .1);
           own = λ none. let old = windowed-none g kind none in full-queue g (placesIn g s) (places-same kind (inv .pool) ∙ places-old (inv .pool) old (omega (arith, inv .pool .top, full old)));
+          unset = λ has not-set. let one = both-true (windowed g) (eqb (g .kind) 0) has .0 in places-same kind (inv .pool) ∙ places-unset (inv .pool) not-set (bounds .depth1) one (top-told (stuck one));
         }
+      where
+        top-told : (g .rows < s .top + s .next .depth - f .base (f .head)) ⊎ (mostLive ≤ suc (f .tail) - f .head)
+            → (g .rows < topOf f + s .next .depth - f .base (f .head)) ⊎ (mostLive ≤ suc (f .tail) - f .head)
+        top-told (inl h) = inl (omega (arith, h, inv .pool .top))
+        top-told (inr h) = inr h
 
     -- where editions 0 and 1 answer it, the rows are used up
     used-up : (rows : Bool) → both rows (mayRise g (queueView (viewIn g s i))) ≡ false → windowed g ≡ false → rows ≡ false
     unfolding cond
     used-up rows e old = sym (both-one rows) ∙ (rw old at e)
+
+    -- and where edition 2 does, these or the pairs
+    used-either : (rows : ℕ) → both (leb rows (g .rows)) (mayRise g (queueView (viewIn g s i))) ≡ false → windowed g ≡ true
+        → (g .rows < rows) ⊎ (mostLive ≤ suc (f .tail) - f .head)
+    unfolding cond
+    used-either rows e one = go (leb rows (g .rows)) refl
+      where
+        go : (b : Bool) → leb rows (g .rows) ≡ b → (g .rows < rows) ⊎ (mostLive ≤ suc (f .tail) - f .head)
+        go false h = inl (leb-false rows (g .rows) h)
+        go true h =
+            let live : ltb (sizesIn g s .live) mostLive ≡ false = rw (h, one) at e in
+            inr (omega (arith, ltb-false (sizesIn g s .live) mostLive live, live-is kind (inv .pool) one))
 
     pub put-shift : Steps (queueShift g (viewIn g s i) Putting window)
     unfolding queueShift shiftBy
@@ -165,5 +184,5 @@ module _ (g : Settings) (bounds : Bounds g) (kind : g .kind ≡ 0) (s : State) (
         (cases Steps (both (leb (s .top + s .next .depth - f .base (f .head)) (g .rows)) (mayRise g (queueView (viewIn g s i)))) _ _
         (λ b. let t = both-true (leb (s .top + s .next .depth - f .base (f .head)) (g .rows)) (mayRise g (queueView (viewIn g s i))) b in up same (leb-true _ _ (t .0)) (pair-for (t .1)))
         (λ b. end-full g kind s q inv i (QueueShift Putting window) now j refl (least same)
-        (all same (λ old. leb-false _ _ (used-up (leb (s .top + s .next .depth - f .base (f .head)) (g .rows)) b old))))))))
+        (all same (λ old. leb-false _ _ (used-up (leb (s .top + s .next .depth - f .base (f .head)) (g .rows)) b old)) (used-either (s .top + s .next .depth - f .base (f .head)) b)))))))
         (λ a. walk g kind s q inv i (QueueShift Putting window) now j (Window Putting) tt _ tt operation refl refl)

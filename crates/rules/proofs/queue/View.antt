@@ -23,7 +23,7 @@ use Rattle.rules.proofs.machine.Machine.{Frame, State, topOf, markOf, s
 use Rattle.rules.proofs.machine.Phases.{SpanTold, OfQueue, WindowIn}
 use Rattle.rules.proofs.machine.Slots.{FromSlot, phase-from, has-windows, has-none}
 use Rattle.rules.proofs.queue.Inv.{Windows, Plain, Pool, Sees, base-le, top-few, first-high, second-high}
-use Rattle.rules.proofs.queue.Full.{places-are}
+use Rattle.rules.proofs.queue.Full.{times-less, places-are}
 
 -- the phase that a worker of a queue is in
 pub of-now : (g : Settings) → g .kind ≡ 0 → (s : State) (i : ℕ) (p : Phase) → phaseIn g s i ≡ p → OfQueue g p
@@ -190,9 +190,6 @@ module _ {g : Settings} {s : State} {q : Contents} (kind : g .kind ≡ 0) (o : P
   unfolding placesIn
   places-same = go (windowed g) refl
     where
-      less : (a b d : ℕ) → a ≤ b → (b - a) * d + a * d ≡ b * d
-      less a b d l = let e : (a + (b - a)) * d ≡ b * d = ap (λ (n : ℕ). n * d) (let z : a + (b - a) ≡ b = omega arith in z) in omega arith
-
       swap : (a b c : ℕ) → a * (b * c) ≡ b * (a * c)
       swap a b c = omega arith
 
@@ -203,6 +200,6 @@ module _ {g : Settings} {s : State} {q : Contents} (kind : g .kind ≡ 0) (o : P
           let up : topOf f ≡ suc (f .tail) * g .depth = p .base-is (suc (f .tail)) (le-refl _) in
           let low : markOf f ≡ suc (f .head) * g .depth = p .base-is (suc (f .head)) (omega (arith, w .order)) in
           let rows : s .top - s .mark ≡ (f .tail - f .head) * g .depth =
-          omega (arith, o .top, o .mark, less (f .head) (f .tail) (g .depth) (w .order)) in
+          omega (arith, o .top, o .mark, times-less (f .head) (f .tail) (g .depth) (w .order)) in
           cases (λ (n : ℕ). n ≡ placesAfter f) (hasWindows g) _ _ (λ h. refl)
-          (λ h. rw rows (omega (arith, places-are o e, swap (g .width) (f .tail - f .head) (g .depth))))
+          (λ h. rw rows (omega (arith, places-are o (o .old e .not-set), swap (g .width) (f .tail - f .head) (g .depth))))

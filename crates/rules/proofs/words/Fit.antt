@@ -12,24 +12,38 @@ use lib.Dec.{leb, eqb}
 use borrow.Author.Tests.{le-ltb, le-leb, lt-ltb, eq-eqb, ne-eqb, eqb-true, eqb-false}
 use Rattle.laws.specs.Choice.{cond, cases, all, allBelow}
 use Rattle.rules.specs.Answers.{notFit}
-use Rattle.rules.specs.Layout.{headWords, topAt, markAt, workerAt, setAt, windowsAt, windowsWords, needed}
+use Rattle.rules.specs.Layout.{headWords, topAt, markAt, workerAt, setAt, windowsAt, windowsWords, needed, settingsOf}
 use Rattle.rules.specs.Make.{inEdition}
 use Rattle.rules.specs.Limits.{settingsFit, windowed, sizeLimits, sizeFit, mostLive}
 use Rattle.rules.specs.Windows.{hasWindows, nextSize, liveOf, nthSize, bottomOf, levelOf}
 use Rattle.rules.specs.Worker.{slotAt}
 use Rattle.rules.specs.Fit.{Fit, subFit, subsFit, workerLimits, workerFit, workersFit, pairFit, sizesFit, topsFit, windowsFit, bodyFit, bodyChecked, headChecked, checkedBy, checkedOf, SubFits, SizeFits}
 use Rattle.rules.proofs.Types.{Settings, Size, Slot}
-use Rattle.rules.proofs.Fitness.{WorkerFits}
+use Rattle.rules.proofs.Fitness.{WorkerFits, FitParts}
 use Rattle.rules.proofs.machine.Machine.{State, sizeAt}
 use Rattle.rules.proofs.machine.Slots.{windowed-none}
 use Rattle.rules.proofs.machine.Turns.{Common, bottomIn, LiveFits}
 use Rattle.rules.proofs.words.Says.{Says, WindowsSay, rises, bottoms}
 
 -- a test that holds at each number below the bound
-all-below : (n : ℕ) (p : ℕ → Bool) → ((i : ℕ) → i < n → p i ≡ true) → allBelow n p ≡ true
+pub all-below : (n : ℕ) (p : ℕ → Bool) → ((i : ℕ) → i < n → p i ≡ true) → allBelow n p ≡ true
 unfolding allBelow
 all-below zero p h = refl
 all-below (suc n) p h = rw (all-below n p (λ i l. h i (omega arith)), h n (omega arith)) refl
+
+-- ---- the check, from its parts
+module _ (g : Settings) (ws : List ℕ) (limits : settingsFit g ≡ true) (long : needed g ≤ length ws) (settings : settingsOf ws ≡ g) (parts : FitParts g ws) where
+  body-fit : bodyChecked ws g ≡ Fit g
+  unfolding bodyChecked cond
+  body-fit = rw (le-ltb (length ws) (needed g) long, parts .windows, parts .subs, parts .workers) refl
+
+  head-fit : headChecked notFit (g .edition) ws g ≡ Fit g
+  unfolding headChecked cond
+  head-fit = let own : settingsFit (inEdition (g .edition) g) ≡ true = limits in rw (own, eq-eqb (g .edition) (g .edition) refl) body-fit
+
+  pub parts-fit : checkedOf (g .edition) ws ≡ Fit g
+  unfolding checkedBy cond
+  parts-fit = rw (le-ltb (length ws) headWords (omega arith), settings) head-fit
 
 -- ---- a sub
 pub sub-is-fit : (g : Settings) (bottom first second : ℕ) → g .kind ≤ 1 → SubFits g bottom first second → subFit g bottom first second ≡ true
@@ -64,12 +78,12 @@ sub-anywhere g a b first second none h =
     }
 
 -- ---- a worker
-worker-is-fit : (g : Settings) (s : Slot) → WorkerFits g s → workerFit g s ≡ true
+pub worker-is-fit : (g : Settings) (s : Slot) → WorkerFits g s → workerFit g s ≡ true
 unfolding workerFit
 worker-is-fit g s h = rw (h .number, lt-ltb (s .index) (g .width) (h .index), lt-ltb (s .scan) (g .width) (h .scan), h .seen) refl
 
 -- ---- a size, and the windows
-size-is-fit : (g : Settings) (size : Size) → SizeFits g size → sizeFit g size ≡ true
+pub size-is-fit : (g : Settings) (size : Size) → SizeFits g size → sizeFit g size ≡ true
 unfolding sizeFit
 size-is-fit g size h =
     rw (
@@ -153,14 +167,5 @@ module _ (g : Settings) (limits : settingsFit g ≡ true) (kind1 : g .kind ≤ 1
   unfolding workersFit
   workers-fit = all-below (g .workers) _ (λ i l. worker-is-fit g (slotAt g ws (workerAt g i)) (subst (WorkerFits g) (sym (says .slot i l)) (common .slots i)))
 
-  body-fit : bodyChecked ws g ≡ Fit g
-  unfolding bodyChecked cond
-  body-fit = rw (le-ltb (length ws) (needed g) (says .long), windows-said, subs-fit, workers-fit) refl
-
-  head-fit : headChecked notFit (g .edition) ws g ≡ Fit g
-  unfolding headChecked cond
-  head-fit = let own : settingsFit (inEdition (g .edition) g) ≡ true = limits in rw (own, eq-eqb (g .edition) (g .edition) refl) body-fit
-
   pub checked-fit : checkedOf (g .edition) ws ≡ Fit g
-  unfolding checkedBy cond
-  checked-fit = rw (le-ltb (length ws) headWords (omega (arith, says .long)), says .settings) head-fit
+  checked-fit = parts-fit g ws limits (says .long) (says .settings) (record { windows = windows-said; subs = subs-fit; workers = workers-fit })

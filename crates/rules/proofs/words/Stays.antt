@@ -61,7 +61,7 @@ record Left (g : Settings) (i : ℕ) (vs : List ℕ) : Type 0 where
   busy : getD vs (workerAt g i) 0 ≢ 0
 
 -- ---- stores of a step that leave the settings
-lost-length : (ws : List ℕ) (g : Settings) (at : ℕ) → length (countLost ws g at) ≡ length ws
+pub lost-length : (ws : List ℕ) (g : Settings) (at : ℕ) → length (countLost ws g at) ≡ length ws
 unfolding countLost
 lost-length ws g at = cases (λ (vs : List ℕ). length vs ≡ length ws) (ltb lostWord (workerWords (g .edition))) _ _ (λ e. length-set ws _ _) (λ e. refl)
 

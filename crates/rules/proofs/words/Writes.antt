@@ -91,7 +91,7 @@ module _ (g : Settings) (ws : List ℕ) (at : ℕ) (x : Slot) where
 
   -- what is stored is read back
   module _ (long : at + workerWords (g .edition) ≤ length ws) where
-    word-on : (k : ℕ) → k < slotWords → getD (putSlot g ws at x) (at + k) 0 ≡ getD (wordsOf x) k 0
+    pub word-on : (k : ℕ) → k < slotWords → getD (putSlot g ws at x) (at + k) 0 ≡ getD (wordsOf x) k 0
     unfolding putSlot
     word-on k l =
         let low = sets-in (wordsOf x) ws at k l (omega (arith, slot-within (g .edition))) in

@@ -54,7 +54,7 @@ enum-known-told-4 : tie.Need-enum-known-told-4
 enum-known-told-4 c = search needs
 
 -- the answer 0 counts nothing
-moving-tally : (t : Tally) (position : ℕ) (item : Item) → tallied t (event position item Moving) ≡ withBound t (boundAfter (t .bound) item)
+moving-tally : (t : Tally) (position : ℕ) (item : Item) → tallied t (event position item Moving) ≡ withBound t (boundAfter (t .bound) item 0)
 unfolding tallied cond
 moving-tally t position item = let worst : max (t .worst) 0 ≡ t .worst = omega arith in rw worst refl
 
@@ -67,7 +67,7 @@ moving-quiet Summing t position item = refl
 head-turned : (m : Mode) (ws : List ℕ) (p : Printer) (position : ℕ) (item : Item)
     → turnBy m ws p (goes (event position item Moving))
     ≡ record {
-      printer = record { place = placeAfter item Moving; position = (p .position + 1) % 2 ^ 64; tally = withBound (p .tally) (boundAfter (p .tally .bound) item) };
+      printer = record { place = placeAfter item Moving; position = (p .position + 1) % 2 ^ 64; tally = withBound (p .tally) (boundAfter (p .tally .bound) item 0) };
       printed = Nothing;
     }
 unfolding turnBy
