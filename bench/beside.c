@@ -2,9 +2,9 @@
  * Two archives of the library beside each other in one process: time per call, before / after, on the same operations and equal words. Built by
  * beside.sh, which gives each archive's functions a prefix of their own. A round makes OPERATIONS puts, each followed by a take, with one archive and then
  * with the other; the order changes from round to round. Each number is the median of the rounds, and a ratio the median of the rounds' ratios.
- * The second archive makes the pools of both, so that the first may be one whose make has no stride. Where the first refuses such a pool, it gets the
- * same pool in edition 0. No value is 0, so that the first may be one that counts spacers in a distance too: the answers of both are compared, and the
- * words, of edition 0 all that it has.
+ * The second archive, of edition 2, makes the pools of both, so that the first may be one whose make has no stride. Where the first refuses such a pool, it
+ * gets the same pool in edition 1, and where it refuses that too, in edition 0. No value is 0, so that the first may be one that counts spacers in a distance
+ * too, and no queue has more than 16 windows: the answers of both are compared, and the words, of an earlier edition all that it has.
  */
 #include "pool.h"
 #include <stdio.h>
@@ -17,8 +17,7 @@
 #define DEPTH 4u
 #define ROWS 64u
 
-/* Edition 0 has a 0 in the edition's word, and of a worker all words but the last, its failed commits. */
-#define WORKERS_AT(width) POOL_WORDS(width, 0u, 0u)
+#define WORKERS_AT(width) (POOL_HEAD_WORDS + 2u * (width))
 
 uint32_t after_make(uint32_t *, size_t, uint32_t, uint32_t, uint32_t, uint32_t, uint32_t, uint32_t, uint32_t, uint32_t *);
 #define LIBRARY(name)                                                                                                                      \
@@ -64,13 +63,13 @@ static int fits(const Library *library, uint32_t *pool, size_t len, uint32_t wor
     return library->step(pool, len, workers, fields) == POOL_NO_SUCH_WORKER;
 }
 
-/* Makes a pool one of edition 0; its number of words. */
-static size_t moved_back(uint32_t *pool, size_t len, uint32_t width, uint32_t workers) {
+/* Makes a pool one of edition 0 or 1, which have the first eight or nine words of a worker and none behind the cells; its number of words. */
+static size_t moved_back(uint32_t *pool, size_t len, uint32_t width, uint32_t workers, uint32_t edition) {
     size_t start = WORKERS_AT(width), end = start + (size_t)workers * POOL_WORKER_WORDS, to = start;
-    for (size_t from = start; from < len; from++) {
-        if (from >= end || (from - start) % POOL_WORKER_WORDS != POOL_WORKER_WORDS - 1) { pool[to++] = pool[from]; }
+    for (size_t from = start; from < len - POOL_WINDOWS_WORDS; from++) {
+        if (from >= end || (from - start) % POOL_WORKER_WORDS < 8 + edition) { pool[to++] = pool[from]; }
     }
-    pool[POOL_EDITION_AT] = 0;
+    pool[POOL_EDITION_AT] = edition;
     return to;
 }
 
@@ -128,8 +127,11 @@ int main(void) {
             uint32_t held = row % 3 == 0 ? 0 : row % 3 == 1 ? width * ROWS / 2 : width * (ROWS - 2 * DEPTH);
             size_t len[2] = {POOL_WORDS(width, ROWS, workers), POOL_WORDS(width, ROWS, workers)};
             for (int side = 0; side < 2; side++) { after_make(words[side], len[side], kind, width, DEPTH, shift, ROWS, workers, 0, fields); }
-            int older = !fits(&libraries[0], words[0], len[0], workers);
-            if (older) { len[0] = moved_back(words[0], len[0], width, workers); }
+            uint32_t edition = POOL_EDITION;
+            while (!fits(&libraries[0], words[0], len[0], workers) && edition > 0) {
+                memcpy(words[0], words[1], 4 * len[1]);
+                len[0] = moved_back(words[0], len[1], width, workers, --edition);
+            }
             for (int side = 0; side < 2; side++) {
                 if (!fits(&libraries[side], words[side], len[side], workers)) {
                     fprintf(stderr, "an archive refuses its pool\n");
@@ -143,7 +145,7 @@ int main(void) {
                     measured(&libraries[side], words[side], len[side], workers, &puts[side][round], &takes[side][round], &answers[side]);
                 }
             }
-            if (older) { moved_back(words[1], len[1], width, workers); }
+            if (edition < POOL_EDITION) { moved_back(words[1], len[1], width, workers, edition); }
             if (memcmp(words[0], words[1], 4 * len[0]) != 0 || answers[0] != answers[1]) {
                 fprintf(stderr, "the words or the answers differ\n");
                 return 1;

@@ -2,7 +2,7 @@
 #include "pool.h"
 #include <stdio.h>
 
-enum { WIDTH = 4, DEPTH = 4, ROWS = 256, WORKERS = 8, OPERATIONS = 20000 };
+enum { WIDTH = 4, DEPTH = 4, ROWS = 64, WORKERS = 8, OPERATIONS = 20000 };
 
 #define WORDS POOL_WORDS(WIDTH, ROWS, WORKERS)
 

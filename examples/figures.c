@@ -9,7 +9,8 @@
 static const struct {
     uint32_t kind, width, depth, shift, rows, workers;
 } pools[] = {
-    {POOL_QUEUE, 1, 1, 1, 2, 1},    {POOL_QUEUE, 3, 2, 2, 4, 3},    {POOL_QUEUE, 16, 64, 64, 256, 32}, {POOL_STACK, 1, 1, 1, 2, 1},
+    {POOL_QUEUE, 1, 1, 1, 2, 1},    {POOL_QUEUE, 3, 2, 2, 4, 3},    {POOL_QUEUE, 3, 2, 2, 5, 3},       {POOL_QUEUE, 2, 4, 4, 100, 2},
+    {POOL_QUEUE, 16, 64, 64, 256, 32}, {POOL_STACK, 1, 1, 1, 2, 1},
     {POOL_STACK, 2, 1, 1, 2, 2},    {POOL_STACK, 2, 1, 1, 3, 2},    {POOL_STACK, 2, 2, 1, 4, 2},       {POOL_STACK, 2, 2, 1, 5, 2},
     {POOL_STACK, 2, 2, 2, 6, 3},    {POOL_STACK, 3, 6, 4, 100, 4},  {POOL_STACK, 16, 64, 1, 256, 32},
 };
@@ -34,7 +35,7 @@ int main(void) {
     if (words[POOL_EDITION_AT] != POOL_EDITION) {
         printf("not so\n");
     }
-    for (uint32_t number = 0; number <= POOL_STEPS_SPENT; number += number == POOL_RAN_OUT ? 15 : 1) {
+    for (uint32_t number = 0; number <= POOL_CANNOT_MOVE; number += number == POOL_RAN_OUT ? 15 : number == POOL_STEPS_SPENT ? 4 : 1) {
         printf("%u%s%s\n", number, POOL_FINAL(number) ? " ends an operation" : "", POOL_REFUSED(number) ? " refuses the call" : "");
     }
     return 0;

@@ -1,6 +1,6 @@
 /*
- * A pool that is moved from an old box goes on as it would have there. The old box is an archive of the library from before editions, whose functions
- * old_box.sh gives a prefix of their own.
+ * A pool that is moved from an old box goes on as it would have there. The old box is an archive of the library from before editions, and the one that it
+ * is moved to an archive of edition 1; old_box.sh gives the functions of each a prefix of their own. The moves are those of this library.
  *
  * Two pools get the same calls: one stays, with the old library, and is never moved; the other travels between the editions, and is called by the
  * library of the edition that it has come to. All answers and fields must be equal, and all words but the cards, which may hold anything. Whether a
@@ -14,11 +14,14 @@
 #include <string.h>
 #include <time.h>
 
-uint32_t old_pool_make(uint32_t *, size_t, uint32_t, uint32_t, uint32_t, uint32_t, uint32_t, uint32_t, uint32_t, uint32_t *);
-uint32_t old_pool_begin_put(uint32_t *, size_t, uint32_t, uint32_t, uint32_t *);
-uint32_t old_pool_begin_take(uint32_t *, size_t, uint32_t, uint32_t *);
-uint32_t old_pool_step(uint32_t *, size_t, uint32_t, uint32_t *);
-uint32_t old_pool_dispatch(uint32_t *, size_t, uint32_t, uint32_t, uint32_t *);
+#define LIBRARY(name)                                                                                                                       \
+    uint32_t name##_pool_make(uint32_t *, size_t, uint32_t, uint32_t, uint32_t, uint32_t, uint32_t, uint32_t, uint32_t, uint32_t *);       \
+    uint32_t name##_pool_begin_put(uint32_t *, size_t, uint32_t, uint32_t, uint32_t *);                                                    \
+    uint32_t name##_pool_begin_take(uint32_t *, size_t, uint32_t, uint32_t *);                                                             \
+    uint32_t name##_pool_step(uint32_t *, size_t, uint32_t, uint32_t *);                                                                   \
+    uint32_t name##_pool_dispatch(uint32_t *, size_t, uint32_t, uint32_t, uint32_t *);
+LIBRARY(old)
+LIBRARY(one)
 
 typedef struct {
     uint32_t (*make)(uint32_t *, size_t, uint32_t, uint32_t, uint32_t, uint32_t, uint32_t, uint32_t, uint32_t, uint32_t *);
@@ -29,10 +32,10 @@ typedef struct {
     uint32_t (*move_on)(const uint32_t *, size_t, uint32_t *, size_t); /* to the other edition */
 } Library;
 
-/* By edition. Both moves are the new library's. */
+/* By edition. Both moves are this library's. */
 static const Library libraries[2] = {
     {old_pool_make, old_pool_begin_put, old_pool_begin_take, old_pool_step, old_pool_dispatch, pool_move_0_to_1},
-    {pool_make, pool_begin_put, pool_begin_take, pool_step, pool_dispatch, pool_move_1_to_0},
+    {one_pool_make, one_pool_begin_put, one_pool_begin_take, one_pool_step, one_pool_dispatch, pool_move_1_to_0},
 };
 static const char *const moves[2] = {"pool_move_0_to_1", "pool_move_1_to_0"};
 static const char *const kinds[2] = {"queue", "stack"};
@@ -55,7 +58,7 @@ typedef struct {
 
 static size_t needed(const uint32_t *words, uint32_t in_edition) {
     uint32_t width = words[WIDTH], rows = words[ROWS], workers = words[WORKERS];
-    return in_edition == 0 ? POOL_WORDS_0(width, rows, workers) : POOL_WORDS(width, rows, workers);
+    return in_edition == 0 ? POOL_WORDS_0(width, rows, workers) : POOL_WORDS_1(width, rows, workers);
 }
 
 static size_t worker_at(const uint32_t *words, uint32_t in_edition, uint32_t worker) {
