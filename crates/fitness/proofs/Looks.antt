@@ -1,9 +1,10 @@
 -- One look for several: tests made together hold where each does, the bits of two words together are zero where both words are, and those in which two
 -- words differ where the words are equal.
 use Prim.Native.Nat.{ℕ, zero, suc, _+_, _≤_, _<_}
-use mathlib.Core.Path.{_≡_, refl, sym, _∙_}
+use mathlib.Core.Path.{_≡_, refl, sym, subst}
 use mathlib.Core.Logic.{⊎-elim}
 use mathlib.Core.Bool.{Bool, true, false, _&&_}
+use native.Mathlib.Decide.{ℕ-discrete}
 use native.Mathlib.Nat.{eq-or-lt-of-le}
 use native.Mathlib.Numerals.{add-one}
 use native.Mathlib.Omega.{arith}
@@ -35,6 +36,10 @@ xor-none a b = go (eqb a b) refl
     go false p = ne-eqb (bitXor a b) 0 (λ (z : bitXor a b ≡ 0). eqb-false a b p (omega (arith, xor-add-and a b, and-le-l a b, and-le-r a b)))
 
 -- ---- all below a bound
+-- one more, of what holds at each
+pub each-more : (P : ℕ → Type 0) (k : ℕ) → ((i : ℕ) → i < k → P i) → P k → (i : ℕ) → i < k + 1 → P i
+each-more P k h e i l = elim (ℕ-discrete i k) [ yes y ↦ subst P (sym y) e | no n ↦ h i (omega arith) ]
+
 pub all-step : (i : ℕ) (p : ℕ → Bool) → allBelow (i + 1) p ≡ both (allBelow i p) (p i)
 unfolding allBelow
 all-step i p = rw (add-one i) refl

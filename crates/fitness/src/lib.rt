@@ -1,5 +1,6 @@
 // Which words are a fit pool: the first unfit word ends the check.
 mod limits;
+mod quick;
 mod refusals;
 mod subs;
 mod windows;

@@ -1,16 +1,15 @@
 // The order of the refusals before a call, and of a move's source.
 use crate::limits::settings_fit;
+use crate::quick::plain_pool;
 use crate::subs::subs_fit;
 use crate::windows::windows_fit;
 use crate::workers::workers_fit;
 use image::HEAD_WORDS;
-use image::as_shipped;
 use image::in_edition;
 use image::settings;
 use image::words_needed;
 use rules::Settings;
 use rules::numbers::NOT_FIT;
-use rules::numbers::SHIPPED;
 use rules::numbers::TOO_FEW_WORDS;
 use rules::numbers::WRONG_EDITION;
 ghost use mathlib.Core.Path.{_≡_};
@@ -36,24 +35,13 @@ fn body_refusal(words: &[u32], g: Settings) -> u32
     NOT_FIT
 }
 
-// The same, with the shipped edition told to the compiler.
-fn told_refusal(words: &[u32], g: Settings) -> u32
-    requires { ⌜ Bounds g ⌝ }
-    ensures { λ r. ⌜ r ≡ refusalOf (bodyChecked (now (words .entry)) g) ⌝ }
-{
-    if g.edition == SHIPPED {
-        return body_refusal(words, as_shipped(g));
-    }
-    body_refusal(words, g)
-}
-
 // The settings by the edition asked for, then the edition, which has a number of its own to refuse another, then the above.
 fn head_refusal(words: &[u32], g: Settings, edition: u32, other: u32) -> u32
     ensures { λ r. ⌜ r ≡ refusalOf (headChecked other edition (now (words .entry)) g) ⌝ }
 {
     if settings_fit(in_edition(g, edition)) {
         if g.edition == edition {
-            return told_refusal(words, g);
+            return body_refusal(words, g);
         }
         return other;
     }
@@ -69,15 +57,21 @@ fn refusal_by(words: &[u32], edition: u32, other: u32) -> u32
     head_refusal(words, settings(words), edition, other)
 }
 
-// The number of the refusal where the words are no fit pool of an edition, else 0. A number and not the settings: a struct would go
-// through memory at every call.
+// The number of the refusal where the words are no fit pool of an edition, else 0: by a quick look, and by all of the above where that does not tell. A number
+// and not the settings: a struct would go through memory at every call.
 pub fn refusal(words: &[u32], edition: u32) -> u32
     ensures { λ r. ⌜ r ≡ refusalOf (checkedOf edition (now (words .entry))) ⌝ }
 {
-    refusal_by(words, edition, NOT_FIT)
+    if words.len() < HEAD_WORDS {
+        return TOO_FEW_WORDS;
+    }
+    if plain_pool(words, settings(words), edition) {
+        return 0;
+    }
+    refusal_by(&words[..], edition, NOT_FIT)
 }
 
-// The same of the source of a move from an edition.
+// The same of the source of a move from an edition, in full.
 pub fn source_refusal(words: &[u32], edition: u32) -> u32
     ensures { λ r. ⌜ r ≡ refusalOf (sourceChecked edition (now (words .entry))) ⌝ }
 {

@@ -27,7 +27,7 @@ ghost use Rattle.rules.specs.Limits.{Bounds, mostLive, sizeFit};
 ghost use Rattle.rules.specs.Windows.{nthSize, bottomOf, liveOf};
 
 // Whether the words from one place up to another are zero: one look at all of them together.
-fn zeros(words: &[u32], from: usize, to: usize) -> bool
+pub fn zeros(words: &[u32], from: usize, to: usize) -> bool
     requires { ⌜ (from ≤ to) × (to ≤ length (now words)) ⌝ }
     ensures { λ r. ⌜ r ≡ allBelow (to - from) (λ k. eqb (getD (now (words .entry)) (from + k) 0) 0) ⌝ }
 {

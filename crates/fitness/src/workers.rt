@@ -1,8 +1,10 @@
 // The workers: worker by worker, their words.
 use image::BOTTOM;
 use image::INDEX;
+use image::PHASE;
 use image::SCAN;
 use image::SEEN_WIDTH;
+use image::WORKER_WORDS;
 use image::has_windows;
 use image::is_windowed;
 use image::worker_at;
@@ -24,10 +26,12 @@ ghost use mathlib.Core.Path.{_≡_};
 ghost use Prim.Native.Nat.{_+_, _≤_};
 ghost use lib.Dec.{eqb};
 ghost use lib.ListN.{length};
-ghost use Rattle.laws.specs.Choice.{cond, both};
+ghost use Rattle.fitness.specs.Words.{wordFit};
+ghost use Rattle.laws.specs.Choice.{cond, both, allBelow};
 ghost use Rattle.rules.specs.Fit.{phaseFit, pastWindow, workerFit, workersFit};
-ghost use Rattle.rules.specs.Layout.{needed, workerWords};
+ghost use Rattle.rules.specs.Layout.{needed, workerAt, workerWords};
 ghost use Rattle.rules.specs.Limits.{Bounds, windowed};
+ghost use Rattle.rules.specs.Make.{shipped};
 ghost use Rattle.rules.specs.Windows.{hasWindows};
 ghost use Rattle.rules.specs.Worker.{slotAt};
 
@@ -119,7 +123,7 @@ fn worker_fit(words: &[u32], g: Settings, at: usize) -> bool
     phase_fit(g.kind, x) & ((width <= g.width) & (inside & stack_unseen(words, g, at)))
 }
 
-// Whether every worker is fit.
+// Whether every worker is fit, in any edition.
 pub fn workers_fit(words: &[u32], g: Settings) -> bool
     requires { ⌜ Bounds g ⌝ }
     requires { ⌜ needed g ≤ length (now words) ⌝ }
@@ -135,4 +139,93 @@ pub fn workers_fit(words: &[u32], g: Settings) -> bool
         }
     }
     true
+}
+
+// Whether the worker at `at` is idle and fit, in the shipped edition.
+fn idle_fit(words: &[u32], g: Settings, at: usize) -> bool
+    requires { ⌜ (at + workerWords (g .edition) ≤ length (now words)) × (g .edition ≡ shipped) ⌝ }
+    ensures { λ r. ⌜ (r ≡ true → workerFit g (slotAt g (now (words .entry)) at) ≡ true) ⌝ }
+{
+    if words[at] != IDLE {
+        return false;
+    }
+    if words[at + INDEX] < g.width {
+        if words[at + SCAN] < g.width {
+            if g.kind == 0 {
+                return true;
+            }
+            return (words[at + BOTTOM] | words[at + SEEN_WIDTH]) == 0;
+        }
+    }
+    false
+}
+
+// The first worker from `first` on that is not idle and fit, or how many there are. The idle ones, which are many as a rule, are passed in a short loop.
+fn not_idle_from(words: &[u32], g: Settings, first: u32) -> u32
+    requires { ⌜ Bounds g ⌝ }
+    requires { ⌜ (needed g ≤ length (now words)) × (g .edition ≡ shipped) ⌝ }
+    requires { ⌜ first ≤ g .workers ⌝ }
+    ensures { λ r. ⌜ (first ≤ r) × (r ≤ g .workers) × (allBelow first (λ i. workerFit g (slotAt g (now (words .entry)) (workerAt g i))) ≡ true → allBelow r (λ i. workerFit g (slotAt g (now (words .entry)) (workerAt g i))) ≡ true) ⌝ }
+{
+    let n = g.workers;
+    let mut i = first;
+    while i < n {
+        if idle_fit(words, g, worker_at(g, i)) {
+            i += 1;
+        } else {
+            return i;
+        }
+    }
+    i
+}
+
+// Whether word `k` of a worker is fit, whose index and scan lie below a width.
+fn word_fit(g: Settings, width: u32, k: usize, x: u32) -> bool
+    ensures { λ r. ⌜ r ≡ wordFit g width k x ⌝ }
+{
+    if k == PHASE {
+        return phase_fit(g.kind, x);
+    }
+    if k == INDEX {
+        return x < width;
+    }
+    if k == SCAN {
+        return x < width;
+    }
+    if g.kind == 0 {
+        if k == SEEN_WIDTH {
+            return width <= g.width;
+        }
+        return true;
+    }
+    if k < BOTTOM {
+        return true;
+    }
+    x == 0
+}
+
+// Whether every word of every worker is fit, in the shipped edition.
+pub fn every_fit(words: &[u32], g: Settings) -> bool
+    requires { ⌜ Bounds g ⌝ }
+    requires { ⌜ (needed g ≤ length (now words)) × (g .edition ≡ shipped) ⌝ }
+    ensures { λ r. ⌜ r ≡ workersFit (now (words .entry)) g ⌝ }
+{
+    let n = g.workers;
+    let mut fit = true;
+    let mut i = not_idle_from(words, g, 0);
+    'workers: while i < n {
+        let at = worker_at(g, i);
+        let width = width_of(words, g, at, words[at]);
+        let mut k: usize = 0;
+        while k < WORKER_WORDS {
+            let x = words[at + k];
+            if !word_fit(g, width, k, x) {
+                fit = false;
+                break 'workers;
+            }
+            k += 1;
+        }
+        i = not_idle_from(words, g, i + 1);
+    }
+    fit
 }

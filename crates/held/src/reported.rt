@@ -102,6 +102,16 @@ fn band_reported(words: &[u32], g: Settings, j: u32, band: Band, s: Stamp) -> u3
     segments_reported(words, g, j, held, 1, s)
 }
 
+// The same of a band of a queue's window. It has a function for itself, since the one above is inlined only where a single place calls it.
+fn window_reported(words: &[u32], g: Settings, j: u32, band: Band, s: Stamp) -> u32
+    requires { ⌜ Bounds g ⌝ }
+    requires { ⌜ (needed g ≤ length (now words)) × (j < g .width) ⌝ }
+    requires { ⌜ (band .rows ≤ g .rows) × (g .kind ≡ 0) ⌝ }
+    ensures { λ r. ⌜ (r ≡ countItems (reported (g .kind) (s .0)) (cellItems (now (words .entry)) (subCellsAt g j) (cellsOf (segmentsAbove (g .rows) (band .below) (band .rows))))) × (r ≤ mostRows) ⌝ }
+{
+    segments_reported(words, g, j, band_segments(g, band), 0, s)
+}
+
 // How many held items of sub `j` the distance counts, where it lies within all windows: they are of one band.
 fn whole_reported(words: &[u32], g: Settings, r: Reach, j: u32, s: Stamp) -> u32
     requires { ⌜ FitPool g (now words) ⌝ }
@@ -125,7 +135,7 @@ fn windows_reported(words: &[u32], g: Settings, j: u32, s: Stamp) -> u32
     let mut k: u32 = 0;
     while k < live {
         let size = nth_size(words, g, k);
-        n += band_reported(words, g, j, window_band(sub, j, bottom, size), s);
+        n += window_reported(words, g, j, window_band(sub, j, bottom, size), s);
         bottom += size.depth;
         k += 1;
     }

@@ -1,32 +1,24 @@
 -- `fitness::refusals::head_refusal` meets its contract: at each return the tests that led there pick the same branch of `headChecked`, and settings that
 -- passed theirs are within the bounds that the rest of the check asks for.
+use Rattle.fitness.proofs.Heads.{asked, own-bounds}
 use borrow.Author.Tests.{eq-eqb, ne-eqb}
 use Prim.Native.Nat.{ℕ}
-use mathlib.Core.Path.{_≡_, sym, ap, subst, _∙_}
-use mathlib.Core.Bool.{Bool, true}
+use mathlib.Core.Path.{_≡_, _∙_}
+use mathlib.Core.Bool.{true}
 use mathlib.Core.List.{List}
 use borrow.Author.Needs.{needs}
-use Rattle.rules.proofs.Fitness.{settings-bounds}
 use Rattle.rules.specs.Fit.{headChecked, refusalOf}
 use Rattle.rules.specs.Make.{inEdition}
-use Rattle.rules.specs.Limits.{settingsFit, Bounds}
+use Rattle.rules.specs.Limits.{settingsFit}
 use Rattle.rules.specs.declared.Settings.{Settings}
 use Rattle.laws.specs.Choice.{cond}
 use Rattle.fitness.proofs.refusals.head_refusal.Statement.{statement}
 use Rattle.fitness.proofs.refusals.head_refusal.Tie as tie
 
--- what the test of the settings has found, of the settings in the edition that is asked for
-asked : (g h : Settings) (e : ℕ) {a b : Bool} → h ≡ inEdition e g → a ≡ settingsFit h → a ≡ b → settingsFit (inEdition e g) ≡ b
-asked g h e same found is = ap settingsFit (sym same) ∙ sym found ∙ is
-
 -- settings within limits, of another edition than is asked for
 other-edition : (other e : ℕ) (ws : List ℕ) (g : Settings) → settingsFit (inEdition e g) ≡ true → ¬ (g .edition ≡ e) → other ≡ refusalOf (headChecked other e ws g)
 unfolding headChecked cond
 other-edition other e ws g fit not = simp (fit, ne-eqb _ _ not)
-
--- and of that edition
-own-bounds : (g : Settings) (e : ℕ) → settingsFit (inEdition e g) ≡ true → g .edition ≡ e → Bounds g
-own-bounds g e fit own = settings-bounds g (subst (λ (x : ℕ). settingsFit (inEdition x g) ≡ true) (sym own) fit)
 
 settings-fit-requires : tie.Need-settings-fit-requires
 settings-fit-requires c κs = search needs
@@ -34,14 +26,14 @@ settings-fit-requires c κs = search needs
 in-edition-requires : tie.Need-in-edition-requires
 in-edition-requires c κs = search needs
 
-told-refusal-requires : tie.Need-told-refusal-requires
-told-refusal-requires c κs =
+body-refusal-requires : tie.Need-body-refusal-requires
+body-refusal-requires c κs =
     own-bounds _ _ (asked (c .before .before .before .before .before .before .args .g) _ _ (c .before .before .before .before .in-edition .ensures) (c .before .before .before .settings-fit .ensures) (c .before .before .if1 .taken)) (c .if2 .taken)
 
 returns : tie.Need-returns
 unfolding headChecked cond
 returns c =
-    c .told-refusal .ensures
+    c .body-refusal .ensures
     ∙ simp (
       asked (c .before .before .before .before .before .before .before .args .g) _ _ (c .before .before .before .before .before .in-edition .ensures) (c .before .before .before .before .settings-fit .ensures) (c .before .before .before .if1 .taken),
       eq-eqb _ _ (c .before .if2 .taken),
@@ -57,4 +49,4 @@ returns-3 c = simp (asked (c .before .before .before .before .args .g) _ _ (c .b
 
 pub head-refusal-spec : {M : Type 1} → statement M
 head-refusal-spec =
-    tie.close (tie.spec in-edition-requires settings-fit-requires told-refusal-requires returns returns-2 returns-3)
+    tie.close (tie.spec in-edition-requires settings-fit-requires body-refusal-requires returns returns-2 returns-3)

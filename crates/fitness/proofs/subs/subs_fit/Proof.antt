@@ -1,43 +1,13 @@
 -- `fitness::subs::subs_fit` meets its contract: both loops' invariant is that every sub passed is fit, held to the bottom that was read once; the first that is not decides the whole.
-use lib.Dec.{eqb}
-use Rattle.rules.specs.declared.Settings.{Settings}
-use Rattle.rules.specs.Windows.{hasWindows, bottomOf, levelOf}
-use Rattle.rules.specs.Limits.{windowed}
-use Rattle.rules.specs.Fit.{subFit, subsFit}
-use Rattle.rules.specs.Layout.{firstOf, secondOf}
-use Rattle.laws.specs.Choice.{cond, both-one, allBelow, allBelow-fails, allBelow-four, allBelow-four-fails, allBelow-more, allBelow-none, allBelow-same}
+use Rattle.fitness.proofs.Bottoms.{isFit, subs-by}
+use Rattle.laws.specs.Choice.{allBelow, allBelow-fails, allBelow-four, allBelow-four-fails, allBelow-more, allBelow-none}
 use borrow.Author.Needs.{needs}
 use native.Mathlib.Omega.{arith}
-use mathlib.Core.Bool.{Bool, true, false, false≢true}
-use mathlib.Core.List.{List}
-use mathlib.Core.Path.{sym, _∙_, _≡_, refl}
-use Prim.Native.Nat.{ℕ, _-_, _≤_}
+use mathlib.Core.Bool.{true}
+use mathlib.Core.Path.{sym, _∙_, _≡_}
+use Prim.Native.Nat.{_-_, _≤_}
 use Rattle.fitness.proofs.subs.subs_fit.Statement.{statement}
 use Rattle.fitness.proofs.subs.subs_fit.Tie as tie
-
--- whether sub j is fit, held to a bottom
-abbrev isFit : List ℕ → Settings → ℕ → ℕ → Bool
-isFit ws g bottom j = subFit g bottom (firstOf ws j) (secondOf ws j)
-
--- where there are no windows, the bottom does not matter
-any-bottom : (g : Settings) (first second a b : ℕ) → hasWindows g ≡ false → subFit g a first second ≡ subFit g b first second
-unfolding subFit levelOf cond
-any-bottom g first second a b = go (windowed g) refl (eqb (g .kind) 0) refl
-  where
-    go : (w : Bool) → windowed g ≡ w → (q : Bool) → eqb (g .kind) 0 ≡ q → hasWindows g ≡ false → subFit g a first second ≡ subFit g b first second
-    go w e false f h = rw f refl
-    go false e true f h = rw (e, f) refl
-    go true e true f h = absurd (false≢true (sym h ∙ rw (e, f) refl))
-
--- so what was read is the bottom that the subs are held to
-subs-by : (ws : List ℕ) (g : Settings) (bottom : ℕ) → bottom ≡ cond (hasWindows g) (bottomOf ws g 0) 0
-    → allBelow (g .width) (isFit ws g bottom) ≡ subsFit ws g
-unfolding subsFit cond
-subs-by ws g bottom = go (hasWindows g) refl
-  where
-    go : (b : Bool) → hasWindows g ≡ b → bottom ≡ cond b (bottomOf ws g 0) 0 → allBelow (g .width) (isFit ws g bottom) ≡ subsFit ws g
-    go true e r = rw r refl
-    go false e r = allBelow-same (g .width) _ _ (λ j l. any-bottom g _ _ bottom (bottomOf ws g 0) e)
 
 abbrev Inv-loop : tie.InvT-loop
 Inv-loop words g bottom width j₀ j = (j ≤ width) × (allBelow j (isFit words g bottom) ≡ true)

@@ -1,29 +1,19 @@
 -- `fitness::windows::windows_fit` meets its contract: the edition and the kind pick the same branch of `windowsFit`, and an edition without windows has no words to ask.
+use Rattle.fitness.proofs.Plain.{stack-windows}
 use Rattle.rules.proofs.Workers.{windowed-is, windowed-not, windows-none, windows-some}
 use Rattle.rules.specs.declared.Settings.{Settings}
 use Rattle.rules.specs.Limits.{windowed}
-use Rattle.rules.specs.Layout.{windowsAt, windowsWords}
 use Rattle.rules.specs.Fit.{windowsFit}
-use Rattle.laws.specs.Choice.{cond, both, allBelow, allBelow-none}
+use Rattle.laws.specs.Choice.{cond, allBelow-none}
 use borrow.Author.Tests.{eq-eqb, ne-eqb}
-use lib.Dec.{eqb}
-use lib.ListN.{getD}
 use native.Mathlib.Omega.{arith}
-use mathlib.Core.Bool.{Bool, true, false}
+use mathlib.Core.Bool.{true, false}
 use mathlib.Core.List.{List}
-use mathlib.Core.Path.{_≡_, refl, sym, ap, _∙_}
-use Prim.Native.Nat.{ℕ, _+_, _-_}
+use mathlib.Core.Path.{_≡_, refl, sym, _∙_}
+use Prim.Native.Nat.{ℕ, _-_}
 use borrow.Author.Needs.{needs}
 use Rattle.fitness.proofs.windows.windows_fit.Statement.{statement}
 use Rattle.fitness.proofs.windows.windows_fit.Tie as tie
-
--- the words of a stack's windows
-stack-by : (ws : List ℕ) (g : Settings) {at : ℕ} → at ≡ windowsAt g → windowed g ≡ true → eqb (g .kind) 0 ≡ false
-    → allBelow (at + 36 - at) (λ k. eqb (getD ws (at + k) 0) 0) ≡ windowsFit ws g
-unfolding windowsFit cond
-stack-by ws g {at} e has stack =
-    let many : at + 36 - at ≡ 36 = omega arith in
-    rw (many, e, has, stack, windows-some (g .edition) (windowed-is g has)) refl
 
 -- none of an edition that has no windows
 none-by : (ws : List ℕ) (g : Settings) → windowed g ≡ false → windowsFit ws g ≡ true
@@ -59,7 +49,7 @@ returns-2 : tie.Need-returns-2
 returns-2 c =
     let a = c .before .before .before .before .before .before .before .args in
     let has = sym (c .before .before .before .before .before .is-windowed .ensures) ∙ c .before .before .before .before .if1 .taken in
-    c .zeros .ensures ∙ stack-by (a .words .now) (a .g) (c .before .windows-at .ensures) has (ne-eqb _ _ (c .before .before .if2 .left))
+    c .zeros .ensures ∙ stack-windows (a .words .now) (a .g) (c .before .windows-at .ensures) has (ne-eqb _ _ (c .before .before .if2 .left))
 
 returns-3 : tie.Need-returns-3
 returns-3 c = let a = c .before .before .before .args in sym (none-by (a .words .now) (a .g) (sym (c .before .is-windowed .ensures) ∙ c .if1 .left))

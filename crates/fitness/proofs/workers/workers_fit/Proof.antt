@@ -1,26 +1,15 @@
 -- `fitness::workers::workers_fit` meets its contract: every worker passed is fit, and the first that is not decides the whole.
+use Rattle.fitness.proofs.Places.{isFit, here}
 use Rattle.rules.proofs.Workers.{worker-within}
-use Rattle.rules.specs.declared.Settings.{Settings}
-use Rattle.rules.specs.Worker.{slotAt}
-use Rattle.rules.specs.Layout.{workerAt}
-use Rattle.rules.specs.Fit.{workerFit, workersFit}
+use Rattle.rules.specs.Fit.{workersFit}
 use Rattle.laws.specs.Choice.{allBelow, allBelow-fails, allBelow-more, allBelow-none}
 use borrow.Author.Needs.{needs}
 use native.Mathlib.Omega.{arith}
-use mathlib.Core.Bool.{Bool, true}
-use mathlib.Core.List.{List}
-use mathlib.Core.Path.{_≡_, sym, ap, _∙_}
-use Prim.Native.Nat.{ℕ, _+_, _-_, _≤_}
+use mathlib.Core.Bool.{true}
+use mathlib.Core.Path.{_≡_, sym, _∙_}
+use Prim.Native.Nat.{_-_, _≤_}
 use Rattle.fitness.proofs.workers.workers_fit.Statement.{statement}
 use Rattle.fitness.proofs.workers.workers_fit.Tie as tie
-
--- whether worker i is fit
-abbrev isFit : List ℕ → Settings → ℕ → Bool
-isFit ws g i = workerFit g (slotAt g ws (workerAt g i))
-
--- what was asked of the worker at its place
-here : (ws : List ℕ) (g : Settings) (i : ℕ) {at : ℕ} {b : Bool} → at ≡ workerAt g i → b ≡ workerFit g (slotAt g ws at) → b ≡ isFit ws g i
-here ws g i e f = f ∙ ap (λ (x : ℕ). workerFit g (slotAt g ws x)) e
 
 abbrev Inv-loop : tie.InvT-loop
 Inv-loop words g n i₀ i = (i ≤ g .workers) × (allBelow i (isFit words g) ≡ true)

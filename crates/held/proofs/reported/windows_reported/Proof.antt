@@ -76,16 +76,16 @@ nth-size-requires c κs =
 window-band-requires : tie.Need-window-band-requires Inv-loop μ-loop
 window-band-requires c κs = window-top c
 
-band-reported-requires : tie.Need-band-reported-requires Inv-loop μ-loop
-band-reported-requires c κs =
+window-reported-requires : tie.Need-window-reported-requires Inv-loop μ-loop
+window-reported-requires c κs =
     let s = c .before .before .before .before .before .before .before .before in
     let queue : s .args .g .kind ≡ 0 = eqb-true (s .args .g .kind) 0 (both-true (windowed (s .args .g)) (eqb (s .args .g .kind) 0) (s .pre .1 .0) .1) in
-    (s .pre .0 .bounds, ((s .pre .0 .enough, s .pre .1 .1), (few c, λ stack. absurd (omega arith))))
+    (s .pre .0 .bounds, ((s .pre .0 .enough, s .pre .1 .1), (few c, queue)))
 
 add-n : tie.Need-add-n Inv-loop μ-loop
 add-n c =
     let s = c .before .before .before .before .before .before .before .before .before in
-    omega (arith, c .before .before .before .before .loop .inv .2, c .band-reported .ensures .1, c .before .before .before .loop-test .taken, c .before .before .before .before .before .before .live-of .ensures, s .pre .0 .windows (s .pre .1 .0) .live16)
+    omega (arith, c .before .before .before .before .loop .inv .2, c .window-reported .ensures .1, c .before .before .before .loop-test .taken, c .before .before .before .before .before .before .live-of .ensures, s .pre .0 .windows (s .pre .1 .0) .live16)
 
 add-bottom : tie.Need-add-bottom Inv-loop μ-loop
 add-bottom c = record { fits = window-top (c .before .before .before) }
@@ -102,10 +102,10 @@ loop-again c =
     let a = c .before .before .before .before .before .before .before .before .before .before .args in
     let b = read (c .before .before) in
     let more = walked-more (a .words .now) (a .g) (reported (a .g .kind) (a .s .0)) (a .j) (l .k) in
-    let here = rw (b .0, b .1) at (c .before .band-reported .ensures .0) in (
+    let here = rw (b .0, b .1) at (c .before .window-reported .ensures .0) in (
       omega (arith, c .before .before .before .before .loop-test .taken),
       omega (arith, l .inv .1, ap (λ (x : Size). x .depth) (c .before .before .before .nth-size .ensures), bottom-after (a .words .now) (a .g) (l .k)),
-      omega (arith, l .inv .2, c .before .band-reported .ensures .1),
+      omega (arith, l .inv .2, c .before .window-reported .ensures .1),
       omega (arith, l .inv .3, here, more),
     )
 
@@ -128,7 +128,7 @@ windows-reported-spec =
     loop-holds
     nth-size-requires
     window-band-requires
-    band-reported-requires
+    window-reported-requires
     add-n
     add-bottom
     add-k

@@ -1,0 +1,72 @@
+-- `fitness::quick::alike_by` meets its contract: the first pairs, the four behind them and the zeros behind those are all.
+use Rattle.fitness.proofs.Bits.{pairs-wanted}
+use mathlib.Core.Bool.{false≢true}
+use mathlib.Core.Path.{sym, _∙_}
+use borrow.Author.Needs.{needs}
+use Rattle.fitness.proofs.quick.alike_by.Statement.{statement}
+use Rattle.fitness.proofs.quick.alike_by.Tie as tie
+
+mul-here : tie.Need-mul-here
+mul-here c = search needs
+
+add-here : tie.Need-add-here
+add-here c = search needs
+
+same-requires : tie.Need-same-requires
+same-requires c κs = search needs
+
+mul-zeros : tie.Need-mul-zeros
+mul-zeros c = search needs
+
+add-zeros : tie.Need-add-zeros
+add-zeros c = search needs
+
+cast-zeros : tie.Need-cast-zeros
+cast-zeros c = search needs
+
+mul-zeros-2 : tie.Need-mul-zeros-2
+mul-zeros-2 c = search needs
+
+add-zeros-2 : tie.Need-add-zeros-2
+add-zeros-2 c = search needs
+
+zeros-requires : tie.Need-zeros-requires
+zeros-requires c κs = search needs
+
+sub-four : tie.Need-sub-four
+sub-four c = search needs
+
+four-requires : tie.Need-four-requires
+four-requires c κs = search needs
+
+returns : tie.Need-returns
+returns c =
+    let s = c .before .before .before .before .before .before in
+    let p = s .pre .1 in
+    λ e k l. pairs-wanted (s .args .words .now) (s .args .at) (s .args .live) (s .args .x) (s .args .below) (p .0) (p .1) (p .2)
+    (c .before .before .before .before .same .ensures (c .before .before .before .if1 .taken)) (sym (c .before .before .zeros .ensures) ∙ c .before .if2 .taken) (c .four .ensures e) k l
+
+returns-2 : tie.Need-returns-2
+returns-2 c = λ e. absurd (false≢true e)
+
+returns-3 : tie.Need-returns-3
+returns-3 c = λ e. absurd (false≢true e)
+
+pub alike-by-spec : {M : Type 1} → statement M
+alike-by-spec =
+    tie.close
+    (tie.spec
+    mul-here
+    add-here
+    same-requires
+    mul-zeros
+    add-zeros
+    cast-zeros
+    mul-zeros-2
+    add-zeros-2
+    zeros-requires
+    sub-four
+    four-requires
+    returns
+    returns-2
+    returns-3)

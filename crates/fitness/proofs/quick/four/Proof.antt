@@ -1,0 +1,67 @@
+-- `fitness::quick::four` meets its contract: each pair passed is as wanted, and where one is not, nothing is said.
+use Rattle.fitness.proofs.Looks.{each-more}
+use Rattle.fitness.specs.Alike.{bitsAt, wantedBits}
+use Rattle.rules.specs.Layout.{pairWords}
+use borrow.Author.Needs.{needs}
+use native.Mathlib.Omega.{arith}
+use mathlib.Core.Bool.{false≢true}
+use mathlib.Core.Path.{_≡_, sym, _∙_}
+use Prim.Native.Nat.{ℕ, _+_, _*_, _-_, _≤_, _<_}
+use Rattle.fitness.proofs.quick.four.Statement.{statement}
+use Rattle.fitness.proofs.quick.four.Tie as tie
+
+abbrev Inv-loop : tie.InvT-loop
+Inv-loop words at live x k₀ k = (k ≤ 4) × ((i : ℕ) → i < k → bitsAt words (at + pairWords * i) ≡ wantedBits live x i)
+
+abbrev μ-loop : tie.MeasureT-loop
+μ-loop words at live x k₀ k = 4 - k
+
+loop-holds : tie.Need-loop-holds Inv-loop μ-loop
+loop-holds c = (search needs, λ i l. absurd (omega arith))
+
+mul-bits : tie.Need-mul-bits Inv-loop μ-loop
+mul-bits c = search needs
+
+add-bits : tie.Need-add-bits Inv-loop μ-loop
+add-bits c = search needs
+
+bits-requires : tie.Need-bits-requires Inv-loop μ-loop
+bits-requires c κs = search needs
+
+wanted-requires : tie.Need-wanted-requires Inv-loop μ-loop
+wanted-requires c κs = search needs
+
+add-k : tie.Need-add-k Inv-loop μ-loop
+add-k c = search needs
+
+loop-less : tie.Need-loop-less Inv-loop μ-loop
+loop-less c = search needs
+
+loop-again : tie.Need-loop-again Inv-loop μ-loop
+loop-again c =
+    let l = c .before .before .before .before .loop in
+    let a = c .before .before .before .before .before .before .args in
+    (omega arith, each-more (λ i. bitsAt (a .words .now) (a .at + pairWords * i) ≡ wantedBits (a .live) (a .x) i) (l .k) (l .inv .1) (sym (c .before .before .bits .ensures) ∙ c .if1 .taken ∙ c .before .wanted .ensures))
+
+returns : tie.Need-returns Inv-loop μ-loop
+returns c = λ e. absurd (false≢true e)
+
+returns-2 : tie.Need-returns-2 Inv-loop μ-loop
+returns-2 c = λ e k l. c .before .loop .inv .1 k (omega arith)
+
+pub four-spec : {M : Type 1} → statement M
+four-spec =
+    tie.close
+    (tie.spec
+    Inv-loop
+    μ-loop
+    loop-holds
+    mul-bits
+    add-bits
+    bits-requires
+    wanted-requires
+    add-k
+    loop-less
+    loop-again
+    returns
+    returns-2)

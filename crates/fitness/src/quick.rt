@@ -1,0 +1,260 @@
+// Quick looks for the check before a call. What a pool has as a rule is asked for first, and all of a rule only where that is not so: that each window of a
+// queue has the pool's size, and that no sub's last taken row is below the take window's bottom.
+use crate::limits::settings_fit;
+use crate::subs::lowest;
+use crate::windows::zeros;
+use crate::workers::every_fit;
+use image::LIVE;
+use image::MARK;
+use image::NEXT_WIDTH;
+use image::PAIR_WORDS;
+use image::PAIRS;
+use image::SIZE_SET;
+use image::TOP;
+use image::WINDOWS_WORDS;
+use image::as_shipped;
+use image::in_edition;
+use image::sub_of;
+use image::windows_at;
+use image::words_needed;
+use rules::Settings;
+use rules::numbers::MOST_LIVE;
+use rules::numbers::SHIPPED;
+use std::num::wrapping_sub_u64;
+ghost use mathlib.Core.Bool.{true};
+ghost use mathlib.Core.Path.{_≡_};
+ghost use Prim.Native.Nat.{ℕ, _+_, _*_, _<_, _≤_};
+ghost use lib.ListN.{length};
+ghost use Rattle.fitness.specs.Alike.{bitsOf, bitsAt, wantedBits};
+ghost use Rattle.laws.specs.Choice.{fourFrom};
+ghost use Rattle.rules.specs.Fit.{Fit, subFit, subsFit, windowsFit, bodyChecked, headChecked};
+ghost use Rattle.rules.specs.Layout.{firstOf, secondOf, pairWords, pairAt, windowsAt, needed};
+ghost use Rattle.rules.specs.Limits.{Bounds, mostLive};
+ghost use Rattle.rules.specs.Make.{shipped};
+
+// Two words as one number.
+fn together(first: u32, second: u32) -> u64
+    ensures { λ r. ⌜ r ≡ bitsOf first second ⌝ }
+{
+    (first as u64) + 4294967296 * (second as u64)
+}
+
+// The two words from `at` on as one number: the compiler reads them together.
+fn bits(words: &[u32], at: usize) -> u64
+    requires { ⌜ at + 1 < length (now words) ⌝ }
+    ensures { λ r. ⌜ r ≡ bitsAt (now (words .entry)) at ⌝ }
+{
+    together(words[at], words[at + 1])
+}
+
+// Whether the first `count` pairs from `at` on are all `x`.
+fn same(words: &[u32], at: usize, count: usize, x: u64) -> bool
+    requires { ⌜ at + pairWords * count ≤ length (now words) ⌝ }
+    ensures { λ r. ⌜ (r ≡ true → (k : ℕ) → k < count → bitsAt (now (words .entry)) (at + pairWords * k) ≡ x) ⌝ }
+{
+    let mut k: usize = 0;
+    while k < count {
+        if bits(words, at + PAIR_WORDS * k) == x {
+            k += 1;
+        } else {
+            return false;
+        }
+    }
+    true
+}
+
+// The pair `k`, where so many are `x`, and zero beyond.
+fn wanted(live: u32, x: u64, k: usize) -> u64
+    ensures { λ r. ⌜ r ≡ wantedBits live x k ⌝ }
+{
+    if k < (live as usize) {
+        return x;
+    }
+    0
+}
+
+// Whether of four pairs from `at` on so many are `x`, and the others zero.
+fn four(words: &[u32], at: usize, live: u32, x: u64) -> bool
+    requires { ⌜ at + pairWords * 4 ≤ length (now words) ⌝ }
+    ensures { λ r. ⌜ (r ≡ true → (k : ℕ) → k < 4 → bitsAt (now (words .entry)) (at + pairWords * k) ≡ wantedBits live x k) ⌝ }
+{
+    let mut k: usize = 0;
+    while k < 4 {
+        if bits(words, at + PAIR_WORDS * k) == wanted(live, x, k) {
+            k += 1;
+        } else {
+            return false;
+        }
+    }
+    true
+}
+
+// Whether so many pairs from `at` on are `x`, and those beyond zero, where the last that is `x` is one of the four behind the first `below`.
+fn alike_by(words: &[u32], at: usize, live: u32, x: u64, below: u32) -> bool
+    requires { ⌜ at + pairWords * mostLive ≤ length (now words) ⌝ }
+    requires { ⌜ (below ≤ live) × (live ≤ below + 4) × (below + 4 ≤ mostLive) ⌝ }
+    ensures { λ r. ⌜ (r ≡ true → (k : ℕ) → k < mostLive → bitsAt (now (words .entry)) (at + pairWords * k) ≡ wantedBits live x k) ⌝ }
+{
+    let here = at + PAIR_WORDS * (below as usize);
+    if same(words, at, below as usize, x) {
+        if zeros(
+            words,
+            here + PAIR_WORDS * 4,
+            at + PAIR_WORDS * (MOST_LIVE as usize),
+        ) {
+            return four(words, here, live - below, x);
+        }
+    }
+    false
+}
+
+// The same, four by four: each call has its number, so that the compiler makes straight code of the loops.
+fn alike(words: &[u32], at: usize, live: u32, x: u64) -> bool
+    requires { ⌜ (at + pairWords * mostLive ≤ length (now words)) × (live ≤ mostLive) ⌝ }
+    ensures { λ r. ⌜ (r ≡ true → (k : ℕ) → k < mostLive → bitsAt (now (words .entry)) (at + pairWords * k) ≡ wantedBits live x k) ⌝ }
+{
+    if live <= 4 {
+        return alike_by(words, at, live, x, 0);
+    }
+    if live <= 8 {
+        return alike_by(words, at, live, x, 4);
+    }
+    if live <= 12 {
+        return alike_by(words, at, live, x, 8);
+    }
+    alike_by(words, at, live, x, 12)
+}
+
+// Whether a queue's windows, of which the words start at `at`, and the next one all have the pool's size, and lead from T up to P.
+fn plain_sizes(words: &[u32], g: Settings, at: usize) -> bool
+    requires { ⌜ Bounds g ⌝ }
+    requires { ⌜ (at ≡ windowsAt g) × (pairAt g mostLive ≤ length (now words)) ⌝ }
+    requires { ⌜ (g .kind ≡ 0) × (g .edition ≡ shipped) ⌝ }
+    ensures { λ r. ⌜ (r ≡ true → windowsFit (now (words .entry)) g ≡ true) ⌝ }
+{
+    let live = words[at + LIVE];
+    let mark = words[MARK];
+    let x = together(g.width, g.depth);
+    if bits(words, at + NEXT_WIDTH) == x {
+        if 1 < words[at + SIZE_SET] {
+            return false;
+        }
+        if live < 1 {
+            return false;
+        }
+        if MOST_LIVE < live {
+            return false;
+        }
+        if mark < g.depth {
+            return false;
+        }
+        let bottom = mark - g.depth;
+        if (bottom as u64) + (live as u64) * (g.depth as u64) == (words[TOP] as u64) {
+            return alike(words, at + PAIRS, live, x);
+        }
+    }
+    false
+}
+
+// Whether the windows are so, or a stack's words of windows zero.
+fn plain_windows(words: &[u32], g: Settings) -> bool
+    requires { ⌜ Bounds g ⌝ }
+    requires { ⌜ (needed g ≤ length (now words)) × (g .edition ≡ shipped) ⌝ }
+    ensures { λ r. ⌜ (r ≡ true → windowsFit (now (words .entry)) g ≡ true) ⌝ }
+{
+    let at = windows_at(g);
+    if g.kind == 0 {
+        return plain_sizes(words, g, at);
+    }
+    zeros(words, at, at + WINDOWS_WORDS)
+}
+
+// Whether sub `j` is fit, and of a queue its last taken row not below a bottom. Each kind reads the words for itself: read before the test, they would have
+// the compiler do both tests at every sub.
+fn plain_sub(words: &[u32], g: Settings, bottom: u32, j: u32) -> bool
+    requires { ⌜ (needed g ≤ length (now words)) × (j < g .width) ⌝ }
+    ensures { λ r. ⌜ (r ≡ true → subFit g bottom (firstOf (now (words .entry)) j) (secondOf (now (words .entry)) j) ≡ true) ⌝ }
+{
+    if g.kind == 0 {
+        let sub = sub_of(words, j);
+        if sub.second < bottom {
+            return false;
+        }
+        return wrapping_sub_u64(sub.first as u64, sub.second as u64) <= (g.rows as u64);
+    }
+    let sub = sub_of(words, j);
+    sub.first <= g.rows
+}
+
+// Whether the four subs from `j` on are so.
+fn plain_four(words: &[u32], g: Settings, bottom: u32, j: u32) -> bool
+    requires { ⌜ Bounds g ⌝ }
+    requires { ⌜ (needed g ≤ length (now words)) × (j + 3 < g .width) ⌝ }
+    ensures { λ r. ⌜ (r ≡ true → fourFrom j (λ k. subFit g bottom (firstOf (now (words .entry)) k) (secondOf (now (words .entry)) k)) ≡ true) ⌝ }
+{
+    if plain_sub(words, g, bottom, j) {
+        if plain_sub(words, g, bottom, j + 1) {
+            if plain_sub(words, g, bottom, j + 2) {
+                return plain_sub(words, g, bottom, j + 3);
+            }
+        }
+    }
+    false
+}
+
+// Whether all subs are so, four subs a turn: the test of one is shorter than a turn's own work.
+fn plain_subs(words: &[u32], g: Settings) -> bool
+    requires { ⌜ Bounds g ⌝ }
+    requires { ⌜ (needed g ≤ length (now words)) × (windowsFit (now words) g ≡ true) ⌝ }
+    ensures { λ r. ⌜ (r ≡ true → subsFit (now (words .entry)) g ≡ true) ⌝ }
+{
+    let bottom = lowest(words, g);
+    let width = g.width;
+    let mut j: u32 = 0;
+    while j + 3 < width {
+        if plain_four(words, g, bottom, j) {
+            j += 4;
+        } else {
+            return false;
+        }
+    }
+    while j < width {
+        if plain_sub(words, g, bottom, j) {
+            j += 1;
+        } else {
+            return false;
+        }
+    }
+    true
+}
+
+// Whether all words behind the head are so.
+fn plain_body(words: &[u32], g: Settings) -> bool
+    requires { ⌜ Bounds g ⌝ }
+    requires { ⌜ g .edition ≡ shipped ⌝ }
+    ensures { λ r. ⌜ (r ≡ true → bodyChecked (now (words .entry)) g ≡ Fit g) ⌝ }
+{
+    if words.len() < words_needed(g) {
+        return false;
+    }
+    if plain_windows(words, g) {
+        if plain_subs(words, g) {
+            return every_fit(words, g);
+        }
+    }
+    false
+}
+
+// Whether the words are such a pool of the edition, and that the shipped one, which is told to the compiler.
+pub fn plain_pool(words: &[u32], g: Settings, edition: u32) -> bool
+    ensures { λ r. ⌜ (r ≡ true → (other : ℕ) → headChecked other edition (now (words .entry)) g ≡ Fit g) ⌝ }
+{
+    if edition == SHIPPED {
+        if settings_fit(in_edition(g, edition)) {
+            if g.edition == SHIPPED {
+                return plain_body(words, as_shipped(g));
+            }
+        }
+    }
+    false
+}
