@@ -47,7 +47,7 @@ use Rattle.runs.specs.Spacers.{spacers}
 use Rattle.runs.specs.Solos.{solos}
 use Rattle.runs.specs.Stretches.{Stretch, Unanswered, stretches}
 use Rattle.rules.specs.Move.{mayMove, newWord, windowsMoved, cleared, ownPairs, workerMoved, workersMoved, headMoved, cellsMoved, movedWords, fitMove, checkedMove, moveOf}
-use Rattle.runs.specs.Moves.{MovesByHand}
+use Rattle.runs.specs.Moves.{MovesByHand, WideMovesByHand}
 use Rattle.runs.specs.Cards.{Cards, Says, carded, editionZero, editionOne, EditionsByHand}
 use Rattle.runs.specs.Sizes.{sized, parting, putsBelow, linesBelow}
 use Rattle.runs.specs.Tests.{every, sameList, lineTests, sameLine, holds, gives, reaches, says, unanswered}
@@ -157,3 +157,7 @@ editions-by-hand = (refl, refl, refl, refl, refl, refl, refl, refl, refl, refl, 
 pub moves-by-hand : MovesByHand
 unfolding moveOf checkedMove mayMove fitMove movedWords newWord windowsMoved cleared ownPairs headMoved workersMoved workerMoved cellsMoved workerWords windowsWords windowed settingsFit headChecked checkedBy bodyChecked windowsFit subsFit subFit levelOf workersFit workerFit slotAt seenFit phaseFit allBelow cond
 moves-by-hand = (refl, refl, refl, refl, refl, refl, refl, refl, refl, refl, refl, refl, refl, refl, refl, refl, refl, refl, refl, refl, refl, refl, refl)
+
+pub wide-moves-by-hand : WideMovesByHand
+unfolding moveOf checkedMove mayMove fitMove movedWords newWord windowsMoved cleared ownPairs headMoved workersMoved workerMoved cellsMoved workerWords windowsWords windowed settingsFit headChecked checkedBy bodyChecked sizeFit bottomOf windowsFit subsFit subFit levelOf workersFit workerFit slotAt seenFit phaseFit allBelow cond
+wide-moves-by-hand = (refl, refl, refl, refl, refl, refl, refl, refl, refl, refl, refl, refl, refl, refl, refl, refl, refl, refl, refl, refl, refl, refl, refl, refl, refl, refl, refl, refl, refl, refl, refl, refl, refl, refl, refl)

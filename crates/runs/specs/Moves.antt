@@ -1,6 +1,6 @@
--- K6 by hand: a pool with two operations under way, word for word before a move and after it, either way; and what a move of it answers where something is
+-- K6 and K8 by hand: a pool with two operations under way, word for word before a move and after it, either way; and what a move of it answers where something is
 -- wrong with the source or the target, with every two faults of which the number tells which was found first.
-use Prim.Native.Nat.{ℕ}
+use Prim.Native.Nat.{ℕ, _+_}
 use mathlib.Core.List.{List, [], _∷_, _++_}
 use mathlib.Core.Path.{_≡_}
 use lib.ListN.{set, replicate, take as cut}
@@ -91,3 +91,83 @@ MovesByHand =
     -- that before the target's length
     × (forward (unfit old) 0 ≡ 23)
     × (backward (unfit (new 8 9)) 33 ≡ 23)
+
+-- ---- edition 2
+-- the same pool: each worker has seen a window of the pool's size, one row below its top, and P is one window above T
+abbrev wide : ℕ → ℕ → List ℕ
+wide a b =
+    headOf 2 ++ subs ++ putter ++ (a ∷ 1 ∷ 1 ∷ []) ++ taker ++ (b ∷ 22 ∷ 1 ∷ []) ++ cells ++ (1 ∷ 1 ∷ 0 ∷ 2 ∷ 1 ∷ 1 ∷ 1 ∷ 1 ∷ []) ++ replicate 28 0
+
+-- a queue of depth 2 and so many rows in its sub, of one idle worker that has 7 in every other word: P and T, and the last rows put and taken
+abbrev deep : ℕ → ℕ → ℕ → ℕ → ℕ → ℕ → List ℕ
+deep edition rows top mark put taken =
+    0 ∷ 1 ∷ 2 ∷ 2 ∷ rows ∷ 1 ∷ 7 ∷ 1 ∷ top ∷ mark ∷ 0 ∷ edition ∷ put ∷ taken ∷ 0 ∷ 7 ∷ 0 ∷ 7 ∷ 7 ∷ 0 ∷ 7 ∷ 7 ∷ 7 ∷ []
+
+-- of edition 1
+abbrev shallow : ℕ → ℕ → ℕ → ℕ → List ℕ
+shallow top mark put taken = deep 1 4 top mark put taken ++ replicate 8 0
+
+-- of edition 2, with a next size, whether it was set, and the depth of its one window
+abbrev sized : ℕ → ℕ → ℕ → ℕ → ℕ → ℕ → ℕ → List ℕ
+sized rows mark put taken next set depth =
+    deep 2 rows mark mark put taken ++ (7 ∷ 7 ∷ []) ++ replicate (rows + rows) 0 ++ (1 ∷ next ∷ set ∷ 1 ∷ 1 ∷ depth ∷ []) ++ replicate 30 0
+
+-- a stack of edition 1, and of edition 2, of one worker past its window phase
+abbrev stack : ℕ → List ℕ → List ℕ → List ℕ
+stack edition seen windows = 1 ∷ 1 ∷ 1 ∷ 1 ∷ 2 ∷ 1 ∷ 7 ∷ 1 ∷ 1 ∷ 3 ∷ 0 ∷ edition ∷ 1 ∷ 3 ∷ 2 ∷ 6 ∷ 0 ∷ 1 ∷ 3 ∷ 0 ∷ 16 ∷ 17 ∷ 8 ∷ seen ++ (5 ∷ 1 ∷ 32 ∷ 33 ∷ []) ++ windows
+
+abbrev on : List ℕ → ℕ → ℕ
+on from n = numberOf (moveOf 1 2 from (area n) .answer)
+
+abbrev back : List ℕ → ℕ → ℕ
+back from n = numberOf (moveOf 2 1 from (area n) .answer)
+
+abbrev pub WideMovesByHand : Type 0
+WideMovesByHand =
+    -- "Forward, a line's next size, each live window and the seen window of a worker past its window phase get the pool's sizes": 36 words, then 76
+    (moveOf 1 2 (new 8 9) (area 78) ≡ out Moving (wide 8 9 ++ area 2))
+    -- "backward, what edition 1 hasn't is dropped"
+    × (moveOf 2 1 (wide 8 9) (area 38) ≡ out Moving (new 8 9 ++ area 2))
+    -- a stack has zeros, and an idle worker too
+    × (moveOf 1 2 (stack 1 [] []) (area 65) ≡ out Moving (stack 2 (0 ∷ 0 ∷ []) (replicate 36 0)))
+    × (moveOf 2 1 (stack 2 (0 ∷ 0 ∷ []) (replicate 36 0)) (area 27) ≡ out Moving (stack 1 [] []))
+    × (moveOf 1 2 (shallow 2 2 1 0) (area 69) ≡ out Moving (deep 2 4 2 2 1 0 ++ (0 ∷ 0 ∷ []) ++ replicate 8 0 ++ (1 ∷ 2 ∷ 0 ∷ 1 ∷ 1 ∷ 2 ∷ []) ++ replicate 30 0))
+    -- no move leads past an edition
+    × (moveOf 0 2 old (area 78) ≡ refuse 31 (area 78))
+    × (moveOf 2 0 (wide 8 9) (area 78) ≡ refuse 31 (area 78))
+    × (moveOf 1 2 (wide 8 9) (area 78) ≡ refuse 31 (area 78))
+    × (moveOf 2 1 (new 8 9) (area 78) ≡ refuse 31 (area 78))
+    -- P minus T 0 to 15 times d: 16 windows, 17, none; and half of one
+    × (on (set (new 8 9) 8 16) 76 ≡ 0)
+    × (on (set (new 8 9) 8 17) 76 ≡ 33)
+    × (on (set (new 8 9) 8 0) 76 ≡ 33)
+    × (on (shallow 4 2 1 0) 69 ≡ 0)
+    × (on (shallow 3 2 1 0) 69 ≡ 33)
+    -- T, or a window seen past the window phase, below d; a worker at the window phase may have any
+    × (on (shallow 1 1 1 0) 69 ≡ 33)
+    × (on (set (new 8 9) 17 0) 76 ≡ 33)
+    × (on (set (set (new 8 9) 17 0) 14 1) 76 ≡ 0)
+    -- subs that wouldn't fit: one item is held, in the row of the take window's bottom
+    × (on (shallow 3 3 2 0) 69 ≡ 0)
+    × (on (shallow 3 3 1 0) 69 ≡ 33)
+    -- back: no size was set, the next one is the pool's, so is the live one
+    × (back (sized 4 2 1 0 2 0 2) 31 ≡ 0)
+    × (back (sized 4 2 1 0 2 1 2) 31 ≡ 33)
+    × (back (sized 4 2 1 0 1 0 2) 31 ≡ 33)
+    × (back (sized 4 2 2 2 2 0 1) 31 ≡ 33)
+    -- R is a multiple of d, which is asked for before the edition where edition 1 is moved from
+    × (back (sized 5 2 1 0 2 0 2) 33 ≡ 33)
+    × (on (sized 5 2 1 0 2 0 2) 69 ≡ 23)
+    -- the window seen: its bottom, and its width
+    × (back (set (wide 8 9) 23 0) 36 ≡ 33)
+    × (back (set (set (wide 8 9) 23 0) 14 1) 36 ≡ 0)
+    -- subs that don't fit edition 1: rows below the take window's bottom hold nothing in edition 2
+    × (back (sized 4 12 12 8 2 0 2) 31 ≡ 0)
+    × (back (sized 4 12 12 7 2 0 2) 31 ≡ 33)
+    -- 33 after the edition and the fitness, and before the target's length
+    × (on (labelled 7 (set (new 8 9) 8 17)) 76 ≡ 31)
+    × (on (unfit (set (new 8 9) 8 17)) 76 ≡ 23)
+    × (on (set (new 8 9) 8 17) 0 ≡ 33)
+    × (on (new 8 9) 75 ≡ 21)
+    × (back (sized 4 2 1 0 2 1 2) 0 ≡ 33)
+    × (back (wide 8 9) 35 ≡ 21)
