@@ -43,6 +43,24 @@ none=/dev/null
 # There and back.
 cp "$old" "$work/in" && moves 'on' "$new" '' 0 1
 cp "$new" "$work/in" && moves 'back' "$old" '' 1 0
+# To edition 2, with what each of the two workers has seen and one live window, and back.
+"$python" - "$new" <<'EOF' | pool "$work/wide"
+import struct, sys
+data = open(sys.argv[1], "rb").read()
+words = list(struct.unpack(f"<{len(data) // 4}I", data))
+words[11] = 2
+print(*words[:25], 0, 2, *words[25:34], 0, 2, *words[34:], 2, 2, 0, 1, 2, 2, *(30 * [0]))
+EOF
+cp "$new" "$work/in" && moves 'on to edition 2' "$work/wide" '' 1 2
+cp "$work/wide" "$work/in" && moves 'back from edition 2' "$new" '' 2 1
+# 33: a window seen that is less than d deep (word 19), P and T half a window apart (word 8); a size that was set (word 56), a next size that is not the pool's
+# (word 54), a live window that is not (word 58), a seen bottom that is not d below its top (word 25).
+changed "$new" 19 1 && moves 'on to edition 2, a low window seen' $none 33 1 2
+changed "$new" 8 3 && moves 'on to edition 2, P and T half a window apart' $none 33 1 2
+for word in 25 54 56; do
+    changed "$work/wide" "$word" 1 && moves "back from edition 2, word $word is 1" $none 33 2 1
+done
+changed "$work/wide" 58 1 && moves 'back from edition 2, a narrow live window' $none 33 2 1
 # What stands after the needed words is dropped: stray bytes, words, and more than is read.
 for n in 1 3 4 70000; do
     (cat "$old" && head -c "$n" /dev/urandom) >"$work/in" && moves "on, $n bytes after the pool" "$new" '' 0 1
@@ -73,6 +91,9 @@ for edition in 2 7 4294967295; do
     changed "$old" 11 "$edition" && moves "edition $edition moved on" $none 31 0 1
     moves "edition $edition moved back" $none 31 1 0
 done
+for edition in 0 2 7; do
+    changed "$new" 11 "$edition" && moves "edition $edition moved to edition 2" $none 31 1 2
+done
 head -c 48 "$new" >"$work/in" && moves 'edition 1 moved on, 12 words' $none 31 0 1
 # Too few words: 21, at some numbers of them.
 for n in 0 1 4 44 47 48 188 191; do
@@ -95,12 +116,12 @@ EOF
 changed "$old" 0 2 && moves 'back, edition 0, word 0 is 2' $none 23 1 0
 changed "$old" 16 3 && moves 'back, edition 0, word 16 is 3' $none 31 1 0
 # Any other arguments: how it is called.
-usage="mover: call it as 'mover 0 1 <OLD >NEW' or 'mover 1 0 <NEW >OLD'"
+usage="mover: call it as 'mover 1 2 <OLD >NEW', from one edition to the next or back: 0 1, 1 0, 1 2 or 2 1"
 cp "$old" "$work/in"
 check 'no arguments' $none "$usage" "$mover"
 check 'one argument' $none "$usage" "$mover" 0
 check 'three arguments' $none "$usage" "$mover" 0 1 0
-for arguments in '0 0' '1 1' '1 2' '2 1' '00 1' '0 01' 'a b'; do
+for arguments in '0 0' '1 1' '2 2' '0 2' '2 0' '2 3' '3 2' '00 1' '0 01' 'a b'; do
     # shellcheck disable=SC2086
     check "arguments $arguments" $none "$usage" "$mover" $arguments
 done

@@ -1,12 +1,16 @@
 // The mover: reads a saved pool from standard input, moves it from an edition to another and writes it to standard output.
-// Its arguments are the two editions. Where the move is refused it writes the refusal's number to standard error, and no byte to standard output.
+// Its arguments are the two editions, one of them next to the other. Where the move is refused it writes the refusal's number to standard error, and no byte to standard output.
 use libc::STDERR_FILENO;
 use libc::STDIN_FILENO;
 use libc::STDOUT_FILENO;
+use moves::leads_on;
 use saved::MOST_BYTES;
 use saved::move_file;
 ghost use Prim.Native.Nat.{_≤_};
 ghost use lib.ListN.{length};
+
+// Above every edition.
+const NO_EDITION: u32 = 255;
 
 // What is read: where the input's bytes end, and whether a read failed.
 struct Input {
@@ -65,25 +69,25 @@ fn move_input(old: u32, new: u32) {
     }
 }
 
+// The edition that a digit names; for any other byte one that no move leads from or to.
+fn edition(byte: u8) -> u32 {
+    if byte < b'0' {
+        return NO_EDITION;
+    }
+    (byte - b'0') as u32
+}
+
 fn main() {
-    let old = one_byte(1);
-    let new = one_byte(2);
+    let old = edition(one_byte(1));
+    let new = edition(one_byte(2));
     if os::arg_count() == 3 {
-        if old == b'0' {
-            if new == b'1' {
-                move_input(0, 1);
-                return;
-            }
-        }
-        if old == b'1' {
-            if new == b'0' {
-                move_input(1, 0);
-                return;
-            }
+        if leads_on(old, new) {
+            move_input(old, new);
+            return;
         }
     }
     io::write_all(
         STDERR_FILENO,
-        b"mover: call it as 'mover 0 1 <OLD >NEW' or 'mover 1 0 <NEW >OLD'\n",
+        b"mover: call it as 'mover 1 2 <OLD >NEW', from one edition to the next or back: 0 1, 1 0, 1 2 or 2 1\n",
     );
 }

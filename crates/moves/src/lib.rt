@@ -159,7 +159,7 @@ fn checked_move(from: &[u32], old: u32, to: &mut [u32], new: u32) -> Answer
 }
 
 // Whether a move leads from one edition to the other: an edition on, or one back.
-fn leads_on(old: u32, new: u32) -> bool
+pub fn leads_on(old: u32, new: u32) -> bool
     ensures { λ r. ⌜ r ≡ leads old new ⌝ }
 {
     if SHIPPED < old {

@@ -122,6 +122,22 @@ pub extern "C" fn pool_move_1_to_0(from: &[u32], to: &mut [u32]) -> u32
     number(move_pool(from, 1, to, 0))
 }
 
+// A saved pool of edition 1, moved to edition 2.
+#[no_mangle]
+pub extern "C" fn pool_move_1_to_2(from: &[u32], to: &mut [u32]) -> u32
+    ensures { λ r. ⌜ returned r (now (to .exit)) [] ≡ returnedAlone (moveOf 1 2 (now (from .entry)) (now (to .entry))) ⌝ }
+{
+    number(move_pool(from, 1, to, 2))
+}
+
+// And back.
+#[no_mangle]
+pub extern "C" fn pool_move_2_to_1(from: &[u32], to: &mut [u32]) -> u32
+    ensures { λ r. ⌜ returned r (now (to .exit)) [] ≡ returnedAlone (moveOf 2 1 (now (from .entry)) (now (to .entry))) ⌝ }
+{
+    number(move_pool(from, 2, to, 1))
+}
+
 #[no_mangle]
 pub extern "C" fn pool_dispatch(
     words: &mut [u32],

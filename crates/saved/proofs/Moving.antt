@@ -1,6 +1,5 @@
--- What a move leaves for a file: a refusal nothing, and one that answers 0 a fit pool of edition 0 or 1, whose settings are within limits and whose
--- needed words are there.
-use Prim.Native.Nat.{ℕ, _≤_, _<_}
+-- What a move leaves for a file: a refusal nothing, and one that answers 0 a fit pool, whose settings are within limits and whose needed words are there.
+use Prim.Native.Nat.{ℕ, _≤_}
 use mathlib.Core.Path.{_≡_, refl, sym, subst}
 use mathlib.Core.List.{List, []}
 use lib.ListN.{length}
@@ -27,7 +26,6 @@ moved-bytes o e = rw (eq-eqb (numberOf (o .answer)) 0 e) refl
 
 pub record MovedPool (vs : List ℕ) (h : Settings) : Type 0 where
   pub bounds : Bounds h
-  pub old : h .edition < 2
   pub enough : needed h ≤ length vs
 
 pub moved-pool : (a b : ℕ) (from to : List ℕ) → numberOf (moveOf a b from to .answer) ≡ 0
@@ -36,4 +34,4 @@ moved-pool a b from to none =
     let vs = moveOf a b from to .words in
     let does = move-does a b from to none in
     let pool = fit-pool b vs (inEdition b (settingsOf from)) (does .fit-after) in
-    subst (MovedPool vs) (sym (pool .settings)) (record { bounds = pool .bounds; old = does .pool .old-two; enough = pool .enough })
+    subst (MovedPool vs) (sym (pool .settings)) (record { bounds = pool .bounds; enough = pool .enough })

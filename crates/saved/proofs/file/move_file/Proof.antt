@@ -44,7 +44,7 @@ put-pool-requires c κs =
     let words : m .last .1 .1 .0 ≡ o .words = ap (λ (x : Returned). x .words) (m .ensures) in
     let pool = moved-pool (a .old) (a .new) (wordsIn (a .src .now)) (replicate 8624 0) (sym number ∙ c .before .before .if1 .left) in
     let here = subst (λ (ws : List ℕ). MovedPool ws (settingsOf ws)) (sym words) pool in
-    (here .bounds, (here .enough, omega (arith, needed-most (settingsOf (m .last .1 .1 .0)) (here .old) (here .bounds))))
+    (here .bounds, (here .enough, omega (arith, needed-most (settingsOf (m .last .1 .1 .0)) (here .bounds))))
 
 returns-2 : tie.Need-returns-2
 unfolding workerWords windowsWords savedOf
