@@ -40,6 +40,8 @@ extern "C" {
         -> u32;
     fn pool_move_0_to_1(from: *const u32, from_len: usize, to: *mut u32, to_len: usize) -> u32;
     fn pool_move_1_to_0(from: *const u32, from_len: usize, to: *mut u32, to_len: usize) -> u32;
+    fn pool_move_1_to_2(from: *const u32, from_len: usize, to: *mut u32, to_len: usize) -> u32;
+    fn pool_move_2_to_1(from: *const u32, from_len: usize, to: *mut u32, to_len: usize) -> u32;
 }
 
 // As C calls them. Safety, of each: the pointer and length are those of a live,
@@ -110,6 +112,16 @@ pub fn move_0_to_1(from: &[u32], to: &mut [u32]) -> u32 {
 #[inline]
 pub fn move_1_to_0(from: &[u32], to: &mut [u32]) -> u32 {
     unsafe { pool_move_1_to_0(from.as_ptr(), from.len(), to.as_mut_ptr(), to.len()) }
+}
+
+#[inline]
+pub fn move_1_to_2(from: &[u32], to: &mut [u32]) -> u32 {
+    unsafe { pool_move_1_to_2(from.as_ptr(), from.len(), to.as_mut_ptr(), to.len()) }
+}
+
+#[inline]
+pub fn move_2_to_1(from: &[u32], to: &mut [u32]) -> u32 {
+    unsafe { pool_move_2_to_1(from.as_ptr(), from.len(), to.as_mut_ptr(), to.len()) }
 }
 
 // With the second implementation's answer.

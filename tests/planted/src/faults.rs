@@ -65,7 +65,7 @@ const fn summary_fault(name: &'static str, old: &'static str, new: &'static str)
     }
 }
 
-pub const FAULTS: [Fault; 90] = [
+pub const FAULTS: [Fault; 95] = [
     trap(
         "empty after one pass, without confirm",
         "stages/read.rs",
@@ -605,5 +605,35 @@ pub const FAULTS: [Fault; 90] = [
         "a summary's bound by the pool's sizes alone",
         "self.bound = self.bound.max(size.distance_bound());",
         "self.bound = self.bound.max(size.distance_bound().min(0));",
+    ),
+    fault(
+        "a move that looks at the target before it is excepted",
+        "moves/mod.rs",
+        "    if !may_move(&source, new) {",
+        "    if to.len() < source.settings.needed_words_in(new) {\n        return TOO_SHORT;\n    }\n    if !may_move(&source, new) {",
+    ),
+    fault(
+        "a move on with 17 windows",
+        "moves/excepted.rs",
+        "between / depth < layout::MOST_LIVE",
+        "between / depth <= layout::MOST_LIVE",
+    ),
+    fault(
+        "a move back of a pool in which a size was set",
+        "moves/excepted.rs",
+        "source.words[source.size_word(layout::SIZE_SET)] == 0",
+        "source.words[source.size_word(layout::SIZE_SET)] <= 1",
+    ),
+    fault(
+        "a move back with a depth seen modulo 2^32",
+        "moves/excepted.rs",
+        "worker.seen_window.checked_sub(worker.seen_bottom) == Some(size.depth)",
+        "worker.seen_window.wrapping_sub(worker.seen_bottom) == size.depth",
+    ),
+    fault(
+        "a move on that gives every worker the pool's size",
+        "moves/given.rs",
+        "!is_past_window(worker.phase)",
+        "worker.phase == 0 && !is_past_window(worker.phase)",
     ),
 ];

@@ -112,9 +112,16 @@ pub const FAST: Implementation = Implementation {
 pub enum Move {
     From0To1,
     From1To0,
+    From1To2,
+    From2To1,
 }
 
-pub const MOVES: [Move; 2] = [Move::From0To1, Move::From1To0];
+pub const MOVES: [Move; 4] = [
+    Move::From0To1,
+    Move::From1To0,
+    Move::From1To2,
+    Move::From2To1,
+];
 
 impl Move {
     /// The source's and the target's.
@@ -122,7 +129,16 @@ impl Move {
         match self {
             Move::From0To1 => [Edition::Zero, Edition::One],
             Move::From1To0 => [Edition::One, Edition::Zero],
+            Move::From1To2 => [Edition::One, Edition::Two],
+            Move::From2To1 => [Edition::Two, Edition::One],
         }
+    }
+
+    /// Those from this edition.
+    pub fn from(edition: Edition) -> Vec<Move> {
+        let mut moves = MOVES.to_vec();
+        moves.retain(|which| which.editions()[0] == edition);
+        moves
     }
 }
 
@@ -130,6 +146,8 @@ pub struct Mover {
     pub name: &'static str,
     move_0_to_1: fn(&[u32], &mut [u32]) -> u32,
     move_1_to_0: fn(&[u32], &mut [u32]) -> u32,
+    move_1_to_2: fn(&[u32], &mut [u32]) -> u32,
+    move_2_to_1: fn(&[u32], &mut [u32]) -> u32,
 }
 
 impl Mover {
@@ -138,6 +156,8 @@ impl Mover {
         match which {
             Move::From0To1 => (self.move_0_to_1)(from, to),
             Move::From1To0 => (self.move_1_to_0)(from, to),
+            Move::From1To2 => (self.move_1_to_2)(from, to),
+            Move::From2To1 => (self.move_2_to_1)(from, to),
         }
     }
 }
@@ -146,10 +166,14 @@ pub const SECOND_MOVER: Mover = Mover {
     name: SECOND.name,
     move_0_to_1: second::move_0_to_1,
     move_1_to_0: second::move_1_to_0,
+    move_1_to_2: second::move_1_to_2,
+    move_2_to_1: second::move_2_to_1,
 };
 
 pub const COMPILED_MOVER: Mover = Mover {
     name: COMPILED.name,
     move_0_to_1: compiled::move_0_to_1,
     move_1_to_0: compiled::move_1_to_0,
+    move_1_to_2: compiled::move_1_to_2,
+    move_2_to_1: compiled::move_2_to_1,
 };

@@ -18,7 +18,7 @@ use crate::side_by_side::{Checks, SideBySide};
 use crate::take::Take;
 use second::phase::Side;
 use second::{layout, Settings, Size};
-use second::{FULL, IDLE, NO_SUCH_SIZE, QUEUE, STACK, TAKEN};
+use second::{FULL, MOVING, NO_SUCH_SIZE, QUEUE, STACK, TAKEN};
 use sides::Call;
 
 /// They are short.
@@ -186,7 +186,7 @@ fn drain(rng: &mut Rng, run: &mut FromMake, checks: &mut Checks) -> Result<(), F
     }
 }
 
-/// To its final answer's number.
+/// From its begin to its final answer's number.
 fn operation(
     run: &mut FromMake,
     begin: Call,
@@ -194,13 +194,18 @@ fn operation(
     checks: &mut Checks,
 ) -> Result<u32, Failure> {
     run.call(begin, checks)?;
+    to_its_answer(run, worker, checks)
+}
+
+/// Of a busy worker.
+fn to_its_answer(run: &mut FromMake, worker: u32, checks: &mut Checks) -> Result<u32, Failure> {
     loop {
         let answer = run.call(Call::Step { worker }, checks)?;
         if answer.is_final() {
             return Ok(answer.number);
         }
         if answer.is_refusal() {
-            return Err(run.said(&format!("a step is refused, {answer:?}, not {IDLE}")));
+            return Err(run.said(&format!("a step is refused, {answer:?}")));
         }
     }
 }
@@ -243,31 +248,15 @@ fn beside_a_confirm(rng: &mut Rng, width: u32, checks: &mut Checks) -> Result<()
     let settings = with_two_workers(of_width(rng, QUEUE, width, Sort::Small));
     let mut run = FromMake::new("run with a put window raised", rng, settings, checks)?;
     play(rng, &mut run, put_window_moves::script(settings), checks)?;
-    let before = run.words()[layout::STEPS_COUNTED];
-    let answer = run.call(
-        Call::Step {
-            worker: put_window_moves::TAKER,
-        },
-        checks,
-    )?;
-    if answer.is_final() || before == 0 {
+    let worker = put_window_moves::TAKER;
+    let answer = run.call(Call::Step { worker }, checks)?;
+    if answer.number != MOVING {
         return Err(run.said(&format!("its take is answered {answer:?}")));
     }
-    drain_but(rng, &mut run, checks)?;
+    to_its_answer(&mut run, worker, checks)?;
+    to_its_answer(&mut run, put_window_moves::FILLER, checks)?;
+    drain(rng, &mut run, checks)?;
     run.one_at_a_time()?;
-    Ok(())
-}
-
-/// All items are taken by worker 0, whatever the others are about.
-fn drain_but(_rng: &mut Rng, run: &mut FromMake, checks: &mut Checks) -> Result<(), Failure> {
-    let worker = put_window_moves::FILLER;
-    loop {
-        let answer = run.call(Call::Step { worker }, checks)?;
-        if answer.is_final() || answer.number == IDLE {
-            break;
-        }
-    }
-    while operation(run, Call::BeginTake { worker }, worker, checks)? == TAKEN {}
     Ok(())
 }
 

@@ -1,5 +1,5 @@
 //! The numbers that each call can answer (paper 01, Returned by the calls; K6 for
-//! a move; K8 for a size; K7 for a dispatch, which C gets with 5 for nobody busy and 6 for no steps
+//! a move; K8 for one of edition 2 and for a size; K7 for a dispatch, which C gets with 5 for nobody busy and 6 for no steps
 //! left).
 
 use sides::Call;
@@ -8,7 +8,7 @@ use std::collections::BTreeMap;
 pub const DISPATCH: &str = "dispatch";
 pub const SET_SIZE: &str = "set size";
 
-pub const NUMBERS: [(&str, &[u32]); 8] = [
+pub const NUMBERS: [(&str, &[u32]); 10] = [
     ("make", &[0, 21, 22]),
     ("begin put", &[0, 21, 23, 24, 25, 27]),
     ("begin take", &[0, 21, 23, 24, 25, 27]),
@@ -17,6 +17,8 @@ pub const NUMBERS: [(&str, &[u32]); 8] = [
     (DISPATCH, &[1, 2, 3, 4, 5, 6, 21, 23, 24, 27]),
     ("move 0 to 1", &[0, 21, 23, 31]),
     ("move 1 to 0", &[0, 21, 23, 31]),
+    ("move 1 to 2", &[0, 21, 23, 31, 33]),
+    ("move 2 to 1", &[0, 21, 23, 31, 33]),
 ];
 
 pub fn name(call: Call) -> &'static str {

@@ -17,7 +17,12 @@ pub fn image(
     word_11: u32,
     len: usize,
 ) -> Vec<u32> {
-    let mut words = image::of_edition(rng, settings, edition);
+    let words = image::of_edition(rng, settings, edition);
+    cut(rng, words, word_11, len)
+}
+
+/// These words with another word 11, cut or with words beyond them.
+pub fn cut(rng: &mut Rng, mut words: Vec<u32>, word_11: u32, len: usize) -> Vec<u32> {
     words[layout::EDITION] = word_11;
     words.resize(len, junk::word(rng));
     words

@@ -48,6 +48,21 @@ pub fn set_shallow(rng: &mut Rng, settings: &Settings, live: u32, words: &mut [u
     words[at + layout::NEXT_DEPTH] = 1;
 }
 
+/// So many of the pool's own size, which is the next one too, and none was ever set.
+pub fn set_own(settings: &Settings, live: u32, words: &mut [u32]) {
+    let own = Size::of_pool(settings);
+    let at = settings.sizes_at_in(Edition::Two);
+    words[at..at + Edition::Two.size_words()].fill(0);
+    words[at + layout::NEXT_WIDTH] = own.width;
+    words[at + layout::NEXT_DEPTH] = own.depth;
+    words[at + layout::LIVE] = live;
+    let pairs = words[at + layout::SIZES..].chunks_mut(layout::SIZE_WORDS);
+    for pair in pairs.take(live as usize) {
+        pair[layout::SIZE_WIDTH] = own.width;
+        pair[layout::SIZE_DEPTH] = own.depth;
+    }
+}
+
 /// In words that are zero after the cells; and any next size.
 fn set_sizes(
     rng: &mut Rng,

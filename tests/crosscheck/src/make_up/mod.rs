@@ -13,6 +13,7 @@ pub mod longest_stretch;
 pub mod lost_commit;
 pub mod most_live;
 pub mod most_steps;
+pub mod movable;
 pub mod move_faults;
 pub mod own_bound;
 pub mod pieces;

@@ -1,11 +1,12 @@
-//! What can be wrong with a move (K6), in the order of its checks.
+//! What can be wrong with a move (K6, K8), in the order of its checks.
 
 use super::editions::{self, ABOUT_HEADER, EDITIONS};
 use super::{image, junk, settings};
 use crate::moved::Trip;
 use crate::rng::Rng;
 use second::phase;
-use second::{layout, QUEUE, TOO_SHORT, UNFIT, WRONG_EDITION};
+use second::{layout, MAY_NOT_MOVE, QUEUE, TOO_SHORT, UNFIT, WRONG_EDITION};
+use sides::Move;
 
 #[derive(Clone, Copy, Debug, PartialEq, Eq, PartialOrd, Ord)]
 pub enum Fault {
@@ -20,11 +21,13 @@ pub enum Fault {
     Phase,
     Index,
     Scan,
+    /// A queue that does not move between editions 1 and 2.
+    Excepted,
     /// The target has fewer words than needed.
     Target,
 }
 
-const FAULTS: [Fault; 10] = [
+const FAULTS: [Fault; 11] = [
     Fault::Head,
     Fault::Setting,
     Fault::Stride,
@@ -34,17 +37,24 @@ const FAULTS: [Fault; 10] = [
     Fault::Phase,
     Fault::Index,
     Fault::Scan,
+    Fault::Excepted,
     Fault::Target,
 ];
 
 /// Each alone, and each two at once, the one first that is checked first.
-pub fn alone_and_in_pairs() -> Vec<Vec<Fault>> {
+pub fn alone_and_in_pairs(which: Move, kind: u32) -> Vec<Vec<Fault>> {
+    let mut faults = FAULTS.to_vec();
+    faults.retain(|fault| *fault != Fault::Excepted || may_except(which, kind));
     let mut all = Vec::new();
-    for (at, first) in FAULTS.into_iter().enumerate() {
-        all.push(vec![first]);
-        all.extend(FAULTS[at + 1..].iter().map(|second| vec![first, *second]));
+    for (at, first) in faults.iter().enumerate() {
+        all.push(vec![*first]);
+        all.extend(faults[at + 1..].iter().map(|second| vec![*first, *second]));
     }
     all
+}
+
+fn may_except(which: Move, kind: u32) -> bool {
+    kind == QUEUE && [Move::From1To2, Move::From2To1].contains(&which)
 }
 
 impl Fault {
@@ -54,6 +64,7 @@ impl Fault {
         match self {
             Fault::Head | Fault::Needed | Fault::Target => TOO_SHORT,
             Fault::Edition => WRONG_EDITION,
+            Fault::Excepted => MAY_NOT_MOVE,
             _ => UNFIT,
         }
     }
@@ -67,7 +78,7 @@ impl Fault {
         let above = settings.width.saturating_add(rng.pick(&[0, 1, u32::MAX]));
         match self {
             Fault::Setting => {
-                let mut off = settings::off_limits(rng, settings);
+                let mut off = settings::off_limits_in(rng, old, settings);
                 // Another fault may be in it already.
                 off.stride = from[layout::STRIDE];
                 image::set_settings(&off, from);
@@ -88,6 +99,14 @@ impl Fault {
             }
             Fault::Index => from[worker + layout::INDEX] = above,
             Fault::Scan => from[worker + layout::SCAN] = above,
+            // One that no other fault undoes.
+            Fault::Excepted if old.has_sizes() => {
+                from[settings.sizes_at_in(old) + layout::SIZE_SET] = 1;
+            }
+            Fault::Excepted => {
+                let take = from[layout::TAKE_WINDOW];
+                from[layout::PUT_WINDOW] = take.wrapping_add(16 * settings.depth);
+            }
             Fault::Head | Fault::Needed | Fault::Target => {}
         }
     }
@@ -126,12 +145,15 @@ impl Fault {
 fn spoil_sub(rng: &mut Rng, trip: Trip, from: &mut [u32]) {
     let settings = &trip.settings;
     let j = rng.below(settings.width) as usize;
+    let from_take_window = from[layout::TAKE_WINDOW];
     let sub = &mut from[settings.subs_at() + layout::SUB_WORDS * j..][..layout::SUB_WORDS];
     let too_many = settings.rows + 1 + rng.below(2);
-    let some = rng.below(100);
-    match (settings.kind, rng.chance(50)) {
-        (QUEUE, true) => sub.copy_from_slice(&[some, some + 1]),
-        (QUEUE, false) => sub.copy_from_slice(&[some + too_many, some]),
+    // Not below the take window's bottom: near 2^32 there are no rows for too many.
+    let some = from_take_window.saturating_add(rng.below(100)).max(1);
+    let has_rows = some < u32::MAX - too_many;
+    match (settings.kind, rng.chance(50) && has_rows) {
+        (QUEUE, true) => sub.copy_from_slice(&[some + too_many, some]),
+        (QUEUE, false) => sub.copy_from_slice(&[some - 1, some]),
         _ => sub[layout::ITEMS_HELD] = rng.pick(&[too_many, u32::MAX]),
     }
 }

@@ -50,6 +50,19 @@ impl Schedule {
         }
     }
 
+    /// The same, and no size is ever set.
+    pub fn without_sizes(
+        rng: &mut Rng,
+        settings: Settings,
+        numbers: Numbers,
+        values: Values,
+    ) -> Schedule {
+        Schedule {
+            sizes: Changes::NONE,
+            ..Schedule::new(rng, settings, numbers, values)
+        }
+    }
+
     /// The next call on a pool with these words.
     pub fn next(&mut self, rng: &mut Rng, words: &[u32]) -> Call {
         if rng.below(self.mood) == 0 {

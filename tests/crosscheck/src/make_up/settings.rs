@@ -2,7 +2,7 @@
 
 use super::junk;
 use crate::rng::Rng;
-use second::{Settings, QUEUE, STACK};
+use second::{Edition, Settings, QUEUE, STACK};
 use std::ops::Range;
 
 /// Within and off the limits of each width.
@@ -183,13 +183,13 @@ pub fn any(rng: &mut Rng) -> Settings {
     settings
 }
 
-/// One of them off limits, the stride not for itself.
-pub fn off_limits(rng: &mut Rng, settings: &Settings) -> Settings {
+/// One of them off limits in this edition, the stride not for itself.
+pub fn off_limits_in(rng: &mut Rng, edition: Edition, settings: &Settings) -> Settings {
     loop {
         let mut off = *settings;
         let field = rng.below(6);
         spoil(rng, &mut off, field);
-        if !(Settings { stride: 0, ..off }).within_limits() {
+        if !(Settings { stride: 0, ..off }).within_limits_in(edition) {
             return off;
         }
     }

@@ -66,6 +66,11 @@ enum Sort {
 }
 
 impl Changes {
+    pub const NONE: Changes = Changes {
+        percent: 0,
+        sort: Sort::Any,
+    };
+
     /// None, now and then, or often.
     pub fn new(rng: &mut Rng) -> Changes {
         Changes {

@@ -3,21 +3,20 @@
 
 use crate::failure::Failure;
 use crate::make_up::move_faults::{alone_and_in_pairs, spoiled, Fault};
-use crate::make_up::{image, junk};
+use crate::make_up::{junk, movable};
 use crate::moved::{moved, Trip};
 use crate::rng::Rng;
 use crate::side_by_side::Checks;
 
 pub fn run(rng: &mut Rng, trip: Trip, checks: &mut Checks) -> Result<(), Failure> {
-    for faults in alone_and_in_pairs() {
+    for faults in alone_and_in_pairs(trip.which, trip.settings.kind) {
         with(rng, trip, &faults, checks)?;
     }
     Ok(())
 }
 
 fn with(rng: &mut Rng, trip: Trip, faults: &[Fault], checks: &mut Checks) -> Result<(), Failure> {
-    let [old, _] = trip.which.editions();
-    let from = image::of_edition(rng, &trip.settings, old);
+    let from = movable::image(rng, trip.which, &trip.settings);
     let len = trip.needed()[1] + rng.below(3) as usize;
     let to = junk::words(rng, len);
     let [from, to] = spoiled(rng, trip, [&from, &to], faults);

@@ -22,7 +22,7 @@ pub fn run(rng: &mut Rng, trip: Trip, checks: &mut Checks) -> Result<(), Failure
     }
     let (zero, one) = match trip.which {
         Move::From0To1 => (from, to),
-        Move::From1To0 => (to, from),
+        _ => (to, from),
     };
     let mut twin = Twin::of(trip, zero);
     let mut pools = SideBySide::in_edition(Edition::One, &one, checks);

@@ -1,11 +1,15 @@
-//! Moves between editions (K6): of pools from make in the midst of a run, of images
+//! Moves between editions (K6, K8): of pools from make in the midst of a run, of images
 //! that no make leads to, and refused ones. After a move both pools go on.
 
 mod any;
+mod exceptions;
 mod faults;
 mod images;
 mod lengths;
+mod met;
 mod runs;
+mod sized_images;
+mod travels;
 mod twin;
 
 use crate::failure::Failure;
@@ -25,6 +29,7 @@ pub fn run(rng: &mut Rng, checks: &mut Checks) -> Result<(), Failure> {
     for kind in [QUEUE, STACK] {
         for _ in 0..RUNS {
             runs::run(rng, kind, checks)?;
+            travels::run(rng, kind, checks)?;
         }
         for which in MOVES {
             for image in 0..IMAGES {
@@ -34,7 +39,10 @@ pub fn run(rng: &mut Rng, checks: &mut Checks) -> Result<(), Failure> {
                     _ => Size::Small,
                 };
                 let trip = of_image(rng, which, kind, size);
-                images::run(rng, trip, checks)?;
+                match which {
+                    Move::From0To1 | Move::From1To0 => images::run(rng, trip, checks)?,
+                    _ => sized_images::run(rng, trip, checks)?,
+                }
             }
             for _ in 0..IMAGES {
                 any::run(rng, which, checks)?;
@@ -44,7 +52,7 @@ pub fn run(rng: &mut Rng, checks: &mut Checks) -> Result<(), Failure> {
             faults::run(rng, trip, checks)?;
         }
     }
-    Ok(())
+    exceptions::run(rng, checks)
 }
 
 fn of_image(rng: &mut Rng, which: Move, kind: u32, size: Size) -> Trip {

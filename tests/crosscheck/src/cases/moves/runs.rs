@@ -11,7 +11,7 @@ use crate::make_up::settings::{of_kind, whole_windows};
 use crate::rng::Rng;
 use crate::side_by_side::Checks;
 use second::Edition;
-use sides::{Move, MOVES};
+use sides::Move;
 
 pub fn run(rng: &mut Rng, kind: u32, checks: &mut Checks) -> Result<(), Failure> {
     let (size, calls) = short(rng);
@@ -52,10 +52,10 @@ fn one_moves(
     let Some([on, back]) = twin.corresponds(rng, run.words(), checks)? else {
         return Err(run.said("it is not fit to move"));
     };
-    let which = rng.pick(&MOVES);
+    let which = rng.pick(&[Move::From0To1, Move::From1To0]);
     match which {
         Move::From0To1 => run.go_on_in(&on, checks),
-        Move::From1To0 => twin.go_on_in(back),
+        _ => twin.go_on_in(back),
     }
     twin.has_moved(which);
     Ok(which)

@@ -1,6 +1,7 @@
 //! A pool in edition 0, beside the same one in edition 1: the same calls get the same
 //! answers, and the words correspond. Only the second implementation has these two.
 
+use super::met::Met;
 use crate::coverage::numbers;
 use crate::failure::Failure;
 use crate::make_up::junk;
@@ -18,8 +19,7 @@ pub struct Twin {
     from_make: bool,
     /// The last move.
     moved: Option<Move>,
-    /// By worker: the phase in which the last move met it, until its next final answer.
-    met: Vec<Option<u32>>,
+    met: Met,
 }
 
 impl Twin {
@@ -33,7 +33,7 @@ impl Twin {
             settings,
             from_make: true,
             moved: None,
-            met: Vec::new(),
+            met: Met::default(),
         };
         match answer.number {
             MOVING => Ok(twin),
@@ -48,7 +48,7 @@ impl Twin {
             settings: trip.settings,
             from_make: trip.from_make,
             moved: None,
-            met: Vec::new(),
+            met: Met::default(),
         };
         twin.has_moved(trip.which);
         twin
@@ -56,10 +56,7 @@ impl Twin {
 
     /// It, or the one in edition 1, goes on in words that a move has left.
     pub fn has_moved(&mut self, which: Move) {
-        let edition = Edition::Zero;
-        let workers = self.settings.workers_at()..self.settings.cells_at_in(edition);
-        let workers = self.words[workers].chunks(edition.worker_words());
-        self.met = workers.map(|worker| Some(worker[layout::PHASE])).collect();
+        self.met.has_moved(self.trip(which), &self.words);
         self.moved = Some(which);
     }
 
@@ -80,7 +77,8 @@ impl Twin {
             Call::Step { worker } if answer.is_final() => Some(worker),
             _ => None,
         };
-        self.note(numbers::name(call), answer.number, finished, checks);
+        let name = numbers::name(call);
+        self.met.note(name, answer.number, finished, checks);
         Ok(())
     }
 
@@ -97,28 +95,9 @@ impl Twin {
             Dispatched::Finished { worker, .. } => Some(worker),
             _ => None,
         };
-        self.note(numbers::DISPATCH, theirs.0, finished, checks);
+        let name = numbers::DISPATCH;
+        self.met.note(name, theirs.0, finished, checks);
         Ok(())
-    }
-
-    /// A call after the last move. With a final answer the operation that the move met
-    /// under way has come to its end, or an idle worker's next one.
-    fn note(
-        &mut self,
-        call: &'static str,
-        number: u32,
-        finished: Option<u32>,
-        checks: &mut Checks,
-    ) {
-        let Some(which) = self.moved else {
-            return;
-        };
-        let (trip, moves) = (self.trip(which), &mut checks.coverage.moves);
-        moves.record_later(trip, call, number);
-        let met = finished.and_then(|worker| self.met.get_mut(worker as usize));
-        if let Some(phase) = met.and_then(Option::take) {
-            moves.record_finished(trip, phase);
-        }
     }
 
     fn same<A: PartialEq + Debug>(

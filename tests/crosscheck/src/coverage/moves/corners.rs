@@ -4,8 +4,18 @@
 use crate::coverage::fitness_in;
 use crate::moved::Trip;
 use second::phase::IDLE;
-use second::{layout, Edition, MOVING, NO_WORKER, STEP_LIMIT, TOO_SHORT, WRONG_EDITION};
-use sides::Move;
+use second::phase::{is_past_window, Side, Stage};
+use second::{layout, Edition, MAY_NOT_MOVE, MOVING, NO_WORKER, QUEUE, STACK, STEP_LIMIT};
+use second::{TOO_SHORT, UNFIT, WRONG_EDITION};
+use sides::{Move, MOVES};
+
+/// From another edition than 0, than 1, and than 2.
+const FROM_LATER: &[Move] = &[Move::From1To0, Move::From1To2, Move::From2To1];
+const NOT_FROM_1: &[Move] = &[Move::From0To1, Move::From2To1];
+const FROM_EARLIER: &[Move] = &[Move::From0To1, Move::From1To0, Move::From1To2];
+const TO_2: &[Move] = &[Move::From1To2];
+const FROM_2: &[Move] = &[Move::From2To1];
+const OF_SIZES: &[Move] = &[Move::From1To2, Move::From2To1];
 
 /// What a move got, and its answer's number.
 pub struct Given<'a> {
@@ -56,37 +66,57 @@ pub const BY_LENGTH: [ByLength; 8] = [
 pub struct Corner {
     pub name: &'static str,
     pub is_so: fn(&Given) -> bool,
-    /// Where only one of the moves comes to it.
-    pub of: Option<Move>,
+    /// The moves that come to it.
+    pub of: &'static [Move],
+    /// And the kinds.
+    pub kinds: &'static [u32],
 }
 
 const fn corner(name: &'static str, is_so: fn(&Given) -> bool) -> Corner {
     Corner {
         name,
         is_so,
-        of: None,
+        of: &MOVES,
+        kinds: &[QUEUE, STACK],
+    }
+}
+
+const fn of(name: &'static str, of: &'static [Move], is_so: fn(&Given) -> bool) -> Corner {
+    Corner {
+        of,
+        ..corner(name, is_so)
+    }
+}
+
+/// Between editions 1 and 2.
+const fn of_queues(name: &'static str, is_so: fn(&Given) -> bool) -> Corner {
+    Corner {
+        kinds: &[QUEUE],
+        ..of(name, OF_SIZES, is_so)
     }
 }
 
 const fn on(name: &'static str, is_so: fn(&Given) -> bool) -> Corner {
     Corner {
-        of: Some(Move::From0To1),
+        of: &[Move::From0To1],
         ..corner(name, is_so)
     }
 }
 
 const fn back(name: &'static str, is_so: fn(&Given) -> bool) -> Corner {
     Corner {
-        of: Some(Move::From1To0),
+        of: &[Move::From1To0],
         ..corner(name, is_so)
     }
 }
 
-pub const CORNERS: [Corner; 18] = [
+pub const CORNERS: [Corner; 29] = [
     corner("31 for the target's edition", |given| {
         is_other(given, given.trip.which.editions()[1].word())
     }),
-    corner("31 for edition 2", |given| is_other(given, 2)),
+    of("31 for edition 0", FROM_LATER, |given| is_other(given, 0)),
+    of("31 for edition 1", NOT_FROM_1, |given| is_other(given, 1)),
+    of("31 for edition 2", FROM_EARLIER, |given| is_other(given, 2)),
     corner("31 for edition 7", |given| is_other(given, 7)),
     corner("31 for the greatest edition", |given| {
         is_other(given, u32::MAX)
@@ -139,6 +169,35 @@ pub const CORNERS: [Corner; 18] = [
     corner("an idle worker with other words than 0", |given| {
         is_moved(given) && is_odd_idle(given)
     }),
+    of("ninth words that are kept", OF_SIZES, |given| {
+        is_moved(given) && kept_ninth_words(given).any(|word| word != 0)
+    }),
+    of("old words where all sizes will be", TO_2, |given| {
+        let sizes_at = given.trip.settings.sizes_at_in(Edition::Two);
+        is_moved(given) && given.to[sizes_at..given.trip.needed()[1]].contains(&u32::MAX)
+    }),
+    of("a worker past its window phase", OF_SIZES, |given| {
+        is_moved(given) && workers(given).any(|worker| is_past_window(worker[layout::PHASE]))
+    }),
+    of("a worker at its window phase", OF_SIZES, |given| {
+        is_moved(given) && workers(given).any(|worker| is_at_window(worker[layout::PHASE]))
+    }),
+    of("rows from 2^32 - R on", OF_SIZES, |given| {
+        is_moved(given) && has_high_rows(given)
+    }),
+    of("23 for what edition 2 alone asks for", FROM_2, |given| {
+        is_refused(given, UNFIT) && is_wrong_with_sizes_alone(given)
+    }),
+    of_queues("33 and too short a target", |given| {
+        is_refused(given, MAY_NOT_MOVE) && given.to.len() < given.trip.needed()[1]
+    }),
+    of_queues("33 with all else as it should be", |given| {
+        is_refused(given, MAY_NOT_MOVE) && given.to.len() == given.trip.needed()[1]
+    }),
+    of_queues("moved with 16 windows", |given| {
+        let [put, take] = [layout::PUT_WINDOW, layout::TAKE_WINDOW];
+        is_moved(given) && given.from[put] - given.from[take] == 15 * given.trip.settings.depth
+    }),
 ];
 
 fn is_moved(given: &Given) -> bool {
@@ -176,6 +235,52 @@ fn ninth_words<'a>(given: &Given, words: &'a [u32]) -> impl Iterator<Item = u32>
     let workers = &words[settings.workers_at()..settings.cells_at_in(edition)];
     let workers = workers.chunks(edition.worker_words());
     workers.map(|worker| worker[layout::FAILED_COMMITS])
+}
+
+/// Of the source's.
+fn workers<'a>(given: &Given<'a>) -> impl Iterator<Item = &'a [u32]> + 'a {
+    let settings = &given.trip.settings;
+    let [old, _] = given.trip.which.editions();
+    let all = &given.from[settings.workers_at()..settings.cells_at_in(old)];
+    all.chunks(old.worker_words())
+}
+
+fn kept_ninth_words<'a>(given: &Given<'a>) -> impl Iterator<Item = u32> + 'a {
+    workers(given).map(|worker| worker[layout::FAILED_COMMITS])
+}
+
+/// Of a source that was moved.
+fn has_high_rows(given: &Given) -> bool {
+    let settings = &given.trip.settings;
+    let subs = &given.from[settings.subs_at()..settings.workers_at()];
+    subs.iter().any(|word| *word > u32::MAX - settings.rows)
+}
+
+fn is_at_window(phase: u32) -> bool {
+    [Side::Put, Side::Take]
+        .map(|side| side.phase(Stage::Window))
+        .contains(&phase)
+}
+
+/// With zeros in the words that edition 2 alone has, or with those of a pool of this size
+/// from make, these words would be fit.
+fn is_wrong_with_sizes_alone(given: &Given) -> bool {
+    let settings = &given.trip.settings;
+    let needed = given.trip.needed()[0];
+    if given.from.len() < needed || !settings.within_limits() {
+        return false;
+    }
+    let mut words = given.from[..needed].to_vec();
+    let sizes_at = settings.sizes_at_in(Edition::Two);
+    match settings.kind {
+        STACK => words[sizes_at..].fill(0),
+        _ => {
+            words[sizes_at + layout::SIZE_SET] = 0;
+            words[sizes_at + layout::NEXT_WIDTH] = settings.width;
+            words[sizes_at + layout::NEXT_DEPTH] = settings.depth;
+        }
+    }
+    fitness_in(Edition::Two, &words) == NO_WORKER
 }
 
 /// But for its index and its ninth word.

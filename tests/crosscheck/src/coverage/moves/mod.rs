@@ -8,6 +8,7 @@ use super::by_origin::ByOrigin;
 use super::numbers::{Numbers, DISPATCH};
 use super::phases::{kind_name, phase_name};
 use super::Origin;
+use crate::make_up::movable::{Exception, EXCEPTIONS};
 use crate::make_up::move_faults::{alone_and_in_pairs, Fault};
 use crate::moved::Trip;
 use corners::{Area, Corner, Given, AREAS, BY_LENGTH, CORNERS};
@@ -34,8 +35,11 @@ pub struct Moves {
     faults: BTreeSet<(Way, Vec<Fault>)>,
     finished: BTreeMap<(Way, u32), ByOrigin>,
     later: BTreeMap<Way, Numbers>,
-    /// By kind.
+    /// By kind: between editions 0 and 1, and between 1 and 2.
     runs: BTreeMap<u32, u64>,
+    travels: BTreeMap<u32, u64>,
+    /// By name.
+    exceptions: BTreeMap<&'static str, u64>,
 }
 
 impl Moves {
@@ -52,7 +56,7 @@ impl Moves {
             let corners = BY_LENGTH.iter().filter(|(_, is_so)| is_so(&given, area));
             met.extend(corners.map(|(name, _)| (Some(area), *name)));
         }
-        let corners = CORNERS.iter().filter(|corner| is_of(corner, trip.which));
+        let corners = CORNERS.iter().filter(|corner| is_of(corner, way(trip)));
         let corners = corners.filter(|corner| (corner.is_so)(&given));
         met.extend(corners.map(|corner| (None, corner.name)));
         for (area, name) in met {
@@ -87,6 +91,17 @@ impl Moves {
         *self.runs.entry(kind).or_default() += u64::from(often);
     }
 
+    /// The same between editions 1 and 2.
+    pub fn record_travel(&mut self, kind: u32, moves: [u32; 2]) {
+        let often = moves.iter().all(|times| *times > 1);
+        *self.travels.entry(kind).or_default() += u64::from(often);
+    }
+
+    /// A queue that does not move for this alone.
+    pub fn record_exception(&mut self, name: &'static str) {
+        *self.exceptions.entry(name).or_default() += 1;
+    }
+
     /// Prints the counts; what is missing comes back.
     pub fn report(&self) -> Vec<String> {
         let mut missing = Vec::new();
@@ -98,15 +113,26 @@ impl Moves {
             }
         }
         for corner in &CORNERS {
-            let ways = ways().filter(|(which, _)| is_of(corner, *which));
+            let ways = ways().filter(|way| is_of(corner, *way));
             self.report_corner((None, corner.name), corner.name, ways, &mut missing);
         }
-        for kind in [QUEUE, STACK] {
-            let count = self.runs.get(&kind).copied().unwrap_or(0);
-            let kind = kind_name(kind);
-            println!("{count:9} runs of a {kind} moved more than once both ways");
+        for (runs, between) in [(&self.runs, "0 and 1"), (&self.travels, "1 and 2")] {
+            for kind in [QUEUE, STACK] {
+                let count = runs.get(&kind).copied().unwrap_or(0);
+                let kind = kind_name(kind);
+                let name = format!("a {kind} moved more than once both ways between {between}");
+                println!("{count:9} runs of {name}");
+                if count == 0 {
+                    missing.push(format!("a run of {name}"));
+                }
+            }
+        }
+        for Exception { name, which, .. } in &EXCEPTIONS {
+            let count = self.exceptions.get(name).copied().unwrap_or(0);
+            let name = format!("{} with 33 for {name}", move_name(*which));
+            println!("{count:9} times {name}");
             if count == 0 {
-                missing.push(format!("a run of a {kind} moved more than once both ways"));
+                missing.push(name);
             }
         }
         for way in ways() {
@@ -141,7 +167,7 @@ impl Moves {
     }
 
     fn report_faults(&self, way: Way, named: &str, missing: &mut Vec<String>) {
-        let asked = alone_and_in_pairs();
+        let asked = alone_and_in_pairs(way.0, way.1);
         let all = asked.len();
         let keys = asked.into_iter().map(|faults| (way, faults));
         let not: Vec<_> = keys.filter(|key| !self.faults.contains(key)).collect();
@@ -189,13 +215,15 @@ fn way(trip: Trip) -> Way {
     (trip.which, trip.settings.kind)
 }
 
-fn is_of(corner: &Corner, which: Move) -> bool {
-    corner.of.is_none_or(|of| of == which)
+fn is_of(corner: &Corner, (which, kind): Way) -> bool {
+    corner.of.contains(&which) && corner.kinds.contains(&kind)
 }
 
 pub fn move_name(which: Move) -> &'static str {
     match which {
         Move::From0To1 => "move 0 to 1",
         Move::From1To0 => "move 1 to 0",
+        Move::From1To2 => "move 1 to 2",
+        Move::From2To1 => "move 2 to 1",
     }
 }
