@@ -127,7 +127,7 @@ const fn back(
 /// The one that the settings alone make.
 pub const ROWS: &str = "R of no multiple of d";
 
-pub const EXCEPTIONS: [Exception; 16] = [
+pub const EXCEPTIONS: [Exception; 17] = [
     on("P minus T of 16 times d", |_, settings, words| {
         words[layout::TAKE_WINDOW] = settings.depth;
         words[layout::PUT_WINDOW] = 17 * settings.depth;
@@ -227,6 +227,13 @@ pub const EXCEPTIONS: [Exception; 16] = [
             top,
         ];
         words[at + layout::SEEN_BOTTOM] = rng.pick(&off);
+        Some(())
+    }),
+    back("a depth seen modulo 2^32 alone", |rng, settings, words| {
+        let at = past_window(rng, settings, Edition::Two, words)?;
+        let top = rng.below(settings.depth);
+        words[at + layout::SEEN_WINDOW] = top;
+        words[at + layout::SEEN_BOTTOM] = top.wrapping_sub(settings.depth);
         Some(())
     }),
     back(
