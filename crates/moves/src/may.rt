@@ -16,7 +16,7 @@ use rules::Size;
 use rules::Slot;
 use rules::numbers::MOST_LIVE;
 ghost use mathlib.Core.Path.{_≡_};
-ghost use mathlib.Core.Bool.{Bool, true};
+ghost use mathlib.Core.Bool.{true};
 ghost use Prim.Native.Nat.{_-_, _<_, _≤_};
 ghost use lib.ListN.{length};
 ghost use Rattle.laws.specs.Choice.{cond, all, allBelow};

@@ -1,6 +1,6 @@
 -- A pool that a move leaves is found fit, of the new edition: its windows lead from T up to P, all of the pool's size, or it has none; its subs fit, by what the
 -- move asked of them; and its workers have seen windows of the pool's width.
-use Prim.Native.Nat.{ℕ, zero, suc, _+_, _-_, _*_, _/_, _≤_, _<_}
+use Prim.Native.Nat.{ℕ, zero, suc, _+_, _-_, _*_, _≤_, _<_}
 use mathlib.Core.Path.{_≡_, refl, sym, ap, subst, _∙_}
 use mathlib.Core.Bool.{Bool, true, false}
 use mathlib.Core.List.{List}
@@ -8,7 +8,6 @@ use native.Mathlib.Nat.{le-refl}
 use native.Mathlib.Decide.{decLt}
 use native.Mathlib.Omega.{arith}
 use lib.ListN.{getD, length}
-use lib.Dec.{eqb}
 use borrow.Author.Tests.{lt-ltb, le-ltb, le-leb, eq-eqb}
 use Rattle.laws.specs.Choice.{cond, all, allBelow-at}
 use Rattle.rules.specs.Layout.{topAt, markAt, setAt, windowsAt, windowsWords, workerAt, firstOf, secondOf, needed}
@@ -17,10 +16,10 @@ use Rattle.rules.specs.Make.{inEdition}
 use Rattle.rules.specs.Windows.{hasWindows, sizeOf, nextSize, liveOf, nthSize, bottomOf, levelOf}
 use Rattle.rules.specs.Worker.{slotAt}
 use Rattle.rules.specs.Fit.{Fit, subFit, subsFit, pairFit, sizesFit, topsFit, windowsFit, workersFit, checkedOf, SubFits, SizeFits, FitPool}
-use Rattle.rules.specs.Move.{leads, apart, subsFitIn, mayMove, ownLive, movedWords, MovesOn}
+use Rattle.rules.specs.Move.{leads, subsFitIn, mayMove, ownLive, movedWords, MovesOn}
 use Rattle.rules.proofs.Types.{Settings, Size}
 use Rattle.rules.proofs.Workers.{windowed-not}
-use Rattle.rules.proofs.Fitness.{WorkerFits, FitParts, sub-fits, fit-pool, fit-head, fit-worker}
+use Rattle.rules.proofs.Fitness.{WorkerFits, sub-fits, fit-pool, fit-head, fit-worker}
 use Rattle.rules.proofs.machine.Slots.{windowed-none}
 use Rattle.rules.proofs.words.Fit.{all-below, parts-fit, sub-is-fit, sub-anywhere, worker-is-fit, size-is-fit}
 use Rattle.rules.proofs.moves.Slots.{slotMoved, worker-moved}

@@ -2,31 +2,29 @@
 -- invariant goes on holding. What it takes is that no size was ever set, so that all windows are of the pool's size, and that few are live.
 use Prim.Native.Nat.{ℕ, suc, _+_, _-_, _*_, _^_, _≤_, _<_}
 use mathlib.Core.Path.{_≡_, refl, sym, ap, subst, _∙_}
-use mathlib.Core.Logic.{_⊎_, inl, inr}
 use mathlib.Core.Bool.{Bool, true, false, false≢true}
 use native.Mathlib.Nat.{le-refl}
 use native.Mathlib.Omega.{arith}
 use lib.Dec.{eqb}
-use borrow.Author.Tests.{eqb-true, eqb-false}
+use borrow.Author.Tests.{eqb-true}
 use Rattle.laws.specs.Choice.{cond, cond-both}
-use Rattle.laws.specs.Wrap.{sub32}
 use Rattle.rules.specs.Layout.{bottomWord, widthWord}
-use Rattle.rules.specs.Limits.{settingsFit, windowed, mostLive, Bounds}
+use Rattle.rules.specs.Limits.{windowed, mostLive, Bounds}
 use Rattle.rules.specs.Make.{inEdition}
 use Rattle.rules.specs.Sequential.{Contents}
-use Rattle.rules.specs.Windows.{hasWindows, sizeOf, spanOf}
-use Rattle.rules.specs.Worker.{seenBy, kept, queuePhase, stackPhase, phaseOf}
-use Rattle.rules.specs.Fit.{pastWindow, SizeFits}
+use Rattle.rules.specs.Windows.{sizeOf, spanOf}
+use Rattle.rules.specs.Worker.{seenBy, queuePhase, stackPhase, phaseOf}
+use Rattle.rules.specs.Fit.{pastWindow}
 use Rattle.rules.specs.Move.{newWord}
-use Rattle.rules.proofs.Types.{Settings, Side, Putting, Taking, Phase, Idle, Window, QueuePutRead, QueueTakeRead, StackRead, Check, QueueCommit, StackCommit, QueueShift, StackShift, QueueConfirm, StackConfirm, Slot, Span}
+use Rattle.rules.proofs.Types.{Settings, Putting, Taking, Phase, Idle, Window, QueuePutRead, QueueTakeRead, StackRead, Check, QueueCommit, StackCommit, QueueShift, StackShift, QueueConfirm, StackConfirm, Slot, Span}
 use Rattle.rules.proofs.counts.Wraps.{sub32-is}
-use Rattle.rules.proofs.machine.Machine.{State, topOf, subIn, phaseIn}
+use Rattle.rules.proofs.machine.Machine.{State, subIn, phaseIn}
 use Rattle.rules.proofs.machine.Phases.{WindowIn}
 use Rattle.rules.proofs.machine.Good.{Good}
 use Rattle.rules.proofs.machine.Turns.{Common}
 use Rattle.rules.proofs.machine.Slots.{Blank, phase-from}
 use Rattle.rules.proofs.machine.Ways.{SnapAt}
-use Rattle.rules.proofs.queue.Inv.{Windows, Plain, Pool, Sees, Knows, Inv, Grown, knows-grown, base-le, top-few}
+use Rattle.rules.proofs.queue.Inv.{Plain, Sees, Knows, Inv, Grown, knows-grown, base-le, top-few}
 use Rattle.rules.proofs.moves.Slots.{slotMoved, bottom-given, width-given, stack-given, worker-moved}
 
 -- the state after a move, from settings g to settings h

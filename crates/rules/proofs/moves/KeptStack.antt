@@ -1,5 +1,5 @@
 -- The stack's machine over a move: no edition is told from another by a stack's rule or by what its invariant says, so that it goes on holding as it is.
-use Prim.Native.Nat.{ℕ, _≤_, _<_}
+use Prim.Native.Nat.{ℕ, _≤_}
 use mathlib.Core.Path.{_≡_, sym, subst}
 use mathlib.Core.Logic.{_⊎_, inl, inr}
 use native.Mathlib.Omega.{arith}
@@ -7,7 +7,7 @@ use Rattle.rules.specs.Make.{inEdition}
 use Rattle.rules.specs.Sequential.{Contents}
 use Rattle.rules.proofs.Types.{Settings, Side, Putting, Taking, Phase, Idle, Window, QueuePutRead, QueueTakeRead, StackRead, Check, QueueCommit, StackCommit, QueueShift, StackShift, QueueConfirm, StackConfirm}
 use Rattle.rules.proofs.machine.Machine.{State, subIn, phaseIn}
-use Rattle.rules.proofs.stack.Inv.{Ghost, Sight, sight, Hit, Missed, Near, Fits, Left, Passed, Committing, Knows, Inv}
+use Rattle.rules.proofs.stack.Inv.{Ghost, Sight, sight, Hit, Fits, Left, Passed, Knows, Inv}
 use Rattle.rules.proofs.moves.Kept.{movedIn, phase-moved}
 
 module _ (g : Settings) (b : ℕ) where

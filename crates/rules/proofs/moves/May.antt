@@ -1,15 +1,15 @@
 -- What a fit pool has that moves: a queue that is given windows of their own sizes, a queue that had them, and any other, which no edition is told from.
 use Prim.Native.Nat.{ℕ, _+_, _-_, _*_, _/_, _%_, _≤_, _<_}
-use mathlib.Core.Path.{_≡_, refl, sym, _∙_}
+use mathlib.Core.Path.{_≡_, refl}
 use mathlib.Core.Bool.{Bool, true, false}
-use mathlib.Core.List.{List, [], _∷_}
+use mathlib.Core.List.{List}
 use native.Mathlib.Nat.{div-le-of-le-mul, div-add-mod'}
 use native.Mathlib.Omega.{arith}
 use lib.ListN.{getD}
 use lib.Dec.{leb, eqb}
 use borrow.Author.Tests.{leb-true, eqb-true, eq-eqb}
-use Rattle.laws.specs.Choice.{cond, cases, both, all, both-true, all-holds, allBelow-at}
-use Rattle.rules.specs.Layout.{topAt, markAt, phaseAt, windowAt, workerAt, setAt}
+use Rattle.laws.specs.Choice.{cond, both, all, both-true, all-holds, allBelow-at}
+use Rattle.rules.specs.Layout.{workerAt, setAt}
 use Rattle.rules.specs.Limits.{mostLive, windowed, limits, queueLimits, settingsFit}
 use Rattle.rules.specs.Make.{shipped, inEdition}
 use Rattle.rules.specs.Windows.{hasWindows, sizeOf, nextSize, liveOf, nthSize}

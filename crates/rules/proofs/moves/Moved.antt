@@ -1,17 +1,17 @@
 -- What a move that answers 0 has done: the target holds the pool, each word at its place in the new edition, and is found fit; and a move that is refused
 -- leaves the target as it was.
-use Prim.Native.Nat.{ℕ, _+_, _*_, _≤_, _<_}
-use mathlib.Core.Path.{_≡_, refl, sym, ap, subst, _∙_}
+use Prim.Native.Nat.{ℕ, _≤_, _<_}
+use mathlib.Core.Path.{_≡_, refl, sym, subst, _∙_}
 use mathlib.Core.Bool.{Bool, true, false}
 use mathlib.Core.List.{List}
 use native.Mathlib.Omega.{arith}
-use lib.ListN.{getD, length}
+use lib.ListN.{length}
 use lib.Dec.{ltb, eqb}
 use borrow.Author.Tests.{le-ltb, ltb-false, ne-eqb}
 use Rattle.laws.specs.Choice.{cond, cases, both}
 use Rattle.rules.specs.Answers.{Out, out, refuse, numberOf, tooFewWords, wrongEdition, excepted, notFit}
 use Rattle.rules.specs.Layout.{settingsOf, bottomWord, widthWord, needed}
-use Rattle.rules.specs.Fit.{pastWindow, Checked, Unfit, Fit, checkedOf, refusalOf}
+use Rattle.rules.specs.Fit.{pastWindow, Checked, Unfit, Fit, refusalOf}
 use Rattle.rules.specs.Make.{inEdition}
 use Rattle.rules.specs.Move.{newWord, movedWords, leads, mayMove, sourceChecked, fitMove, checkedMove, moveOf}
 use Rattle.rules.specs.Untouched.{Beyond, MoveKeeps}

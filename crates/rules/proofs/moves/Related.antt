@@ -1,6 +1,6 @@
 -- A move and the machine: the words that a move leaves say the state that the source's words said, but that each slot has the two words of the window
 -- seen as the new edition has them. So a worker is in the phase that it was in, and the machine's invariant goes on holding, of the new edition.
-use Prim.Native.Nat.{ℕ, suc, _+_, _-_, _*_, _/_, _≤_, _<_}
+use Prim.Native.Nat.{ℕ, suc, _+_, _-_, _*_, _≤_, _<_}
 use mathlib.Core.Path.{_≡_, refl, sym, ap, subst, _∙_}
 use mathlib.Core.Logic.{_≢_}
 use mathlib.Core.Bool.{Bool, true, false, false≢true}
@@ -9,24 +9,21 @@ use native.Mathlib.Nat.{le-refl, div-eq-of-eq-mul-left, lt-of-mul-lt-mul-right}
 use native.Mathlib.Decide.{ℕ-discrete}
 use native.Mathlib.Omega.{arith}
 use lib.ListN.{getD, length}
-use Rattle.laws.specs.Choice.{both-true}
 use Rattle.laws.specs.Wrap.{sub32}
 use Rattle.rules.specs.Answers.{Out, numberOf}
-use Rattle.rules.specs.Layout.{stepsAt, putsAt, topAt, markAt, editionAt, cellWords, cellsAt, cellOf, needed, settingsOf}
+use Rattle.rules.specs.Layout.{stepsAt, putsAt, topAt, markAt, editionAt, cellWords, cellsAt, cellOf, needed}
 use Rattle.rules.specs.Limits.{settingsFit, windowed, mostLive, Bounds}
 use Rattle.rules.specs.Make.{inEdition}
 use Rattle.rules.specs.Sequential.{Contents}
-use Rattle.rules.specs.Windows.{hasWindows, sizeOf, noSize, nthSize}
-use Rattle.rules.specs.Held.{Item, itemAt}
-use Rattle.rules.specs.Move.{apart, mayMove, ownLive, movedWords, moveOf}
-use Rattle.rules.proofs.Types.{Settings, Size, Slot}
+use Rattle.rules.specs.Windows.{hasWindows, sizeOf}
+use Rattle.rules.specs.Held.{itemAt}
+use Rattle.rules.specs.Move.{apart, ownLive, movedWords, moveOf}
+use Rattle.rules.proofs.Types.{Settings}
 use Rattle.rules.proofs.Fitness.{settings-bounds}
 use Rattle.rules.proofs.Cells.{queue-below, cell-lt}
-use Rattle.rules.proofs.machine.Machine.{State, sizeAt, belowIn, phaseIn}
+use Rattle.rules.proofs.machine.Machine.{State, sizeAt, phaseIn}
 use Rattle.rules.proofs.machine.Slots.{has-windows, has-queue}
-use Rattle.rules.proofs.machine.Good.{Good, good}
-use Rattle.rules.proofs.machine.Turns.{Kind}
-use Rattle.rules.proofs.machine.Ways.{SnapAt}
+use Rattle.rules.proofs.machine.Good.{good}
 use Rattle.rules.proofs.words.Says.{Says, WindowsSay}
 use Rattle.rules.proofs.queue.Inv.{Plain, Inv, putsIn, window-of}
 use Rattle.rules.proofs.queue.Full.{times-less}

@@ -3,9 +3,9 @@ use Prim.Native.Nat.{ℕ, _-_}
 use mathlib.Core.Path.{_≡_, refl}
 use mathlib.Core.Bool.{Bool, true, false}
 use lib.Dec.{eqb}
-use borrow.Author.Tests.{eqb-true, eqb-false, eq-eqb, ne-eqb, le-leb, lt-ltb}
+use borrow.Author.Tests.{eqb-true, le-leb, lt-ltb}
 use native.Mathlib.Nat.{le-refl}
-use Rattle.laws.specs.Choice.{cond, cases}
+use Rattle.laws.specs.Choice.{cond}
 use Rattle.rules.specs.Layout.{bottomWord, widthWord}
 use Rattle.rules.specs.Limits.{windowed, Bounds}
 use Rattle.rules.specs.Make.{inEdition}

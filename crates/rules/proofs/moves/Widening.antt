@@ -1,7 +1,6 @@
 -- K8's moves: what a pool of edition 1 is given by a move on is just what a move back asks for, so that it goes back, and nothing of it is lost.
-use Prim.Native.Nat.{ℕ, _+_, _-_, _*_, _/_, _%_, _≤_, _<_}
+use Prim.Native.Nat.{ℕ, _+_, _-_, _/_, _%_, _≤_, _<_}
 use mathlib.Core.Path.{_≡_, refl, sym, ap, subst, _∙_}
-use mathlib.Core.Logic.{_≢_}
 use mathlib.Core.Bool.{Bool, true, false}
 use mathlib.Core.List.{List}
 use native.Mathlib.Decide.{ℕ-discrete}
@@ -10,27 +9,27 @@ use lib.ListN.{getD, length}
 use lib.Seq.{paste}
 use lib.Dec.{eqb}
 use borrow.Author.Tests.{eq-eqb, ne-eqb}
-use Rattle.laws.specs.Choice.{cond, all, allBelow}
-use Rattle.rules.specs.Answers.{out, numberOf}
-use Rattle.rules.specs.Layout.{markAt, settingsOf, lostWord, bottomWord, widthWord, workerWords, setAt, workerAt, phaseAt, windowAt, firstOf, secondOf, needed}
+use Rattle.laws.specs.Choice.{cond, all}
+use Rattle.rules.specs.Answers.{out}
+use Rattle.rules.specs.Layout.{settingsOf, lostWord, bottomWord, widthWord, setAt, workerAt, needed}
 use Rattle.rules.specs.Limits.{windowed, mostLive}
 use Rattle.rules.specs.Windows.{hasWindows, sizeOf, nextSize, liveOf, nthSize}
 use Rattle.rules.specs.Worker.{slotAt}
 use Rattle.rules.specs.Make.{inEdition}
-use Rattle.rules.specs.Fit.{pastWindow, subFit, FitPool}
+use Rattle.rules.specs.Fit.{pastWindow, FitPool}
 use Rattle.rules.specs.Move.{apart, newWord, subsFitIn, ownSize, seenBack, backLimits, mayMove, ownLive, movedWords, moveOf, MovesOn}
 use Rattle.rules.specs.Widening.{WindowsGiven, SeenGiven, Widened, MoveOnGives, OneToTwoToOne}
 use Rattle.rules.specs.declared.Answer.the-variants.{Moving}
 use Rattle.rules.proofs.Types.{Settings, Size, Slot}
-use Rattle.rules.proofs.Workers.{words-one, words-two, word-lt}
+use Rattle.rules.proofs.Workers.{words-one, words-two}
 use Rattle.rules.proofs.Fitness.{queue-limits, fit-head}
 use Rattle.rules.proofs.machine.Slots.{has-windows, has-none, has-no-queue}
 use Rattle.rules.proofs.words.Fit.{all-below, sub-is-fit, sub-anywhere}
 use Rattle.rules.proofs.moves.Stores.{windowed-old}
-use Rattle.rules.proofs.moves.May.{own-times, own-few}
+use Rattle.rules.proofs.moves.May.{own-times}
 use Rattle.rules.proofs.moves.Slots.{slotMoved, bottom-given, width-given, stack-given}
 use Rattle.rules.proofs.moves.Words.{new-word, first-kept, second-kept, moved-blank, moved-next, moved-set, moved-live, moved-size, moved-none}
-use Rattle.rules.proofs.moves.Fits.{Movable, source-pool, source-long, few-live, goes-on, mark-kept, slots-moved}
+use Rattle.rules.proofs.moves.Fits.{Movable, source-pool, source-long, few-live, goes-on, slots-moved}
 use Rattle.rules.proofs.moves.Moved.{move-accepted}
 use Rattle.rules.proofs.moves.Back.{word-kept, there-and-back}
 

@@ -1,15 +1,15 @@
 -- The words behind the cells that a move leaves: of a queue in an edition with windows of their own sizes the next size, no size set, the live windows and
 -- a pair for each, all of the pool's size; every other one is zero.
 use Prim.Native.Nat.{ℕ, zero, suc, _+_, _*_, _≤_, _<_}
-use mathlib.Core.Path.{_≡_, refl, sym, _∙_}
-use mathlib.Core.Logic.{_≢_, _⊎_, inl, inr}
+use mathlib.Core.Path.{_≡_, refl, _∙_}
+use mathlib.Core.Logic.{_⊎_, inl, inr}
 use mathlib.Core.Bool.{Bool, true, false}
 use mathlib.Core.List.{List, [], _∷_}
 use native.Mathlib.Decide.{ℕ-discrete}
 use native.Mathlib.Omega.{arith}
-use lib.ListN.{getD, set, length, length-set}
+use lib.ListN.{getD, length}
 use lib.Seq.{getD-set-same, getD-set-other, sets, length-sets}
-use Rattle.laws.specs.Choice.{cond, cases, both-true}
+use Rattle.laws.specs.Choice.{cond, both-true}
 use Rattle.rules.specs.Layout.{windowsAt, setAt, pairsAt, pairWords, pairAt, windowsWords, needed}
 use Rattle.rules.specs.Limits.{windowed, mostLive}
 use Rattle.rules.specs.Windows.{hasWindows, sizeOf, noSize, nextSize, liveOf, nthSize}

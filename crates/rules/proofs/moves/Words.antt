@@ -1,9 +1,9 @@
 -- Each word that a move leaves in its target: the source's words, each at its place in the new edition; where the old edition has no word, what a new one
 -- is given; and what was there behind the needed ones.
 use Prim.Native.Nat.{ℕ, zero, suc, _+_, _*_, _≤_, _<_}
-use mathlib.Core.Path.{_≡_, refl, sym, ap, _∙_}
+use mathlib.Core.Path.{_≡_, refl, ap, _∙_}
 use mathlib.Core.Logic.{_≢_, _⊎_, inl, inr}
-use mathlib.Core.Bool.{Bool, true, false}
+use mathlib.Core.Bool.{true, false}
 use mathlib.Core.List.{List}
 use native.Mathlib.Nat.{zero-add}
 use native.Mathlib.Decide.{ℕ-discrete}
@@ -19,9 +19,8 @@ use Rattle.rules.specs.Windows.{hasWindows, sizeOf, noSize, nextSize, li
 use Rattle.rules.specs.Worker.{slotAt}
 use Rattle.rules.specs.Move.{newWord, wordIn, workerMoved, workersMoved, headMoved, cellsMoved, ownLive, movedWords}
 use Rattle.rules.specs.Untouched.{Beyond}
-use Rattle.rules.specs.Turnaround.{SamePool}
-use Rattle.rules.proofs.Types.{Settings, Slot}
-use Rattle.rules.proofs.Workers.{word-lt, worker-within, workers-apart, words-two, windowed-is, windowed-not}
+use Rattle.rules.proofs.Types.{Settings}
+use Rattle.rules.proofs.Workers.{word-lt, worker-within, workers-apart, words-two, windowed-is}
 use Rattle.rules.proofs.Alike.{settings-alike}
 use Rattle.rules.proofs.moves.Only.{Only, no-store, one-store, copy-only, copied}
 use Rattle.rules.proofs.moves.Slots.{slotMoved}

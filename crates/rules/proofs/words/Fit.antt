@@ -1,29 +1,27 @@
 -- Words that say a machine's state with fit slots, subs and windows are checked fit: no call on a pool from make answers 21 or 23.
 use mathlib.Core.Path.{_≡_, refl, sym, ap, _∙_, subst}
-use mathlib.Core.Logic.{_≢_}
 use mathlib.Core.Bool.{Bool, true, false}
 use mathlib.Core.List.{List}
 use Prim.Native.Nat.{ℕ, zero, suc, _+_, _-_, _≤_, _<_}
-use native.Mathlib.Nat.{le-refl}
-use native.Mathlib.Decide.{ℕ-discrete, decLt}
+use native.Mathlib.Decide.{decLt}
 use native.Mathlib.Omega.{arith}
 use lib.ListN.{length, getD}
-use lib.Dec.{leb, eqb}
-use borrow.Author.Tests.{le-ltb, le-leb, lt-ltb, eq-eqb, ne-eqb, eqb-true, eqb-false}
+use lib.Dec.{eqb}
+use borrow.Author.Tests.{le-ltb, le-leb, lt-ltb, eq-eqb, eqb-true, eqb-false}
 use Rattle.laws.specs.Choice.{cond, cases, all, allBelow}
 use Rattle.rules.specs.Answers.{notFit}
 use Rattle.rules.specs.Layout.{headWords, topAt, markAt, workerAt, setAt, windowsAt, windowsWords, needed, settingsOf}
 use Rattle.rules.specs.Make.{inEdition}
-use Rattle.rules.specs.Limits.{settingsFit, windowed, sizeLimits, sizeFit, mostLive}
+use Rattle.rules.specs.Limits.{settingsFit, sizeFit, mostLive}
 use Rattle.rules.specs.Windows.{hasWindows, nextSize, liveOf, nthSize, bottomOf, levelOf}
 use Rattle.rules.specs.Worker.{slotAt}
-use Rattle.rules.specs.Fit.{Fit, subFit, subsFit, workerLimits, workerFit, workersFit, pairFit, sizesFit, topsFit, windowsFit, bodyFit, bodyChecked, headChecked, checkedBy, checkedOf, SubFits, SizeFits}
+use Rattle.rules.specs.Fit.{Fit, subFit, subsFit, workerFit, workersFit, pairFit, sizesFit, topsFit, windowsFit, bodyChecked, headChecked, checkedBy, checkedOf, SubFits, SizeFits}
 use Rattle.rules.proofs.Types.{Settings, Size, Slot}
 use Rattle.rules.proofs.Fitness.{WorkerFits, FitParts}
-use Rattle.rules.proofs.machine.Machine.{State, sizeAt}
+use Rattle.rules.proofs.machine.Machine.{State}
 use Rattle.rules.proofs.machine.Slots.{windowed-none}
 use Rattle.rules.proofs.machine.Turns.{Common, bottomIn, LiveFits}
-use Rattle.rules.proofs.words.Says.{Says, WindowsSay, rises, bottoms}
+use Rattle.rules.proofs.words.Says.{Says, WindowsSay, bottoms}
 
 -- a test that holds at each number below the bound
 pub all-below : (n : ℕ) (p : ℕ → Bool) → ((i : ℕ) → i < n → p i ≡ true) → allBelow n p ≡ true

@@ -2,14 +2,14 @@
 use Prim.Native.Nat.{ℕ, _-_, _%_, _≤_}
 use mathlib.Core.List.{List}
 use mathlib.Core.Bool.{Bool, true}
-use mathlib.Core.Path.{_≡_, refl, sym, ap, subst, _∙_}
+use mathlib.Core.Path.{_≡_, refl, sym, ap, _∙_}
 use native.Mathlib.Omega.{arith}
 use borrow.Author.Needs.{needs}
 use borrow.Author.Tests.{eq-eqb, ne-eqb}
 use lib.ListN.{length, getD}
 use Rattle.laws.specs.Choice.{cond, both, all, allBelow, both-one, both-true}
 use Rattle.rules.specs.Fit.{FitPool, subFit}
-use Rattle.rules.specs.Layout.{markAt, setAt, workerAt, pairAt, firstOf, secondOf}
+use Rattle.rules.specs.Layout.{setAt, workerAt, pairAt, firstOf, secondOf}
 use Rattle.rules.specs.Limits.{windowed, mostLive}
 use Rattle.rules.specs.Move.{subsFitIn, ownSize, seenBack, backLimits}
 use Rattle.rules.specs.Windows.{hasWindows, nextSize, liveOf, nthSize}

@@ -1,7 +1,6 @@
 -- `moves::may::may_on` meets its contract: its tests are those of the list, in their order.
 use Prim.Native.Nat.{ℕ, _-_, _*_, _%_, _≤_}
 use mathlib.Core.List.{List}
-use mathlib.Core.Bool.{Bool}
 use mathlib.Core.Path.{_≡_, refl, sym, ap, _∙_}
 use native.Mathlib.Omega.{arith}
 use borrow.Author.Needs.{needs}

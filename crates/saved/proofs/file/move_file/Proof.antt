@@ -1,11 +1,11 @@
 -- `saved::file::move_file` meets its contract: a refusal saves nothing, and of a move that answers 0 the bytes of the needed words are saved, for which the
 -- output has room. Assumes nothing.
-use Prim.Native.Nat.{ℕ, _≤_}
+use Prim.Native.Nat.{ℕ}
 use mathlib.Core.Path.{_≡_, sym, ap, subst, _∙_}
 use mathlib.Core.List.{List, []}
 use native.Mathlib.Omega.{arith}
 use borrow.Author.Needs.{needs}
-use lib.ListN.{length, replicate}
+use lib.ListN.{replicate}
 use Rattle.rules.specs.Answers.{Returned, numberOf}
 use Rattle.rules.specs.Layout.{workerWords, windowsWords, settingsOf}
 use Rattle.rules.specs.Move.{moveOf}
