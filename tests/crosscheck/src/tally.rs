@@ -169,8 +169,8 @@ impl Tally {
         let [queue, stack] = self.runs.percent_of_worst;
         let [queues, stacks] = self.runs.at_worst;
         println!(
-            "random runs: takes pass over up to {queue} % of the worst distance in queues, {stack} % in \
-             stacks; {queues} runs of queues and {stacks} of stacks came to it",
+            "random runs without sizes: takes pass over up to {queue} % of the worst distance in queues, \
+             {stack} % in stacks; {queues} runs of queues and {stacks} of stacks came to it",
         );
     }
 }

@@ -25,7 +25,7 @@ pub struct FromMake {
     events: Vec<Event>,
     failed_commits: FailedCommits,
     /// A size was set (K8): takes then go by their own windows' sizes.
-    sizes_set: bool,
+    pub sizes_set: bool,
     /// The most items that a take has passed over so far, spacers too.
     pub most_passed: u32,
     /// Steps since the last final answer, and the most of them so far.

@@ -16,7 +16,8 @@ pub struct Runs {
     pub operations: u64,
     /// Runs in which some put or take cannot stand at its last step.
     pub changed_early: u64,
-    /// How many percent of the worst distance a take has passed over, by kind.
+    /// How many percent of the worst distance a take has passed over, by kind, where no size was
+    /// set.
     pub percent_of_worst: [u32; 2],
     /// How many runs had a take that passed over all of it, by kind.
     pub at_worst: [u64; 2],
@@ -31,7 +32,9 @@ impl Runs {
         self.runs += 1;
         self.operations += placed.events.len() as u64;
         self.changed_early += u64::from(placed.returns > 0);
-        self.note_passed(&settings, run.most_passed);
+        if !run.sizes_set {
+            self.note_passed(&settings, run.most_passed);
+        }
         checks.coverage.places.record(&settings, &placed);
         checks.coverage.stretch.record_run(&settings, run.longest);
         Ok(())
