@@ -21,6 +21,25 @@ pub struct Workload {
     pub end: Vec<u32>,
 }
 
+impl Workload {
+    /// These puts from the start on, and so many takes of the words that they left.
+    fn with_takes(
+        settings: &Settings,
+        start: Vec<u32>,
+        puts: Vec<Call>,
+        mut words: Vec<u32>,
+        operations: u32,
+    ) -> Self {
+        let takes = record(&mut words, settings, Operation::Take, operations);
+        Self {
+            start,
+            puts,
+            takes,
+            end: words,
+        }
+    }
+}
+
 /// How many items the pool holds at the start.
 #[derive(Clone, Copy)]
 pub enum Fill {
@@ -43,13 +62,7 @@ pub fn workload(settings: &Settings, fill: Fill) -> Workload {
     };
     let start = words.clone();
     let puts = record(&mut words, settings, Operation::Put, operations);
-    let takes = record(&mut words, settings, Operation::Take, operations);
-    Workload {
-        start,
-        puts,
-        takes,
-        end: words,
-    }
+    Workload::with_takes(settings, start, puts, words, operations)
 }
 
 /// From these words on, with a size set before each so many puts, in turn.
@@ -69,13 +82,7 @@ pub fn sized(settings: &Settings, start: Vec<u32>, sizes: &[Size], every: u32) -
         puts.extend(record(&mut words, settings, Operation::Put, some));
         left -= some;
     }
-    let takes = record(&mut words, settings, Operation::Take, operations);
-    Workload {
-        start,
-        puts,
-        takes,
-        end: words,
-    }
+    Workload::with_takes(settings, start, puts, words, operations)
 }
 
 /// Operations of the workers in turn, each from its begin to its answer; the

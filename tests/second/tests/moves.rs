@@ -3,7 +3,7 @@
 
 mod common;
 
-use common::editions::{back, on, Source};
+use common::editions::{back, on, stand_in_order, Source};
 use common::failed_commits::{failed_commits, set_failed_commits};
 use common::states::{every_state_in, small_pools};
 use common::{made_in, queue, stack, strided, worker_at, Numbers};
@@ -168,20 +168,6 @@ fn back_and_on_again_has_ninth_words_of_0() {
     assert!(dropped > 1_000, "{dropped}");
 }
 
-/// What can be wrong with a move, in the order of the checks, and the number.
-const FAULTS: [(&str, u32); 10] = [
-    ("11 words", TOO_SHORT),
-    ("settings", UNFIT),
-    ("stride", UNFIT),
-    ("edition", WRONG_EDITION),
-    ("needed words", TOO_SHORT),
-    ("sub", UNFIT),
-    ("phase", UNFIT),
-    ("index", UNFIT),
-    ("scan", UNFIT),
-    ("target", TOO_SHORT),
-];
-
 /// An edition that is not this one, each in turn.
 fn other_editions(edition: Edition) -> impl Iterator<Item = u32> {
     let all = [0, 1, 2, 3, 7, 1 << 31, TOP];
@@ -203,7 +189,6 @@ fn refusal(
             continue;
         }
         match *fault {
-            "scan" => from.words[last + layout::SCAN] = settings.width,
             "target" => to.truncate(to.len() - 1),
             other => panic!("{other}"),
         }
@@ -224,17 +209,9 @@ fn refusals_stand_in_their_order() {
         for direction in MOVES {
             assert_eq!(refusal(direction, settings, &[], 0), MOVING);
             for edition in other_editions(direction.0) {
-                for (at, (first, number)) in FAULTS.into_iter().enumerate() {
-                    assert_eq!(refusal(direction, settings, &[first], edition), number);
-                    for (second, _) in &FAULTS[at + 1..] {
-                        let both = [first, second];
-                        assert_eq!(
-                            refusal(direction, settings, &both, edition),
-                            number,
-                            "{both:?}"
-                        );
-                    }
-                }
+                stand_in_order(&[("target", TOO_SHORT)], |faults| {
+                    refusal(direction, settings, faults, edition)
+                });
             }
         }
     }

@@ -3,7 +3,7 @@
 
 mod common;
 
-use common::editions::Source;
+use common::editions::{stand_in_order, Source};
 use common::sizes::{is_fit, live, made_2, set_live, set_sub, set_worker, size_word, TWO};
 use common::states::{every_state_as_it_is, small_pools, CALLS};
 use common::{edition_of, made_in, queue, stack, strided, Numbers};
@@ -307,20 +307,6 @@ fn stacks_are_not_excepted() {
     }
 }
 
-/// What can be wrong with a move, in the order of the checks, and the number.
-const FAULTS: [(&str, u32); 10] = [
-    ("11 words", TOO_SHORT),
-    ("settings", UNFIT),
-    ("stride", UNFIT),
-    ("edition", WRONG_EDITION),
-    ("needed words", TOO_SHORT),
-    ("sub", UNFIT),
-    ("phase", UNFIT),
-    ("index", UNFIT),
-    ("excepted", MAY_NOT_MOVE),
-    ("target", TOO_SHORT),
-];
-
 fn refusal(
     (old, new, mover): (Edition, Edition, Mover),
     settings: Settings,
@@ -350,25 +336,17 @@ fn refusal(
 /// Each alone, and each two at once.
 #[test]
 fn refusals_stand_in_their_order() {
+    let excepted = [("excepted", MAY_NOT_MOVE), ("target", TOO_SHORT)];
     let pools = [
-        (strided(1, queue(2, 2, 4, 3)), &FAULTS[..]),
-        (strided(1, stack(2, 2, 1, 4, 3)), &FAULTS[..8]),
+        (strided(1, queue(2, 2, 4, 3)), &excepted[..]),
+        (strided(1, stack(2, 2, 1, 4, 3)), &excepted[1..]),
     ];
-    for (settings, faults) in pools {
+    for (settings, more) in pools {
         for direction in MOVES {
             assert_eq!(refusal(direction, settings, &[], 0), MOVING);
             let others = [0, 1, 2, 3, 7, TOP].into_iter();
             for edition in others.filter(|word| *word != direction.0.word()) {
-                for (at, (first, number)) in faults.iter().enumerate() {
-                    assert_eq!(refusal(direction, settings, &[first], edition), *number);
-                    for (second, _) in &faults[at + 1..] {
-                        let both = [*first, *second];
-                        let found = refusal(direction, settings, &both, edition);
-                        assert_eq!(found, *number, "{both:?}");
-                    }
-                }
-                let target = ["target"];
-                assert_eq!(refusal(direction, settings, &target, edition), TOO_SHORT);
+                stand_in_order(more, |faults| refusal(direction, settings, faults, edition));
             }
         }
     }

@@ -2,7 +2,7 @@
 //! word (K5, K6); and what may be wrong with a move's source.
 
 use super::failed_commits::ninth_words;
-use second::{layout, Edition, Settings};
+use second::{layout, Edition, Settings, TOO_SHORT, UNFIT, WRONG_EDITION};
 
 /// Without the ninth words.
 pub fn back(one: &[u32]) -> Vec<u32> {
@@ -57,8 +57,34 @@ impl Source {
             "sub" => words[settings.workers_at() - layout::SUB_WORDS] = settings.rows + 1,
             "phase" => words[last + layout::PHASE] = 7,
             "index" => words[last + layout::INDEX] = settings.width,
+            "scan" => words[last + layout::SCAN] = settings.width,
             _ => return false,
         }
         true
+    }
+}
+
+/// What can be wrong with any move's source, in the order of the checks, and the number.
+pub const SOURCE_FAULTS: [(&str, u32); 9] = [
+    ("11 words", TOO_SHORT),
+    ("settings", UNFIT),
+    ("stride", UNFIT),
+    ("edition", WRONG_EDITION),
+    ("needed words", TOO_SHORT),
+    ("sub", UNFIT),
+    ("phase", UNFIT),
+    ("index", UNFIT),
+    ("scan", UNFIT),
+];
+
+/// Each of these faults alone, and each two at once, by the number of the first: after those
+/// of any source these.
+pub fn stand_in_order(more: &[(&str, u32)], refusal: impl Fn(&[&str]) -> u32) {
+    let faults = [&SOURCE_FAULTS, more].concat();
+    for (at, (first, number)) in faults.iter().enumerate() {
+        assert_eq!(refusal(&[first]), *number, "{first}");
+        for (second, _) in &faults[at + 1..] {
+            assert_eq!(refusal(&[first, second]), *number, "{first}, {second}");
+        }
     }
 }
