@@ -30,7 +30,7 @@ queueSteps g taking = 3 * g .width + 3
 abbrev pub stackSteps : Settings → ℕ
 stackSteps g = max (2 * g .width + 8) (3 * g .width + 4)
 
--- the exact figures: rows of crates/runs reach them
+-- the exact figures: rows of crates/long_runs reach them
 abbrev pub soloSteps : Settings → Operation → ℕ
 soloSteps g o = cond (eqb (g .kind) 0) (queueSteps g o) (stackSteps g)
 

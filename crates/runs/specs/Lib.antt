@@ -4,11 +4,5 @@ pub mod Reach
 pub mod Table
 pub mod Strides
 pub mod HeldCells
-pub mod Extremes
-pub mod Spacers
-pub mod Solos
-pub mod Stretches
-pub mod Cards
-pub mod Sizes
 pub mod Moves
 pub mod Tests

@@ -1,16 +1,12 @@
--- What the tables claim, as tests that compute: proofs/Runs has each claim from its tests.
+-- What the tables claim, as tests that compute: proofs/Claims has each claim from its tests.
 use Prim.Native.Nat.{ℕ}
 use mathlib.Core.Bool.{Bool, true, false}
 use mathlib.Core.List.{List, [], _∷_, map}
-use lib.ListN.{replicate}
 use lib.Dec.{eqb}
 use Rattle.laws.specs.Choice.{both, all}
 use Rattle.rules.specs.declared.Settings.{Settings}
-use Rattle.stretch.specs.Stretch.{countedSteps}
 use Rattle.runs.specs.Rows.{Line, Row, makeNumber, runOf}
 use Rattle.runs.specs.Reach.{Reach}
-use Rattle.runs.specs.Cards.{Cards, cardsOf}
-use Rattle.runs.specs.Stretches.{Stretch, eventsIn, numbersIn}
 
 -- every row passes its tests
 abbrev pub every : {A : Type 0} → (A → List Bool) → List A → Bool
@@ -38,11 +34,3 @@ gives g n = every (λ (f : Settings → ℕ). eqb (f g) n ∷ [])
 
 abbrev pub reaches : Reach → List Bool
 reaches x = all (holds (x .row)) ∷ gives (x .row .settings) (x .shown (x .row)) (x .figures) ∷ []
-
-abbrev pub says : Cards → List Bool
-says x = all (holds (x .row)) ∷ sameList eqb (cardsOf (x .row)) (x .says) ∷ []
-
-abbrev pub unanswered : Stretch → List Bool
-unanswered s =
-    all (holds (s .row)) ∷ sameList eqb (numbersIn s) (replicate (s .length) 0)
-    ∷ eqb (countedSteps (eventsIn s)) (s .figure (s .row .settings)) ∷ []

@@ -1,6 +1,6 @@
 -- K7, the statement: "For a line from make, in all orders: of any 6 × n × (w + 1) + 1 counted steps in a row, begins between them allowed, at
 -- least one gives put, taken, empty or full." The field calls this lock freedom, with a bound: among the workers that step, some operation ends.
--- How many steps in a row may go without a final answer is a parameter: K7 has its own number, and rows of crates/runs reach the closest one.
+-- How many steps in a row may go without a final answer is a parameter: K7 has its own number, and rows of crates/long_runs reach the closest one.
 use Prim.Native.Nat.{ℕ, _+_, _-_, _*_, _<_, max}
 use mathlib.Core.Path.{_≡_}
 use mathlib.Core.List.{List, [], _∷_}

@@ -34,7 +34,7 @@ pub record Says (x : Cards) : Type 0 where
   pub holds : Holds (x .row)
   pub cards : cardsOf (x .row) ≡ x .says
 
--- ---- runs with failed commits: a starred one, those of specs/Strides with stride 0, and one more
+-- ---- runs with failed commits: a starred one, those of runs/specs/Strides with stride 0, and one more
 -- the starred one goes on: of two takes, both at commit, the second fails too
 abbrev thenTakes : Row
 thenTakes =

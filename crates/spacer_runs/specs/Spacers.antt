@@ -1,10 +1,10 @@
--- Spacers in the runs of specs/Extremes: the same calls with other values, so that as many items are passed over, at the bound, and fewer
+-- Spacers in the runs of long_runs/specs/Extremes: the same calls with other values, so that as many items are passed over, at the bound, and fewer
 -- are reported. The same runs, with a word on each turn, are texts in examples/runs.
 use mathlib.Core.List.{List, [], _∷_, _++_}
 use Rattle.rules.specs.Sequential.{mostPassed}
 use Rattle.rules.specs.Newer.{exactBound, k14Bound}
 use Rattle.runs.specs.Reach.{Reach, passing}
 use Rattle.runs.specs.Notation.{queue, stack, runs, steps, put, take, landed, taken}
 
 unfoldable pub spacers : List Reach
 spacers =

@@ -1,0 +1,2 @@
+pub mod Cards
+pub mod Tests

@@ -1,0 +1,5 @@
+pub mod Extremes
+pub mod Solos
+pub mod Stretches
+pub mod Sizes
+pub mod Tests

@@ -1,0 +1,1 @@
+// Runs by hand with spacers: see specs/Spacers.antt.
