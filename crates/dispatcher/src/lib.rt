@@ -2,7 +2,6 @@
 use fitness::refusal;
 use image::MARK;
 use image::TOP;
-use image::idle_at;
 use image::shipped_settings;
 use image::worker_at;
 use rules::Dispatched;
@@ -10,6 +9,7 @@ use rules::Settings;
 use rules::Turn;
 use rules::numbers::NO_SUCH_WORKER;
 use rules::numbers::SHIPPED;
+use slots::idle_at;
 use step::answers::final_answer;
 use step::fit_answer;
 ghost use mathlib.Core.Path.{_≡_};

@@ -1,7 +1,7 @@
 // The subs: sub by sub, their two words.
-use image::has_windows;
 use image::sub_of;
-use image::take_bottom;
+use queue_windows::has_windows;
+use queue_windows::take_bottom;
 use rules::Settings;
 use std::num::wrapping_sub_u64;
 use worker::level_of;

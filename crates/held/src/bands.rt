@@ -1,12 +1,12 @@
 // The bands of rows that a sub holds: between a row and another, of one window or of all of them together.
 use image::Sub;
 use image::TOP;
-use image::has_windows;
-use image::live_of;
-use image::nth_size;
-use image::take_bottom;
 use laws::num::higher;
 use laws::num::lower;
+use queue_windows::has_windows;
+use queue_windows::live_of;
+use queue_windows::nth_size;
+use queue_windows::take_bottom;
 use rules::Settings;
 use rules::Size;
 ghost use mathlib.Core.Path.{_≡_};

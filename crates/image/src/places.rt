@@ -1,5 +1,4 @@
-// "The pool's words": where each lies. The head, the subs, the workers, the cells; the windows behind them are in `windows`.
-use crate::windows::WINDOWS_WORDS;
+// "The pool's words": where each lies. The head, the subs, the workers, the cells, and a queue's windows behind them.
 use laws::num::minus;
 use rules::Row;
 use rules::Settings;
@@ -9,8 +8,8 @@ use rules::numbers::WIDEST;
 use rules::numbers::WINDOWED;
 ghost use mathlib.Core.Path.{_≡_};
 ghost use Prim.Native.Nat.{_+_, _<_, _≤_};
-ghost use Rattle.rules.specs.Layout.{cellWords, subAt, workerWords, workerAt, subCellsAt, cellAt, windowsWords, needed};
-ghost use Rattle.rules.specs.Limits.{Bounds};
+ghost use Rattle.rules.specs.Layout.{cellWords, subAt, workerWords, workerAt, subCellsAt, cellAt, windowsAt, windowsWords, needed};
+ghost use Rattle.rules.specs.Limits.{Bounds, windowed};
 
 // The head: the settings but two.
 pub const KIND: usize = 0;
@@ -79,6 +78,23 @@ pub const WORKER_WORDS: usize = SEEN_WIDTH + 1;
 // A cell: value, stamp.
 pub const CELL_WORDS: usize = 2;
 
+// The windows, from edition 2 on: the size of the next put window, whether one was set, how many are live, and a pair of width and depth for each, from the
+// take window to the put window.
+pub const NEXT_WIDTH: usize = 0;
+
+pub const NEXT_DEPTH: usize = 1;
+
+pub const SIZE_SET: usize = 2;
+
+pub const LIVE: usize = 3;
+
+pub const PAIRS: usize = 4;
+
+pub const PAIR_WORDS: usize = 2;
+
+// How many words they have.
+pub const WINDOWS_WORDS: usize = 36;
+
 // Enough for every pool of the edition of the shipped calls.
 pub const MOST_WORDS: usize = HEAD_WORDS
     + SUB_WORDS * (WIDEST as usize)
@@ -130,6 +146,21 @@ pub fn cell_at(g: Settings, j: u32, row: Row) -> usize
 {
     let below = minus(row.0, 1) % g.rows;
     sub_cells_at(g, j) + CELL_WORDS * (below as usize)
+}
+
+// Where the windows lie: behind the cells.
+pub fn windows_at(g: Settings) -> usize
+    requires { ⌜ Bounds g ⌝ }
+    ensures { λ r. ⌜ r ≡ windowsAt g ⌝ }
+{
+    sub_cells_at(g, g.width)
+}
+
+// Whether windows have sizes of their own in the pool's edition.
+pub fn is_windowed(g: Settings) -> bool
+    ensures { λ r. ⌜ r ≡ windowed g ⌝ }
+{
+    WINDOWED <= g.edition
 }
 
 // How many words the windows have in an edition.

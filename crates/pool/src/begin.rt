@@ -1,10 +1,7 @@
 // Begin put and begin take.
 use fitness::refusal;
-use image::idle_at;
-use image::index_of;
 use image::out_of_steps;
 use image::shipped_settings;
-use image::store;
 use image::worker_at;
 use rules::Answer;
 use rules::Phase;
@@ -14,6 +11,9 @@ use rules::numbers::NO_SUCH_WORKER;
 use rules::numbers::SHIPPED;
 use rules::numbers::STEPS_SPENT;
 use rules::numbers::WORKER_BUSY;
+use slots::idle_at;
+use slots::index_of;
+use slots::store;
 use worker::fresh_slot;
 ghost use mathlib.Core.Path.{_≡_};
 ghost use Rattle.rules.specs.Answers.{out};

@@ -1,10 +1,10 @@
 // The failed commits of a pool's workers.
 use fitness::refusal;
-use image::lost_of;
 use image::settings;
 use image::worker_at;
 use rules::Settings;
 use rules::numbers::SHIPPED;
+use slots::lost_of;
 ghost use mathlib.Core.Path.{_≡_};
 ghost use Rattle.rules.specs.Fit.{FitPool};
 ghost use Rattle.rules.specs.Make.{shipped};

@@ -1,18 +1,18 @@
 // What an effect writes and answers.
 use held::distance;
-use image::count_lost;
 use image::item_of;
-use image::put_dropped;
 use image::put_landed;
-use image::put_raised;
 use image::put_shifted;
 use image::put_sub;
-use image::put_worker;
+use queue_windows::put_dropped;
+use queue_windows::put_raised;
 use rules::Answer;
 use rules::Effect;
 use rules::Outcome;
 use rules::Row;
 use rules::Settings;
+use slots::count_lost;
+use slots::put_worker;
 ghost use mathlib.Core.Path.{_≡_};
 ghost use Prim.Native.Nat.{_<_};
 ghost use Rattle.rules.specs.Answers.{out};

@@ -1,9 +1,9 @@
 // The sizes of a queue's windows, as a step reads them: those that its phase asks for. In a pool whose windows have no sizes of their own, each has the
 // pool's.
-use image::has_windows;
-use image::live_of;
-use image::next_size;
-use image::nth_size;
+use queue_windows::has_windows;
+use queue_windows::live_of;
+use queue_windows::next_size;
+use queue_windows::nth_size;
 use rules::Phase;
 use rules::Settings;
 use rules::Side;
