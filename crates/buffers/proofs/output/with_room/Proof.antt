@@ -1,11 +1,11 @@
--- `program::piece::with_room` meets its contract: there is room, or the output is written and used anew. Assumes nothing.
+-- `buffers::output::with_room` meets its contract: there is room, or the output is written and used anew. Assumes nothing.
 use mathlib.Core.Path.{ap}
 use native.Mathlib.Omega.{arith}
 use Rattle.pieces.specs.declared.stretch.Stretch.{Stretch}
-use Rattle.program.proofs.Keeping.{flush-keeps}
+use Rattle.buffers.proofs.Keeping.{flush-keeps}
 use borrow.Author.Needs.{needs}
-use Rattle.program.proofs.piece.with_room.Statement.{statement}
-use Rattle.program.proofs.piece.with_room.Tie as tie
+use Rattle.buffers.proofs.output.with_room.Statement.{statement}
+use Rattle.buffers.proofs.output.with_room.Tie as tie
 
 sub-if1 : tie.Need-sub-if1
 sub-if1 c = search needs

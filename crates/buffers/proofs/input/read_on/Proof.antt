@@ -1,4 +1,4 @@
--- `program::run::read_on` meets its contract: a read moves no more than it is handed room for, behind what is carried over, and nothing where it fails. Assumes nothing.
+-- `buffers::input::read_on` meets its contract: a read moves no more than it is handed room for, behind what is carried over, and nothing where it fails. Assumes nothing.
 use Prim.Native.Nat.{ℕ, _-_}
 use mathlib.Core.Bool.{true, false≢true}
 use mathlib.Core.Path.{_≡_, refl, sym, _∙_}
@@ -12,8 +12,8 @@ use Rattle.io.specs.Counts.{clamped}
 use borrow.Rule.Slice.PartMut.{take-put}
 use borrow.Author.Needs.{needs}
 use borrow.Author.Tests.{le-ltb}
-use Rattle.program.proofs.run.read_on.Statement.{statement}
-use Rattle.program.proofs.run.read_on.Tie as tie
+use Rattle.buffers.proofs.input.read_on.Statement.{statement}
+use Rattle.buffers.proofs.input.read_on.Tie as tie
 
 -- a negative answer counts no bytes
 none-of : (got : ℤ) (most : ℕ) → ltZ got (pos 0) ≡ true → clamped got most ≡ 0

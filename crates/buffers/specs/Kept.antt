@@ -1,19 +1,16 @@
--- THE ACCOUNT OF THE LOOP: each of its functions keeps the account of what is read and printed (crates/pieces, specs/Account), and none forgets what could
+-- THE ACCOUNT OF A RUN: each step keeps the account of what is read and printed (crates/pieces, specs/Account), and none forgets what could
 -- not be read or written.
 use Prim.Native.Nat.{ℕ, _+_, _-_, _%_, _^_}
-use mathlib.Core.Bool.{Bool, true, false}
+use mathlib.Core.Bool.{true}
 use mathlib.Core.List.{List}
-use mathlib.Core.Logic.{_⊎_}
 use mathlib.Core.Path.{_≡_}
 use lib.Dec.{eqb}
-use lib.ListN.{take}
-use Rattle.laws.specs.Choice.{cond}
 use Rattle.printing.specs.declared.printed.Mode.{Mode}
-use Rattle.pieces.specs.Stretch.{newStretch, stretched}
-use Rattle.pieces.specs.Account.{Account, AllPrinted}
+use Rattle.pieces.specs.Stretch.{stretched}
+use Rattle.pieces.specs.Account.{Account}
 use Rattle.pieces.specs.declared.stretch.Stretch.{Stretch}
-use Rattle.program.specs.declared.run.Run.{Run}
-use Rattle.program.specs.declared.run.Input.{Input}
+use Rattle.buffers.specs.declared.run.Run.{Run}
+use Rattle.buffers.specs.declared.input.Input.{Input}
 
 -- the account of a run, with the piece in its input, the pool's words and the output
 abbrev pub AccountOf : Mode → Run → List ℕ → List ℕ → List ℕ → Type 0
@@ -22,12 +19,6 @@ AccountOf m run piece ws out = Account m (run .read) (run .written) (run .ended)
 -- it is kept from a run to another
 abbrev pub Keeps : Mode → Run → List ℕ → List ℕ → List ℕ → Run → List ℕ → List ℕ → List ℕ → Type 0
 Keeps m before piece ws out after piece′ ws′ out′ = AccountOf m before piece ws out → AccountOf m after piece′ ws′ out′
-
--- after a piece and before the next read: what was carried over is what is left of the input, unless it has ended
-pub record Left (m : Mode) (run : Run) (src ws out : List ℕ) : Type 0 where
-  pub piece : List ℕ
-  pub carried : run .ended ≡ false → piece ≡ take (run .carried) src
-  pub account : AccountOf m run piece ws out
 
 -- a stretch whose output is used anew, and one at the start of a piece
 abbrev pub emptied : Stretch → Stretch
@@ -83,25 +74,6 @@ pub record Unfed (before : Run) (input : Input) (after : Run) : Type 0 where
   pub ended : after .ended ≡ before .ended
   pub unread : after .unread ≡ true
 
--- ---- a run
-abbrev pub newRun : Run
-newRun =
-    record { stretch = newStretch; carried = 0; read = 0; reads = 0; written = 0; ended = false; unread = false; unwritten = false }
-
--- a run is over once all is printed, the input has ended, or what is to be read or written can't be
-unfoldable pub over : Run → Bool
-over r = cond (r .stretch .complete) true (cond (r .ended) true (cond (r .unread) true (r .unwritten)))
-
 -- as many reads as a program counts
 abbrev pub mostReads : ℕ
 mostReads = 2 ^ 64 - 1
-
--- WHAT THE PROGRAM IS PROVED TO DO, in the mode `m`, where `r` is the run at its end
-pub record Ran (m : Mode) (r : Run) : Type 0 where
-  -- it stops nowhere but where the run is over: all is printed, the input has ended, or what is to be read or written can't be. Or it has read more often than
-  -- any computer can
-  pub stops : (over r ≡ true) ⊎ (r .reads ≡ mostReads)
-  -- where the input has ended all is printed
-  pub completes : r .ended ≡ true → r .stretch .complete ≡ true
-  -- once all is printed, the bytes that it handed to be written are what is printed of the bytes that it read
-  pub prints : r .stretch .complete ≡ true → AllPrinted m (r .read) (r .written) (r .ended)

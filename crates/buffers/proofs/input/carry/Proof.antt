@@ -1,4 +1,4 @@
--- `program::piece::carry` meets its contract: the first i bytes of the cut word stand at the front. Assumes nothing.
+-- `buffers::input::carry` meets its contract: the first i bytes of the cut word stand at the front. Assumes nothing.
 use Prim.Native.Nat.{_+_, _-_, _%_, _≤_}
 use mathlib.Core.Path.{_≡_, sym, _∙_}
 use native.Mathlib.Nat.{zero-add}
@@ -7,9 +7,9 @@ use native.Mathlib.Omega.{arith}
 use borrow.Author.Needs.{needs}
 use lib.ListN.{length, drop, getD, length-set, length-drop}
 use lib.Seq.{paste, paste-zero, paste-suc, getD-drop}
-use Rattle.program.proofs.Bytes.{byte-kept}
-use Rattle.program.proofs.piece.carry.Statement.{statement}
-use Rattle.program.proofs.piece.carry.Tie as tie
+use Rattle.buffers.proofs.Bytes.{byte-kept}
+use Rattle.buffers.proofs.input.carry.Statement.{statement}
+use Rattle.buffers.proofs.input.carry.Tie as tie
 
 abbrev Inv-loop : tie.InvT-loop
 Inv-loop src₀ end n from i₀ src i = (i ≤ end % 4) × (length src ≡ length src₀) × (src ≡ paste src₀ 0 (drop (end - end % 4) src₀) i)

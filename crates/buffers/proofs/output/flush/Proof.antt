@@ -1,10 +1,10 @@
--- `program::piece::flush` meets its contract: what is used lies inside the output, and a write that fails is told, as is one that failed before. Assumes nothing.
+-- `buffers::output::flush` meets its contract: what is used lies inside the output, and a write that fails is told, as is one that failed before. Assumes nothing.
 use mathlib.Core.Logic.{inl, inr}
 use mathlib.Core.Path.{sym, _∙_}
 use lib.Seq.{length-take-le}
 use borrow.Author.Needs.{needs}
-use Rattle.program.proofs.piece.flush.Statement.{statement}
-use Rattle.program.proofs.piece.flush.Tie as tie
+use Rattle.buffers.proofs.output.flush.Statement.{statement}
+use Rattle.buffers.proofs.output.flush.Tie as tie
 
 slice-aggregate-write-all : tie.Need-slice-aggregate-write-all
 slice-aggregate-write-all c = sym (length-take-le (c .before .before .before .before .args .run .stretch .used) (c .before .before .before .before .args .out .now) (c .before .before .before .before .pre))

@@ -1,7 +1,7 @@
--- `program::piece::print_on` meets its contract: a stretch over the piece, and nothing else. Assumes nothing.
+-- `emit::print_on` meets its contract: a stretch over the piece, and nothing else. Assumes nothing.
 use borrow.Author.Needs.{needs}
-use Rattle.program.proofs.piece.print_on.Statement.{statement}
-use Rattle.program.proofs.piece.print_on.Tie as tie
+use Rattle.emit.proofs.print_on.Statement.{statement}
+use Rattle.emit.proofs.print_on.Tie as tie
 
 print-words-requires : tie.Need-print-words-requires
 print-words-requires c κs = search needs

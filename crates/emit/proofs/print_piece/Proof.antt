@@ -1,4 +1,4 @@
--- `program::piece::print_piece` meets its contract: with room for a turn each stretch comes further, until all is printed or the piece has no turn left. Assumes nothing.
+-- `emit::print_piece` meets its contract: with room for a turn each stretch comes further, until all is printed or the piece has no turn left. Assumes nothing.
 use Prim.Native.Nat.{_-_, _<_, _≤_}
 use mathlib.Core.Bool.{true, false, false≢true}
 use mathlib.Core.Path.{_≡_, refl, sym, _∙_}
@@ -6,11 +6,12 @@ use native.Mathlib.Omega.{arith}
 use borrow.Author.Needs.{needs}
 use lib.ListN.{length}
 use Rattle.pieces.specs.Stretch.{stretched, turnsIn}
-use Rattle.program.specs.Kept.{Keeps, ReadsNothing, Remembers}
-use Rattle.program.proofs.Keeping.{nothing-read-twice, remembers-twice, still-remembers, print-keeps, print-on, print-last}
+use Rattle.buffers.specs.Kept.{Keeps, ReadsNothing, Remembers}
+use Rattle.buffers.proofs.Keeping.{nothing-read-twice, remembers-twice, still-remembers}
+use Rattle.emit.proofs.Keeping.{print-keeps, print-on, print-last}
 use Rattle.laws.specs.Choice.{cond}
-use Rattle.program.proofs.piece.print_piece.Statement.{statement}
-use Rattle.program.proofs.piece.print_piece.Tie as tie
+use Rattle.emit.proofs.print_piece.Statement.{statement}
+use Rattle.emit.proofs.print_piece.Tie as tie
 
 abbrev Inv-loop : tie.InvT-loop
 Inv-loop words₀ mode src out₀ turns run₀ words out run =
