@@ -1,10 +1,7 @@
 // A move of a pool from one edition to another, from a lent area into another, for all words of both. The source is lent for reading.
-mod may;
-mod windows;
-
-use crate::may::may_move;
-use crate::windows::above;
-use crate::windows::move_windows;
+use bridge::above;
+use bridge::may_move;
+use bridge::move_windows;
 use fitness::past_window;
 use fitness::source_refusal;
 use image::BOTTOM;

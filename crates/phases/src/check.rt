@@ -1,5 +1,5 @@
 // The check phase, of a stack.
-use crate::views::stack_view;
+use commits::views::stack_view;
 use effects::moved;
 use effects::restart;
 use rules::Effect;

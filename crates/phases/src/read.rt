@@ -1,6 +1,6 @@
 // The read phase.
-use crate::views::queue_view;
-use crate::views::stack_view;
+use commits::views::queue_view;
+use commits::views::stack_view;
 use effects::moved;
 use effects::next;
 use effects::with_pass;

@@ -1,16 +1,16 @@
 // Which rule a phase takes.
 use crate::check::check;
-use crate::commit::queue_commit;
-use crate::commit::stack_commit;
-use crate::confirm::queue_confirm;
-use crate::confirm::stack_confirm;
 use crate::read::queue_put_read;
 use crate::read::queue_take_read;
 use crate::read::stack_read;
-use crate::shift::queue_shift;
-use crate::shift::stack_shift;
 use crate::window::window;
+use commits::queue_commit;
+use commits::stack_commit;
 use effects::refused;
+use misses::queue_confirm;
+use misses::queue_shift;
+use misses::stack_confirm;
+use misses::stack_shift;
 use rules::Effect;
 use rules::Phase;
 use rules::Settings;

@@ -1,6 +1,6 @@
 // The window phase.
-use crate::views::queue_view;
-use crate::views::stack_view;
+use commits::views::queue_view;
+use commits::views::stack_view;
 use effects::looked;
 use effects::moved;
 use rules::Effect;

@@ -11,10 +11,10 @@ use Rattle.runfile.specs.declared.word.Read.{Read}
 use Rattle.runfile.specs.declared.word.Read.the-variants.{Word, Cut, End as NoMore}
 use Rattle.replay.specs.Replay.{nextOf}
 use Rattle.printing.specs.Printings.{endsWith}
-use Rattle.printing.specs.Turn.{turnBy, turnOf}
+use Rattle.turns.specs.Turn.{turnBy, turnOf}
 use Rattle.printing.specs.declared.printed.Mode.{Mode}
-use Rattle.printing.specs.declared.turn.Printer.{Printer}
-use Rattle.printing.proofs.Whole.{end-ends}
+use Rattle.turns.specs.declared.Printer.{Printer}
+use Rattle.turns.proofs.Whole.{end-ends}
 use Rattle.pieces.specs.Stretch.{Stretched, stretchTurn, goesOn, stretchFrom}
 
 -- what stands behind the whole words is no word

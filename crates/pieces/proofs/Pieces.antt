@@ -12,14 +12,14 @@ use Rattle.runfile.specs.Words.{readsOf, readAt}
 use Rattle.replay.specs.Replay.{lent}
 use Rattle.printing.specs.Printings.{endsWith, printedText}
 use Rattle.printing.specs.Print.{printThen, textOf, printOf}
-use Rattle.printing.specs.Turn.{Turned, turnOf}
-use Rattle.printing.specs.Turns.{turnsFrom, turnsOf}
+use Rattle.turns.specs.Turn.{Turned, turnOf}
+use Rattle.turns.specs.Turns.{turnsFrom, turnsOf}
 use Rattle.pieces.specs.Stretch.{newStretch, putAt, Stretched, stretched, stretchTurn, goesOn, stretchFrom, turnsIn, stretchOf}
 use Rattle.pieces.specs.Progress.{ToCome, Progress, Piece}
 use Rattle.printing.specs.declared.printed.Mode.{Mode}
 use Rattle.printing.specs.declared.printed.Printed.{Printed}
-use Rattle.printing.specs.declared.turn.Printer.{Printer}
-use Rattle.printing.proofs.Whole.{turns-print}
+use Rattle.turns.specs.declared.Printer.{Printer}
+use Rattle.turns.proofs.Whole.{turns-print}
 use Rattle.pieces.proofs.Stretches.{goes-room, goes-incomplete}
 
 -- ---- a turn's text

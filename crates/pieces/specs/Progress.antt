@@ -6,10 +6,10 @@ use mathlib.Core.Path.{_≡_}
 use lib.ListN.{length, take}
 use Rattle.runfile.specs.Words.{wordBytes}
 use Rattle.printing.specs.Print.{textOf, printOf}
-use Rattle.printing.specs.Turns.{turnsFrom}
+use Rattle.turns.specs.Turns.{turnsFrom}
 use Rattle.pieces.specs.Stretch.{Stretched}
 use Rattle.printing.specs.declared.printed.Mode.{Mode}
-use Rattle.printing.specs.declared.turn.Printer.{Printer}
+use Rattle.turns.specs.declared.Printer.{Printer}
 
 -- a text and what the turns from word k on will print are what is printed of the file; a complete one is that by itself
 abbrev pub ToCome : Mode → Bool → List ℕ → ℕ → List ℕ → List ℕ → Printer → Type 0

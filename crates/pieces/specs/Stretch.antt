@@ -9,7 +9,7 @@ use Rattle.laws.specs.Choice.{cond}
 use Rattle.runfile.specs.Words.{wordBytes, readAt}
 use Rattle.lines.specs.Summary.{summaryBytes}
 use Rattle.printing.specs.Printings.{endsWith, printedText}
-use Rattle.printing.specs.Turn.{Turned, newPrinter, turnOf}
+use Rattle.turns.specs.Turn.{Turned, newPrinter, turnOf}
 use Rattle.printing.specs.declared.printed.Mode.{Mode}
 use Rattle.pieces.specs.declared.stretch.Stretch.{Stretch}
 

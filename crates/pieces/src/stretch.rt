@@ -1,8 +1,8 @@
 // A stretch of what a program prints: how far it is, and whether it goes on.
 use lines::SUMMARY_BYTES;
-use printing::Printer;
-use printing::start;
 use runfile::word::WORD_BYTES;
+use turns::Printer;
+use turns::start;
 ghost use mathlib.Core.Path.{_≡_};
 ghost use Prim.Native.Nat.{_<_, _^_};
 ghost use lib.ListN.{length};

@@ -12,10 +12,10 @@ use lines::summary_text;
 use printing::Mode;
 use printing::Output;
 use printing::Printed;
-use printing::Printer;
 use printing::ends;
 use printing::print_end;
-use printing::turn_of;
+use turns::Printer;
+use turns::turn_of;
 ghost use mathlib.Core.Path.{_≡_};
 ghost use Prim.Native.Nat.{_+_, _<_, _≤_, _^_};
 ghost use lib.ListN.{length};
@@ -23,7 +23,7 @@ ghost use Rattle.lines.specs.Area.{lineBytes};
 ghost use Rattle.lines.specs.Lines.{lineOf, numbersOf, closingOf};
 ghost use Rattle.lines.specs.Summary.{summaryBytes, summaryText};
 ghost use Rattle.printing.specs.Printings.{printedText};
-ghost use Rattle.printing.specs.Outputs.{shown};
+ghost use Rattle.turns.specs.Turn.{shown};
 ghost use Rattle.pieces.specs.Stretch.{turnBytes, putAt, stretched, stretchTurn, stretchOf};
 
 // Puts a text into the output at `used`; where it ends.

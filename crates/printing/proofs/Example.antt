@@ -26,7 +26,7 @@ use Rattle.runfile.specs.Words.{readsOf, readAt}
 use Rattle.lines.specs.Lines.{digitsOf, decimal, lineOf, closingOf}
 use Rattle.rules.specs.Run.{callOf}
 use Rattle.replay.specs.Replay.{outOf, itemNext, nextOf as nextEvent, replayFrom, replayOf}
-use Rattle.printing.specs.Tally.{boundIn, tallyAfter}
+use Rattle.tally.specs.Tally.{boundIn, tallyAfter}
 use Rattle.printing.specs.Printings.{itemEntry, answerPrinted, listedOf, listedEnd, eventPrinted, endPrinted}
 use Rattle.printing.specs.Print.{printFrom, printedOf, textOf, printOf, listingOf}
 use Rattle.printing.specs.declared.printed.Mode.the-variants.{Listing}

@@ -1,5 +1,3 @@
--- In `Whole` the theorem; in `Quotes` what is quoted of a listing, by what is known of a file's `Events`.
-pub mod Whole
-pub mod Events
+-- What is quoted of a listing, by what is known of a file's events (crates/tally, proofs/Events).
 pub mod Quotes
 pub mod Example

@@ -26,15 +26,16 @@ use Rattle.replay.specs.Replay.{Asked, nothing, making, calling, askedOf, Happe
 use Rattle.replay.specs.Files.{withCall, eventsIn}
 use Rattle.replay.proofs.Files.{positions-count}
 use Rattle.lines.specs.declared.line.Entry.{Entry}
-use Rattle.printing.specs.Tally.{noTally, countOn, tallyAfter}
+use Rattle.tally.specs.Tally.{noTally, countOn, tallyAfter}
 use Rattle.printing.specs.Printings.{workerIn, answerPrinted, listedOf, listedEnd, eventPrinted, endPrinted, endsWith}
 use Rattle.printing.specs.Print.{printThen, printFrom, printedOf}
-use Rattle.printing.specs.Quotes.{lineIf, linesIf, only, listedIf, listed, itemOn, itemsListed, greatest, lastOf, answerLine, tallyOver, endOf, ListsAll, NotOver, NeverOver, DistancesWithin, TakesArePuts, ClosingAddsUp, SummaryCounts}
-use Rattle.printing.specs.declared.tally.Tally.{Tally}
+use Rattle.tally.specs.Bound.{tallyOver}
+use Rattle.printing.specs.Quotes.{lineIf, linesIf, only, listedIf, listed, itemOn, itemsListed, greatest, lastOf, answerLine, endOf, ListsAll, NotOver, NeverOver, DistancesWithin, TakesArePuts, ClosingAddsUp, SummaryCounts}
+use Rattle.tally.specs.declared.Tally.{Tally}
 use Rattle.printing.specs.declared.printed.Mode.the-variants.{Listing, Summing}
 use Rattle.printing.specs.declared.printed.Printed.{Printed}
 use Rattle.printing.specs.declared.printed.Printed.the-variants.{Nothing, Closing}
-use Rattle.printing.proofs.Events.{Quiet, AllQuiet, no-distance, Close, Within, known-file, all-within, faults}
+use Rattle.tally.proofs.Events.{Quiet, AllQuiet, no-distance, Close, Within, known-file, all-within, faults}
 
 -- ---- the line of an answer
 abbrev entryOf : ℕ → ℕ → Answer → Entry

@@ -2,15 +2,11 @@
 -- made where its text is.
 use Prim.Native.Nat.{ℕ}
 use mathlib.Core.Bool.{Bool, true, false}
-use mathlib.Core.List.{List}
 use mathlib.Core.Path.{_≡_}
-use Rattle.printing.specs.Printings.{endPrinted}
 use Rattle.printing.specs.declared.printed.Output.{Output}
 use Rattle.printing.specs.declared.printed.Output.the-variants.{Quiet, Line as LineOut, Last as LastOut, End}
-use Rattle.printing.specs.declared.printed.Mode.{Mode}
 use Rattle.printing.specs.declared.printed.Printed.{Printed}
 use Rattle.printing.specs.declared.printed.Printed.the-variants.{Nothing, Line, Last}
-use Rattle.printing.specs.declared.turn.Printer.{Printer}
 
 -- what is printed, by what is printed of the end at a fault
 abbrev pub printedBy : (ℕ → Printed) → Output → Printed
@@ -22,10 +18,6 @@ printedBy end (End fault) = end fault
 -- an event's output: no end
 abbrev pub Outputs : Output → Printed → Type 0
 Outputs x printed = (end : ℕ → Printed) → printedBy end x ≡ printed
-
--- the output of a program that is where its printer says, with the pool's words
-abbrev pub shown : Mode → List ℕ → Printer → Output → Printed
-shown m ws p x = printedBy (λ fault. endPrinted m (p .tally) (p .position) fault ws) x
 
 -- whether a program stops after it
 abbrev pub stopsAfter : Output → Bool

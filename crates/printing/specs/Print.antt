@@ -3,9 +3,9 @@ use Prim.Native.Nat.{ℕ}
 use mathlib.Core.List.{List, [], _∷_, _++_}
 use Rattle.laws.specs.Choice.{cond}
 use Rattle.replay.specs.Replay.{Happened, Ending, replayOf}
-use Rattle.printing.specs.Tally.{noTally, tallyAfter}
+use Rattle.tally.specs.Tally.{noTally, tallyAfter}
 use Rattle.printing.specs.Printings.{eventPrinted, endPrinted, endsWith, printedText}
-use Rattle.printing.specs.declared.tally.Tally.{Tally}
+use Rattle.tally.specs.declared.Tally.{Tally}
 use Rattle.printing.specs.declared.printed.Mode.{Mode}
 use Rattle.printing.specs.declared.printed.Mode.the-variants.{Listing, Summing}
 use Rattle.printing.specs.declared.printed.Printed.{Printed}

@@ -21,7 +21,7 @@ use Rattle.lines.specs.Lines.{lineOf, numbersOf, closingOf}
 use Rattle.lines.specs.Summary.{summaryText}
 use Rattle.lines.specs.declared.line.Entry.{Entry}
 use Rattle.printing.specs.Lost.{lostOf}
-use Rattle.printing.specs.declared.tally.Tally.{Tally}
+use Rattle.tally.specs.declared.Tally.{Tally}
 use Rattle.printing.specs.declared.printed.Mode.{Mode}
 use Rattle.printing.specs.declared.printed.Mode.the-variants.{Listing, Summing}
 use Rattle.printing.specs.declared.printed.Printed.{Printed}

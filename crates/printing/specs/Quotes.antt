@@ -8,24 +8,19 @@ use mathlib.Core.Path.{_≡_}
 use lib.Dec.{eqb, ltb}
 use lib.ListN.{length}
 use Rattle.laws.specs.Choice.{cond}
-use Rattle.rules.specs.Answers.{numberOf, overBound}
+use Rattle.rules.specs.Answers.{overBound}
 use Rattle.rules.specs.Consequences.{hasStamp}
 use Rattle.rules.specs.Held.{Item, countItems}
-use Rattle.rules.specs.Sequential.{mostPassed}
 use Rattle.rules.specs.Statement.{All}
 use Rattle.rules.specs.declared.Settings.{Settings}
-use Rattle.rules.specs.declared.Size.{Size}
-use Rattle.rules.specs.declared.Answer.{Answer}
-use Rattle.runfile.specs.declared.item.Item.{Item as Saying}
-use Rattle.runfile.specs.declared.item.Item.the-variants.{Open, Make, BeginPut, BeginTake, Step, End, SetSize, Bad}
 use Rattle.replay.specs.Files.{poolIn}
 use Rattle.replay.specs.Replay.{Happened, replayOf}
 use Rattle.lines.specs.declared.line.Entry.{Entry}
 use Rattle.lines.specs.declared.summary.Summary.{Summary}
-use Rattle.printing.specs.Tally.{noTally, passedIn, tallyAfter}
+use Rattle.tally.specs.Tally.{noTally}
+use Rattle.tally.specs.Bound.{tallyOver, boundOf}
 use Rattle.printing.specs.Printings.{workerIn, answerPrinted, endPrinted}
 use Rattle.printing.specs.Print.{printedOf}
-use Rattle.printing.specs.declared.tally.Tally.{Tally}
 use Rattle.printing.specs.declared.printed.Mode.{Mode}
 use Rattle.printing.specs.declared.printed.Mode.the-variants.{Listing, Summing}
 use Rattle.printing.specs.declared.printed.Printed.{Printed}
@@ -80,11 +75,6 @@ lastOf (x ∷ y ∷ ys) = lastOf (y ∷ ys)
 abbrev pub answerLine : Happened → Printed
 answerLine x = answerPrinted (x .event .position) (workerIn (x .event .item)) (x .event .answer)
 
--- what is counted over some events
-unfoldable pub tallyOver : Tally → List Happened → Tally
-tallyOver t [] = t
-tallyOver t (x ∷ xs) = tallyOver (tallyAfter t (x .event)) xs
-
 abbrev pub endOf : Mode → List ℕ → Printed
 endOf m bytes =
     let r = replayOf bytes in
@@ -101,30 +91,6 @@ abbrev pub NeverOver : Type 0
 NeverOver = (bytes : List ℕ) → All NotOver (printedOf Listing bytes)
 
 -- ---- "each distance listed is within the bound": of the file's pool, or of a size that the file has set, whichever is the greatest
--- the sizes that were set: those of its size words that were not refused
-abbrev pub withSize : Saying → Answer → List Size → List Size
-withSize (Open opening) a rest = rest
-withSize (Make g) a rest = rest
-withSize (BeginPut worker value) a rest = rest
-withSize (BeginTake worker) a rest = rest
-withSize (Step worker) a rest = rest
-withSize End a rest = rest
-withSize (SetSize width depth) a rest = cond (eqb (numberOf a) 0) (record { width = width; depth = depth } ∷ rest) rest
-withSize Bad a rest = rest
-
-unfoldable pub sizesSet : List Happened → List Size
-sizesSet [] = []
-sizesSet (x ∷ xs) = withSize (x .event .item) (x .event .answer) (sizesSet xs)
-
--- the most that a take from a window of one of some sizes may pass over; 0 of none
-unfoldable pub mostIn : List Size → ℕ
-mostIn [] = 0
-mostIn (size ∷ sizes) = max (passedIn size) (mostIn sizes)
-
--- the bound of some events on a pool
-abbrev pub boundOf : Settings → List Happened → ℕ
-boundOf g xs = max (mostPassed g) (mostIn (sizesSet xs))
-
 abbrev pub DistancesWithin : Type 0
 DistancesWithin =
     (bytes : List ℕ) (g : Settings) → poolIn (replayOf bytes .events) ≡ some g

@@ -3,10 +3,10 @@ use crate::lost::lost;
 use crate::printed::Mode;
 use crate::printed::Printed;
 use crate::printed::plain_entry;
-use crate::tally::Tally;
 use held::items;
 use image::steps_counted;
 use lines::Summary;
+use tally::Tally;
 ghost use mathlib.Core.Path.{_≡_};
 ghost use Rattle.printing.specs.Printings.{listedEnd, summaryEnd, endPrinted};
 

@@ -1,5 +1,4 @@
 // What is printed of an event.
-use crate::tally::Tally;
 use lines::Entry;
 use lines::Summary;
 use replay::Done;
@@ -8,6 +7,7 @@ use rules::Answer;
 use rules::Row;
 use rules::Stamp;
 use rules::numbers::OVER_BOUND;
+use tally::Tally;
 ghost use mathlib.Core.Path.{_≡_};
 ghost use lib.Dec.{ltb};
 ghost use Rattle.laws.specs.Choice.{cond};

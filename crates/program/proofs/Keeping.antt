@@ -1,7 +1,7 @@
--- The account is kept by each step of the loop: by a write (`flush-keeps`), by a stretch (`print-keeps`), by a read (`fed-keeps`), and by the step to the next
--- piece (`carry-keeps`). Each is the law of crates/pieces (proofs/Accounts) at the run's fields.
--- No step forgets a failure (`remembers-twice`, `still-remembers`), the last write neither, so that a run which is over stays so to the end (`flushed-over`).
-use Prim.Native.Nat.{ℕ, zero, suc, _+_, _*_, _-_, _/_, _%_, _^_, _<_, _≤_}
+-- The account is kept by each step of the loop: by a read (`fed-keeps`), and by the step to the next piece (`carry-keeps`). Each is the law of crates/pieces
+-- (proofs/Accounts) at the run's fields.
+-- No step forgets a failure, the last write neither, so that a run which is over stays so to the end (`flushed-over`).
+use Prim.Native.Nat.{ℕ, zero, suc, _+_, _*_, _-_, _/_, _%_, _^_, _≤_}
 use mathlib.Core.Bool.{Bool, true, false, false≢true}
 use mathlib.Core.List.{List, [], _∷_, _++_}
 use mathlib.Core.Logic.{_⊎_, inl, inr}
@@ -14,70 +14,20 @@ use Rattle.laws.specs.Choice.{cond}
 use Rattle.runfile.specs.Words.{wordBytes}
 use Rattle.replay.specs.Replay.{lent}
 use Rattle.printing.specs.declared.printed.Mode.{Mode}
-use Rattle.pieces.specs.Stretch.{Stretched, stretched, turnBytes, turnsIn, stretchFrom, stretchOf}
+use Rattle.pieces.specs.Stretch.{Stretched, stretched}
 use Rattle.pieces.specs.Account.{Account}
 use Rattle.pieces.specs.declared.stretch.Stretch.{Stretch}
-use Rattle.pieces.proofs.Stretches.{stretch-most, stretch-more, room-goes}
-use Rattle.pieces.proofs.Ends.{CompleteAt, last-completes}
-use Rattle.pieces.proofs.Accounts.{opens, reads, ends, prints, writes, carries, cutOf, closes}
-use Rattle.program.specs.Kept.{AccountOf, Keeps, ReadsNothing, WritesNothing, Remembers, atStart, FlushedTo, Fed, Unfed, Left, newRun, over, mostReads, Ran}
-use Rattle.program.specs.declared.run.Run.{Run}
-use Rattle.program.specs.declared.run.Input.{Input}
+use Rattle.pieces.proofs.Accounts.{opens, reads, ends, carries, cutOf, closes}
+use Rattle.buffers.specs.Kept.{AccountOf, Keeps, ReadsNothing, WritesNothing, Remembers, atStart, FlushedTo, Fed, Unfed, mostReads}
+use Rattle.buffers.specs.declared.run.Run.{Run}
+use Rattle.buffers.specs.declared.input.Input.{Input}
+use Rattle.buffers.proofs.Keeping.{remembers-twice, still-remembers, flush-keeps}
+use Rattle.program.specs.Ran.{Left, newRun, over, Ran}
 
--- ---- what a step may not change
-pub nothing-read-twice : {a b c : Run} → ReadsNothing a b → ReadsNothing b c → ReadsNothing a c
-nothing-read-twice f g =
-    record {
-      read = g .read ∙ f .read;
-      reads = g .reads ∙ f .reads;
-      ended = g .ended ∙ f .ended;
-      unread = g .unread ∙ f .unread;
-    }
-
-pub remembers-twice : {a b c : Run} → Remembers a b → Remembers b c → Remembers a c
-remembers-twice f g = record { unread = λ e. g .unread (f .unread e); unwritten = λ e. g .unwritten (f .unwritten e) }
-
--- what is left as it was is not forgotten
-pub still-remembers : {a b : Run} → b .unread ≡ a .unread → WritesNothing a b → Remembers a b
-still-remembers r w = record { unread = λ e. r ∙ e; unwritten = λ e. w .unwritten ∙ e }
-
--- nor is it by a piece that is read and printed, and the read is counted
+-- nothing is forgotten by a piece that is read and printed, and the read is counted
 pub piece-counts : {run piece printed : Run} {input : Input} → input .reads ≡ run .reads + 1 → Fed run input piece → ReadsNothing piece printed → Remembers piece printed
     → (printed .reads ≡ run .reads + 1) × Remembers run printed
 piece-counts n f same kept = (same .reads ∙ (f .reading .reads ∙ n), remembers-twice (still-remembers (f .unread) (f .reading .writing)) kept)
-
--- ---- a write
-pub flush-keeps : (before after : Run) (out : List ℕ) → FlushedTo before after → before .stretch .used ≤ length out → (m : Mode) (piece ws : List ℕ) → Keeps m before piece ws out after piece ws out
-flush-keeps before after out f fits m piece ws a =
-    rw (f .stretch, f .reading .read, f .written, f .reading .ended) (writes m (before .read) (before .written) (before .ended) piece (stretched (before .stretch) ws out) fits a)
-
--- ---- a stretch
-pub print-keeps : (m : Mode) (before after : Run) (piece ws out ws′ out′ : List ℕ)
-    → stretched (after .stretch) ws′ out′ ≡ stretchOf m piece (before .ended) (stretched (before .stretch) ws out)
-    → ReadsNothing before after → WritesNothing before after → Keeps m before piece ws out after piece ws′ out′
-print-keeps m before after piece ws out ws′ out′ e r w a =
-    rw (e, r .read, w .written, r .ended) (prints m (before .read) (before .written) (before .ended) piece (stretched (before .stretch) ws out) a)
-
--- it comes further, where it has room, and not past the turns of the piece
-pub print-on : (m : Mode) (src : List ℕ) (last : Bool) (turns : ℕ) (s next : Stretched) → turns ≡ turnsIn src last → next ≡ stretchOf m src last s
-    → s .stretch .at < turns → s .stretch .complete ≡ false → s .stretch .used + turnBytes ≤ length (s .out)
-    → (s .stretch .at < next .stretch .at) × (next .stretch .at ≤ turns)
-unfolding stretchOf
-print-on m src last turns s next t e more going room =
-    let n = turnsIn src last - s .stretch .at in
-    let at : next .stretch .at ≡ stretchFrom m n src s .stretch .at = ap (λ (x : Stretched). x .stretch .at) e in (
-      omega (arith, stretch-more m n src s (omega arith) (room-goes (s .stretch) (length (s .out)) going room)),
-      omega (arith, stretch-most m n src s),
-    )
-
--- and where the piece is the last, the turn of the file's end completes it
-pub print-last : (m : Mode) (src : List ℕ) (last : Bool) (turns : ℕ) (s next : Stretched) → turns ≡ turnsIn src last → next ≡ stretchOf m src last s
-    → s .stretch .at < turns → last ≡ true → CompleteAt turns next
-unfolding stretchOf cond
-print-last m src false turns s next t e more at-end = absurd (false≢true at-end)
-print-last m src true turns s next t e more at-end =
-    let n = length src / 4 + 1 - s .stretch .at in
-    rw (t, e) (last-completes m n src s (omega arith) (λ at. absurd (omega arith)))
 
 -- ---- a read
 -- what lies in the input after it: what was carried over, and what was read

@@ -1,2 +1,2 @@
--- How the account of a program is kept from step to step of its loop.
-pub mod Kept
+-- What the loop is proved to do.
+pub mod Ran

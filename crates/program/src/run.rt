@@ -1,93 +1,23 @@
 // The loop over a file.
-use crate::piece::carry;
-use crate::piece::flush;
-use crate::piece::next_piece;
-use crate::piece::print_piece;
+use buffers::Run;
+use buffers::carry;
+use buffers::fed;
+use buffers::flush;
+use buffers::next_piece;
+use buffers::read_on;
+use buffers::unread;
+use emit::print_piece;
 use libc::STDERR_FILENO;
-use libc::STDIN_FILENO;
-use pieces::Stretch;
 use pieces::begin;
 use printing::Mode;
 use replay::lent_words;
 ghost use mathlib.Core.Bool.{true, false};
 ghost use mathlib.Core.Path.{_≡_};
 ghost use Prim.Native.Nat.{_+_, _<_, _≤_};
-ghost use lib.ListN.{length, take};
+ghost use lib.ListN.{length};
 ghost use Rattle.pieces.specs.Stretch.{turnBytes};
-ghost use Rattle.program.specs.Kept.{Left, Remembers, mostReads, Fed, Unfed, over, newRun, Ran};
-
-// How far a program is: what it prints, how many bytes of a cut word lie at the front of the input, how many bytes were read, in how many reads, and how
-// many handed to be written, whether the input has ended, whether it can't be read, and whether the output can't be written.
-pub struct Run {
-    pub stretch: Stretch,
-    pub carried: usize,
-    pub read: u64,
-    pub reads: u64,
-    pub written: u64,
-    pub ended: bool,
-    pub unread: bool,
-    pub unwritten: bool,
-}
-
-// What a read leaves: where the input's bytes end, whether it failed, and how many reads there were.
-struct Input {
-    end: usize,
-    failed: bool,
-    reads: u64,
-}
-
-// Reads on after the bytes that are carried over, and counts the read.
-fn read_on(src: &mut [u8], carried: usize, reads: u64) -> Input
-    requires { ⌜ (carried ≤ length (now src)) × (reads < mostReads) ⌝ }
-    ensures behind { λ r. ⌜ (carried ≤ r .end) × (r .end ≤ length (now (src .entry))) × (take carried (now (src .exit)) ≡ take carried (now (src .entry))) × (r .reads ≡ reads + 1) ⌝ }
-    ensures nothing { λ r. ⌜ (r .failed ≡ true → r .end ≡ carried) ⌝ }
-{
-    let got = libc::read(STDIN_FILENO, &mut src[carried..]);
-    let n = io::count(got, &src[carried..]);
-    Input {
-        end: carried + n,
-        failed: got < 0,
-        reads: reads + 1,
-    }
-}
-
-// The run of a piece that was read. A read of no bytes is the end of the input.
-fn fed(run: Run, input: Input) -> Run
-    requires { ⌜ run .carried ≤ input .end ⌝ }
-    ensures { λ r. ⌜ Fed run input r ⌝ }
-{
-    let stretch = run.stretch;
-    let carried = run.carried;
-    let n = input.end - carried;
-    Run {
-        stretch,
-        carried,
-        read: std::num::wrapping_add_u64(run.read, n as u64),
-        reads: input.reads,
-        written: run.written,
-        ended: n == 0,
-        unread: run.unread,
-        unwritten: run.unwritten,
-    }
-}
-
-// A run whose input can't be read: nothing was.
-fn unread(run: Run, input: Input) -> Run
-    requires { ⌜ input .end ≡ run .carried ⌝ }
-    ensures { λ r. ⌜ Unfed run input r ⌝ }
-{
-    let stretch = run.stretch;
-    Run {
-        stretch,
-        carried: run.carried,
-        read: run.read,
-        reads: input.reads,
-        written: run.written,
-        ended: run.ended,
-        unread: true,
-        unwritten: run.unwritten,
-    }
-}
+ghost use Rattle.buffers.specs.Kept.{Remembers, mostReads};
+ghost use Rattle.program.specs.Ran.{Left, over, newRun, Ran};
 
 // Reads a piece and prints it.
 fn print_some(words: &mut [u32], mode: Mode, run: Run, src: &mut [u8], out: &mut [u8]) -> Run

@@ -2,7 +2,7 @@
 use borrow.Author.Needs.{needs}
 use Rattle.pieces.proofs.stretch.begin.Statement.{statement}
 use Rattle.pieces.proofs.stretch.begin.Tie as tie
-use Rattle.printing.proofs.start.Reads as start-reads
+use Rattle.turns.proofs.start.Reads as start-reads
 
 start-requires : tie.Need-start-requires
 start-requires c κs = search needs

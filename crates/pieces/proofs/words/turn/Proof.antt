@@ -3,12 +3,13 @@ use mathlib.Core.List.{List}
 use mathlib.Core.Path.{_≡_, refl}
 use Prim.Native.Nat.{ℕ}
 use Rattle.printing.specs.Printings.{endsWith}
-use Rattle.printing.specs.Outputs.{shown, stopsAfter}
+use Rattle.printing.specs.Outputs.{stopsAfter}
+use Rattle.turns.specs.Turn.{shown}
 use Rattle.printing.specs.declared.printed.Mode.{Mode}
 use Rattle.printing.specs.declared.printed.Output.{Output}
 use Rattle.printing.specs.declared.printed.Output.the-variants.{Quiet, Line, Last, End}
-use Rattle.printing.specs.declared.turn.Printer.{Printer}
-use Rattle.printing.proofs.Whole.{end-ends}
+use Rattle.turns.specs.declared.Printer.{Printer}
+use Rattle.turns.proofs.Whole.{end-ends}
 use Rattle.pieces.specs.Stretch.{stretchTurn}
 use borrow.Author.Needs.{needs}
 use Rattle.pieces.proofs.words.turn.Statement.{statement}

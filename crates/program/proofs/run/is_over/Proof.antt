@@ -1,7 +1,7 @@
 -- `program::run::is_over` meets its contract: the tests of the definition are those of the branches. Assumes nothing.
 use mathlib.Core.Path.{refl}
 use Rattle.laws.specs.Choice.{cond}
-use Rattle.program.specs.Kept.{over}
+use Rattle.program.specs.Ran.{over}
 use Rattle.program.proofs.run.is_over.Statement.{statement}
 use Rattle.program.proofs.run.is_over.Tie as tie
 

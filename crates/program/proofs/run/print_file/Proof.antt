@@ -7,8 +7,9 @@ use native.Mathlib.Omega.{arith}
 use borrow.Author.Needs.{needs}
 use lib.ListN.{length}
 use Rattle.rules.specs.Layout.{workerWords, windowsWords}
-use Rattle.program.specs.Kept.{Left, over, mostReads}
-use Rattle.program.specs.declared.run.Run.{Run}
+use Rattle.buffers.specs.Kept.{mostReads}
+use Rattle.program.specs.Ran.{Left, over}
+use Rattle.buffers.specs.declared.run.Run.{Run}
 use Rattle.program.proofs.Keeping.{started, over-going, ran}
 use Rattle.program.proofs.run.print_file.Statement.{statement}
 use Rattle.program.proofs.run.print_file.Tie as tie

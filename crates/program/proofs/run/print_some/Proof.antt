@@ -7,7 +7,8 @@ use lib.ListN.{length, take}
 use lib.Seq.{length-take-le}
 use Rattle.laws.specs.Choice.{cond}
 use Rattle.pieces.specs.declared.stretch.Stretch.{Stretch}
-use Rattle.program.proofs.Keeping.{remembers-twice, still-remembers, piece-counts, unfed-keeps, left-fed, last-left, carry-keeps}
+use Rattle.buffers.proofs.Keeping.{remembers-twice, still-remembers}
+use Rattle.program.proofs.Keeping.{piece-counts, unfed-keeps, left-fed, last-left, carry-keeps}
 use borrow.Author.Needs.{needs}
 use Rattle.program.proofs.run.print_some.Statement.{statement}
 use Rattle.program.proofs.run.print_some.Tie as tie

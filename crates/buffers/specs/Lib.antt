@@ -1,0 +1,2 @@
+-- How the account of a run is kept from step to step.
+pub mod Kept

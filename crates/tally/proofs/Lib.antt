@@ -1,0 +1,2 @@
+-- What is known of a file's events.
+pub mod Events
