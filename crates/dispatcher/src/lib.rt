@@ -1,4 +1,5 @@
 // Turns for the workers: steps of the busy ones, round and round by number, up to the first final answer.
+use calls::next_answer;
 use fitness::refusal;
 use image::MARK;
 use image::TOP;
@@ -11,7 +12,6 @@ use rules::numbers::NO_SUCH_WORKER;
 use rules::numbers::SHIPPED;
 use slots::idle_at;
 use step::answers::final_answer;
-use step::fit_answer;
 ghost use mathlib.Core.Path.{_≡_};
 ghost use Prim.Native.Nat.{_<_, _≤_};
 ghost use lib.ListN.{length};
@@ -108,7 +108,7 @@ fn turns(words: &mut [u32], g: Settings, first: u32, steps: u32) -> Dispatched
         };
         let top = words[TOP];
         let mark = words[MARK];
-        let n = fit_answer(words, j, &mut five);
+        let n = next_answer(words, j, &mut five);
         if n != 0 {
             return ended(j, n, five);
         }

@@ -1,5 +1,5 @@
--- Pairs as numbers. The two words of a pair are told by their number, and the pairs of all windows by the first ones, four that are asked for each by itself, and
--- the zeros behind.
+-- Pairs as numbers. The two words of a pair are told by their number, and the pairs of all windows by the live ones, one that may come behind them, and the zeros
+-- behind that.
 use Prim.Native.Nat.{ℕ, _+_, _*_, _-_, _≤_, _<_}
 use mathlib.Core.Path.{_≡_, sym, _∙_}
 use mathlib.Core.List.{List}
@@ -22,36 +22,29 @@ pub wanted-none : (live x k : ℕ) → live ≤ k → wantedBits live x k ≡ 0
 wanted-none live x k l = rw (le-ltb k live l) (cond-false _ _)
 
 -- ---- all pairs
-module _ (ws : List ℕ) (at live x below : ℕ) (low : below ≤ live) (high : live ≤ below + 4) (most : below + 4 ≤ mostLive) where
+module _ (ws : List ℕ) (at live even x : ℕ) (up : live ≤ even) (most : even ≤ mostLive) where
   abbrev behind : ℕ
-  behind = at + pairWords * below + pairWords * 4
+  behind = at + pairWords * even
 
-  pub pairs-wanted : ((k : ℕ) → k < below → bitsAt ws (at + pairWords * k) ≡ x)
+  pub pairs-wanted : ((k : ℕ) → k < live → bitsAt ws (at + pairWords * k) ≡ x)
+      → ((k : ℕ) → k < even - live → bitsAt ws (at + pairWords * live + pairWords * k) ≡ 0)
       → allBelow (at + pairWords * mostLive - behind) (λ i. eqb (getD ws (behind + i) 0) 0) ≡ true
-      → ((k : ℕ) → k < 4 → bitsAt ws (at + pairWords * below + pairWords * k) ≡ wantedBits (live - below) x k)
       → (k : ℕ) → k < mostLive → bitsAt ws (at + pairWords * k) ≡ wantedBits live x k
-  pairs-wanted same zeros four k l =
-      elim (decLt k below) [
-        | yes a ↦ first a
-        | no a ↦ elim (decLt k (below + 4)) [ yes b ↦ among (omega (arith, a)) b | no b ↦ last (omega (arith, b)) ]
+  pairs-wanted same none zeros k l =
+      elim (decLt k live) [
+        | yes a ↦ same k a ∙ sym (wanted-live live x k a)
+        | no a ↦ elim (decLt k even) [ yes b ↦ next (omega (arith, a)) b | no b ↦ last (omega (arith, b)) ]
       ]
     where
-      first : k < below → bitsAt ws (at + pairWords * k) ≡ wantedBits live x k
-      first a = same k a ∙ sym (wanted-live live x k (omega arith))
+      next : live ≤ k → k < even → bitsAt ws (at + pairWords * k) ≡ wantedBits live x k
+      next a b =
+          let here : at + pairWords * live + pairWords * (k - live) ≡ at + pairWords * k = omega arith in
+          (rw here at (none (k - live) (omega arith))) ∙ sym (wanted-none live x k a)
 
-      among : below ≤ k → k < below + 4 → bitsAt ws (at + pairWords * k) ≡ wantedBits live x k
-      among a b =
-          let here : at + pairWords * below + pairWords * (k - below) ≡ at + pairWords * k = omega arith in
-          let is = rw here at (four (k - below) (omega arith)) in
-          elim (decLt k live) [
-            | yes c ↦ is ∙ wanted-live (live - below) x (k - below) (omega arith) ∙ sym (wanted-live live x k c)
-            | no c ↦ is ∙ wanted-none (live - below) x (k - below) (omega (arith, c)) ∙ sym (wanted-none live x k (omega (arith, c)))
-          ]
-
-      last : below + 4 ≤ k → bitsAt ws (at + pairWords * k) ≡ wantedBits live x k
+      last : even ≤ k → bitsAt ws (at + pairWords * k) ≡ wantedBits live x k
       last a =
           let one : (i n : ℕ) → i < at + pairWords * mostLive - behind → behind + i ≡ n → getD ws n 0 ≡ 0 =
           λ i n b e. eqb-true (getD ws n 0) 0 (rw e at (allBelow-at (at + pairWords * mostLive - behind) (λ j. eqb (getD ws (behind + j) 0) 0) i b zeros)) in
-          let width = one (pairWords * (k - (below + 4))) (at + pairWords * k) (omega arith) (omega arith) in
-          let depth = one (pairWords * (k - (below + 4)) + 1) (at + pairWords * k + 1) (omega arith) (omega arith) in
+          let width = one (pairWords * (k - even)) (at + pairWords * k) (omega arith) (omega arith) in
+          let depth = one (pairWords * (k - even) + 1) (at + pairWords * k + 1) (omega arith) (omega arith) in
           omega (arith, width, depth) ∙ sym (wanted-none live x k (omega arith))

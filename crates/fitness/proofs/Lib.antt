@@ -1,5 +1,6 @@
 -- What the proofs of the functions cite.
 pub mod Bits
+pub mod Bodies
 pub mod Bottoms
 pub mod Eleven
 pub mod Heads

@@ -1,5 +1,4 @@
--- One look for several: tests made together hold where each does, the bits of two words together are zero where both words are, and those in which two
--- words differ where the words are equal.
+-- One look for several: tests made together hold where each does, and the bits of two words together are zero where both words are.
 use Prim.Native.Nat.{ℕ, zero, suc, _+_, _≤_, _<_}
 use mathlib.Core.Path.{_≡_, refl, sym, subst}
 use mathlib.Core.Logic.{⊎-elim}
@@ -8,7 +7,7 @@ use native.Mathlib.Decide.{ℕ-discrete}
 use native.Mathlib.Nat.{eq-or-lt-of-le}
 use native.Mathlib.Numerals.{add-one}
 use native.Mathlib.Omega.{arith}
-use lib.Bits.{bitOr, bitXor, or-add-and, and-le-l, and-le-r, xor-add-and, xor-self}
+use lib.Bits.{bitOr, or-add-and, and-le-l, and-le-r}
 use lib.Dec.{eqb}
 use borrow.Author.Tests.{eq-eqb, ne-eqb, eqb-true, eqb-false}
 use Rattle.laws.specs.Choice.{both, both-one, allBelow}
@@ -24,16 +23,6 @@ or-none a b = go (eqb a 0) refl (eqb b 0) refl
     go true p true q = eq-eqb (bitOr a b) 0 (omega (arith, eqb-true a 0 p, eqb-true b 0 q, or-add-and a b))
     go true p false q = ne-eqb (bitOr a b) 0 (λ (z : bitOr a b ≡ 0). eqb-false b 0 q (omega (arith, or-add-and a b, and-le-l a b)))
     go false p t q = ne-eqb (bitOr a b) 0 (λ (z : bitOr a b ≡ 0). eqb-false a 0 p (omega (arith, or-add-and a b, and-le-r a b)))
-
-pub xor-none : (a b : ℕ) → eqb (bitXor a b) 0 ≡ eqb a b
-xor-none a b = go (eqb a b) refl
-  where
-    go : (s : Bool) → eqb a b ≡ s → eqb (bitXor a b) 0 ≡ s
-    go true p = eq-eqb (bitXor a b) 0 (same (eqb-true a b p))
-      where
-        same : a ≡ b → bitXor a b ≡ 0
-        same e = rw e (xor-self b)
-    go false p = ne-eqb (bitXor a b) 0 (λ (z : bitXor a b ≡ 0). eqb-false a b p (omega (arith, xor-add-and a b, and-le-l a b, and-le-r a b)))
 
 -- ---- all below a bound
 -- one more, of what holds at each

@@ -1,6 +1,7 @@
 // Quick looks for the check before a call. What a pool has as a rule is asked for first, and all of a rule only where that is not so: that each window of a
 // queue has the pool's size, and that no sub's last taken row is below the take window's bottom.
 use crate::limits::settings_fit;
+use crate::shared::shared_fit;
 use crate::subs::lowest;
 use crate::windows::zeros;
 use crate::workers::every_fit;
@@ -14,6 +15,7 @@ use image::TOP;
 use image::WINDOWS_WORDS;
 use image::as_shipped;
 use image::in_edition;
+use image::shipped_settings;
 use image::sub_of;
 use image::windows_at;
 use image::words_needed;
@@ -26,9 +28,9 @@ ghost use mathlib.Core.Path.{_≡_};
 ghost use Prim.Native.Nat.{ℕ, _+_, _*_, _<_, _≤_};
 ghost use lib.ListN.{length};
 ghost use Rattle.fitness.specs.Alike.{bitsOf, bitsAt, wantedBits};
-ghost use Rattle.laws.specs.Choice.{fourFrom};
+ghost use Rattle.laws.specs.Choice.{both, fourFrom};
 ghost use Rattle.rules.specs.Fit.{Fit, subFit, subsFit, windowsFit, bodyChecked, headChecked};
-ghost use Rattle.rules.specs.Layout.{firstOf, secondOf, pairWords, pairAt, windowsAt, needed};
+ghost use Rattle.rules.specs.Layout.{firstOf, secondOf, pairWords, pairAt, windowsAt, needed, settingsOf};
 ghost use Rattle.rules.specs.Limits.{Bounds, mostLive};
 ghost use Rattle.rules.specs.Make.{shipped};
 
@@ -63,66 +65,47 @@ fn same(words: &[u32], at: usize, count: usize, x: u64) -> bool
     true
 }
 
-// The pair `k`, where so many are `x`, and zero beyond.
-fn wanted(live: u32, x: u64, k: usize) -> u64
-    ensures { λ r. ⌜ r ≡ wantedBits live x k ⌝ }
-{
-    if k < (live as usize) {
-        return x;
-    }
-    0
-}
-
-// Whether of four pairs from `at` on so many are `x`, and the others zero.
-fn four(words: &[u32], at: usize, live: u32, x: u64) -> bool
-    requires { ⌜ at + pairWords * 4 ≤ length (now words) ⌝ }
-    ensures { λ r. ⌜ (r ≡ true → (k : ℕ) → k < 4 → bitsAt (now (words .entry)) (at + pairWords * k) ≡ wantedBits live x k) ⌝ }
-{
-    let mut k: usize = 0;
-    while k < 4 {
-        if bits(words, at + PAIR_WORDS * k) == wanted(live, x, k) {
-            k += 1;
-        } else {
-            return false;
-        }
-    }
-    true
-}
-
-// Whether so many pairs from `at` on are `x`, and those beyond zero, where the last that is `x` is one of the four behind the first `below`.
-fn alike_by(words: &[u32], at: usize, live: u32, x: u64, below: u32) -> bool
+// Whether the first `live` pairs from `at` on are `x`, and those beyond zero. `even` is `live`, or 1 more: from there on the words are looked at together.
+fn alike_by(words: &[u32], at: usize, live: usize, even: usize, x: u64) -> bool
     requires { ⌜ at + pairWords * mostLive ≤ length (now words) ⌝ }
-    requires { ⌜ (below ≤ live) × (live ≤ below + 4) × (below + 4 ≤ mostLive) ⌝ }
+    requires { ⌜ (live ≤ even) × (even ≤ mostLive) ⌝ }
     ensures { λ r. ⌜ (r ≡ true → (k : ℕ) → k < mostLive → bitsAt (now (words .entry)) (at + pairWords * k) ≡ wantedBits live x k) ⌝ }
 {
-    let here = at + PAIR_WORDS * (below as usize);
-    if same(words, at, below as usize, x) {
-        if zeros(
-            words,
-            here + PAIR_WORDS * 4,
-            at + PAIR_WORDS * (MOST_LIVE as usize),
-        ) {
-            return four(words, here, live - below, x);
+    if same(words, at, live, x) {
+        if same(words, at + PAIR_WORDS * live, even - live, 0) {
+            return zeros(
+                words,
+                at + PAIR_WORDS * even,
+                at + PAIR_WORDS * (MOST_LIVE as usize),
+            );
         }
     }
     false
 }
 
-// The same, four by four: each call has its number, so that the compiler makes straight code of the loops.
+// The same, each number of live windows by itself: the compiler makes straight code of the loops, since it knows how many turns they have.
 fn alike(words: &[u32], at: usize, live: u32, x: u64) -> bool
-    requires { ⌜ (at + pairWords * mostLive ≤ length (now words)) × (live ≤ mostLive) ⌝ }
+    requires { ⌜ (at + pairWords * mostLive ≤ length (now words)) × (1 ≤ live) × (live ≤ mostLive) ⌝ }
     ensures { λ r. ⌜ (r ≡ true → (k : ℕ) → k < mostLive → bitsAt (now (words .entry)) (at + pairWords * k) ≡ wantedBits live x k) ⌝ }
 {
-    if live <= 4 {
-        return alike_by(words, at, live, x, 0);
+    match live {
+        1 => alike_by(words, at, 1, 2, x),
+        2 => alike_by(words, at, 2, 2, x),
+        3 => alike_by(words, at, 3, 4, x),
+        4 => alike_by(words, at, 4, 4, x),
+        5 => alike_by(words, at, 5, 6, x),
+        6 => alike_by(words, at, 6, 6, x),
+        7 => alike_by(words, at, 7, 8, x),
+        8 => alike_by(words, at, 8, 8, x),
+        9 => alike_by(words, at, 9, 10, x),
+        10 => alike_by(words, at, 10, 10, x),
+        11 => alike_by(words, at, 11, 12, x),
+        12 => alike_by(words, at, 12, 12, x),
+        13 => alike_by(words, at, 13, 14, x),
+        14 => alike_by(words, at, 14, 14, x),
+        15 => alike_by(words, at, 15, 16, x),
+        _ => alike_by(words, at, 16, 16, x),
     }
-    if live <= 8 {
-        return alike_by(words, at, live, x, 4);
-    }
-    if live <= 12 {
-        return alike_by(words, at, live, x, 8);
-    }
-    alike_by(words, at, live, x, 12)
 }
 
 // Whether a queue's windows, of which the words start at `at`, and the next one all have the pool's size, and lead from T up to P.
@@ -228,31 +211,56 @@ fn plain_subs(words: &[u32], g: Settings) -> bool
     true
 }
 
-// Whether all words behind the head are so.
-fn plain_body(words: &[u32], g: Settings) -> bool
+// The whole check of what the workers share, where a quick look does not tell. It reads the settings itself: handed to it, they would go through memory at
+// every call.
+fn whole_fit(words: &[u32]) -> bool
+    requires { ⌜ Bounds (settingsOf (now words)) ⌝ }
+    requires { ⌜ (needed (settingsOf (now words)) ≤ length (now words)) × (settingsOf (now words) .edition ≡ shipped) ⌝ }
+    ensures { λ r. ⌜ r ≡ both (windowsFit (now (words .entry)) (settingsOf (now (words .entry)))) (subsFit (now (words .entry)) (settingsOf (now (words .entry)))) ⌝ }
+{
+    shared_fit(words, shipped_settings(words))
+}
+
+// Whether what the workers share is fit, by a quick look or by all of it.
+fn quick_shared(words: &[u32], g: Settings) -> bool
+    requires { ⌜ Bounds g ⌝ }
+    requires { ⌜ (needed g ≤ length (now words)) × (g .edition ≡ shipped) ⌝ }
+    requires { ⌜ g ≡ settingsOf (now words) ⌝ }
+    ensures { λ r. ⌜ (r ≡ true → both (windowsFit (now (words .entry)) g) (subsFit (now (words .entry)) g) ≡ true) ⌝ }
+{
+    if plain_windows(words, g) {
+        if plain_subs(words, g) {
+            return true;
+        }
+    }
+    whole_fit(&words[..])
+}
+
+// Whether all words behind the head are fit.
+fn quick_body(words: &[u32], g: Settings) -> bool
     requires { ⌜ Bounds g ⌝ }
     requires { ⌜ g .edition ≡ shipped ⌝ }
+    requires { ⌜ g ≡ settingsOf (now words) ⌝ }
     ensures { λ r. ⌜ (r ≡ true → bodyChecked (now (words .entry)) g ≡ Fit g) ⌝ }
 {
     if words.len() < words_needed(g) {
         return false;
     }
-    if plain_windows(words, g) {
-        if plain_subs(words, g) {
-            return every_fit(words, g);
-        }
+    if quick_shared(words, g) {
+        return every_fit(words, g);
     }
     false
 }
 
-// Whether the words are such a pool of the edition, and that the shipped one, which is told to the compiler.
-pub fn plain_pool(words: &[u32], g: Settings, edition: u32) -> bool
+// Whether the words are a fit pool of the edition, and that the shipped one, which is told to the compiler.
+pub fn quick_pool(words: &[u32], g: Settings, edition: u32) -> bool
+    requires { ⌜ g ≡ settingsOf (now words) ⌝ }
     ensures { λ r. ⌜ (r ≡ true → (other : ℕ) → headChecked other edition (now (words .entry)) g ≡ Fit g) ⌝ }
 {
     if edition == SHIPPED {
         if settings_fit(in_edition(g, edition)) {
             if g.edition == SHIPPED {
-                return plain_body(words, as_shipped(g));
+                return quick_body(words, as_shipped(g));
             }
         }
     }

@@ -1,8 +1,7 @@
 // The order of the refusals before a call, and of a move's source.
 use crate::limits::settings_fit;
-use crate::quick::plain_pool;
-use crate::subs::subs_fit;
-use crate::windows::windows_fit;
+use crate::quick::quick_pool;
+use crate::shared::shared_fit;
 use crate::workers::workers_fit;
 use image::HEAD_WORDS;
 use image::in_edition;
@@ -17,7 +16,7 @@ ghost use Rattle.rules.specs.Fit.{bodyChecked, headChecked, checkedBy, checkedO
 ghost use Rattle.rules.specs.Limits.{Bounds};
 ghost use Rattle.rules.specs.Move.{sourceChecked};
 
-// The words needed, then the windows, the subs and the workers.
+// The words needed, then what the workers share, then the workers.
 fn body_refusal(words: &[u32], g: Settings) -> u32
     requires { ⌜ Bounds g ⌝ }
     ensures { λ r. ⌜ r ≡ refusalOf (bodyChecked (now (words .entry)) g) ⌝ }
@@ -25,11 +24,9 @@ fn body_refusal(words: &[u32], g: Settings) -> u32
     if words.len() < words_needed(g) {
         return TOO_FEW_WORDS;
     }
-    if windows_fit(words, g) {
-        if subs_fit(words, g) {
-            if workers_fit(words, g) {
-                return 0;
-            }
+    if shared_fit(words, g) {
+        if workers_fit(words, g) {
+            return 0;
         }
     }
     NOT_FIT
@@ -57,18 +54,25 @@ fn refusal_by(words: &[u32], edition: u32, other: u32) -> u32
     head_refusal(words, settings(words), edition, other)
 }
 
-// The number of the refusal where the words are no fit pool of an edition, else 0: by a quick look, and by all of the above where that does not tell. A number
-// and not the settings: a struct would go through memory at every call.
+// The number of the refusal where the words are no fit pool of an edition, else 0. A number and not the settings: a struct would go through memory at every call.
 pub fn refusal(words: &[u32], edition: u32) -> u32
+    ensures { λ r. ⌜ r ≡ refusalOf (checkedOf edition (now (words .entry))) ⌝ }
+{
+    refusal_by(words, edition, NOT_FIT)
+}
+
+// The same by quick looks, and by all of the above where they do not tell. It is for the one function behind all begins and steps, which it becomes a part of:
+// called from a second place it would be a part of neither.
+pub fn quick_refusal(words: &[u32], edition: u32) -> u32
     ensures { λ r. ⌜ r ≡ refusalOf (checkedOf edition (now (words .entry))) ⌝ }
 {
     if words.len() < HEAD_WORDS {
         return TOO_FEW_WORDS;
     }
-    if plain_pool(words, settings(words), edition) {
+    if quick_pool(words, settings(words), edition) {
         return 0;
     }
-    refusal_by(&words[..], edition, NOT_FIT)
+    refusal(&words[..], edition)
 }
 
 // The same of the source of a move from an edition, in full.

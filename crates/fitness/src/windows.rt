@@ -13,13 +13,11 @@ use queue_windows::nth_size;
 use queue_windows::size_set;
 use queue_windows::take_bottom;
 use rules::Settings;
-use rules::Size;
 use rules::numbers::MOST_LIVE;
 ghost use mathlib.Core.Path.{_≡_};
 ghost use Prim.Native.Nat.{_+_, _-_, _<_, _≤_};
 ghost use lib.Dec.{leb, eqb};
 ghost use lib.ListN.{length, getD};
-ghost use Rattle.fitness.specs.Alike.{wantedSize, sameSize};
 ghost use Rattle.laws.specs.Choice.{both, all, allBelow};
 ghost use Rattle.rules.specs.Fit.{pairFit, sizesFit, topsFit, windowsFit};
 ghost use Rattle.rules.specs.Layout.{markAt, topAt, setAt, pairAt, needed};
@@ -36,33 +34,6 @@ pub fn zeros(words: &[u32], from: usize, to: usize) -> bool
     while at < to {
         any = any | words[at];
         at += 1;
-    }
-    any == 0
-}
-
-// The size of the pair `k`, where all live windows are so large.
-fn wanted(live: u32, size: Size, k: u32) -> Size
-    ensures { λ r. ⌜ r ≡ wantedSize live size k ⌝ }
-{
-    if k < live {
-        return size;
-    }
-    Size { width: 0, depth: 0 }
-}
-
-// Whether the live windows are all so large, and no pair beyond has a size. It goes through all pairs and asks once: that is vector code.
-fn alike(words: &[u32], g: Settings, live: u32, size: Size) -> bool
-    requires { ⌜ Bounds g ⌝ }
-    requires { ⌜ pairAt g mostLive ≤ length (now words) ⌝ }
-    ensures { λ r. ⌜ r ≡ allBelow mostLive (λ k. sameSize (nthSize (now (words .entry)) g k) (wantedSize live size k)) ⌝ }
-{
-    let mut any: u32 = 0;
-    let mut k: u32 = 0;
-    while k < MOST_LIVE {
-        let is = nth_size(words, g, k);
-        let want = wanted(live, size, k);
-        any = any | ((is.width ^ want.width) | (is.depth ^ want.depth));
-        k += 1;
     }
     any == 0
 }
@@ -89,7 +60,7 @@ fn live_fit(words: &[u32], g: Settings, live: u32) -> bool
 }
 
 // The same with the pairs beyond, which are zero.
-fn mixed_fit(words: &[u32], g: Settings, live: u32) -> bool
+fn pairs_fit(words: &[u32], g: Settings, live: u32) -> bool
     requires { ⌜ Bounds g ⌝ }
     requires { ⌜ (pairAt g mostLive ≤ length (now words)) × (nthSize (now words) g 0 .depth ≤ getD (now words) markAt 0) ⌝ }
     requires { ⌜ (live ≤ mostLive) × (live ≡ liveOf (now words) g) ⌝ }
@@ -104,21 +75,6 @@ fn mixed_fit(words: &[u32], g: Settings, live: u32) -> bool
         return live_fit(words, g, live);
     }
     false
-}
-
-// The same, by one look where the live windows are all as large as the take window: then they are together as often as deep as it.
-fn pairs_fit(words: &[u32], g: Settings, live: u32) -> bool
-    requires { ⌜ Bounds g ⌝ }
-    requires { ⌜ (pairAt g mostLive ≤ length (now words)) × (nthSize (now words) g 0 .depth ≤ getD (now words) markAt 0) ⌝ }
-    requires { ⌜ (1 ≤ live) × (live ≤ mostLive) × (live ≡ liveOf (now words) g) ⌝ }
-    ensures { λ r. ⌜ r ≡ both (allBelow mostLive (pairFit (now (words .entry)) g)) (eqb (bottomOf (now (words .entry)) g live) (getD (now (words .entry)) topAt 0)) ⌝ }
-{
-    let first = nth_size(words, g, 0);
-    if alike(words, g, live, first) {
-        let top = (take_bottom(words, g) as u64) + (live as u64) * (first.depth as u64);
-        return size_fit(g, first) & (top == (words[TOP] as u64));
-    }
-    mixed_fit(words, g, live)
 }
 
 // Whether a queue's windows are fit.

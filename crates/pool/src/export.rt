@@ -1,18 +1,16 @@
 // The functions that C calls: the answer's number is returned, and its five fields are written; of a dispatcher's result six, and a size call and a move have none.
-use crate::begin::begin_put;
-use crate::begin::begin_take;
 use crate::new::make;
 use crate::size::set_size;
+use calls::PUT;
+use calls::STEP;
+use calls::TAKE;
+use calls::call;
 use dispatcher::dispatch;
-use fitness::refusal;
 use moves::move_pool;
-use rules::Answer;
 use rules::Dispatched;
-use rules::numbers::SHIPPED;
 use step::answers::answered;
 use step::answers::fields;
 use step::answers::number;
-use step::fit_answer;
 ghost use mathlib.Core.Path.{_≡_};
 ghost use mathlib.Core.List.{[]};
 ghost use Rattle.rules.specs.Answers.{returned, returnedOf, returnedAlone};
@@ -50,28 +48,21 @@ pub extern "C" fn pool_begin_put(
 ) -> u32
     ensures { λ r. ⌜ returned r (now (words .exit)) (now (fields .exit)) ≡ returnedOf (beginPutOf shipped (now (words .entry)) worker value) ⌝ }
 {
-    let a = begin_put(words, worker, value);
-    answered(a, fields)
+    call(words, PUT, worker, value, fields)
 }
 
 #[no_mangle]
 pub extern "C" fn pool_begin_take(words: &mut [u32], worker: u32, fields: &mut [u32; 5]) -> u32
     ensures { λ r. ⌜ returned r (now (words .exit)) (now (fields .exit)) ≡ returnedOf (beginTakeOf shipped (now (words .entry)) worker) ⌝ }
 {
-    let a = begin_take(words, worker);
-    answered(a, fields)
+    call(words, TAKE, worker, 0, fields)
 }
 
-// As `step` and `answered` would give it; see `fit_answer`.
 #[no_mangle]
 pub extern "C" fn pool_step(words: &mut [u32], worker: u32, fields: &mut [u32; 5]) -> u32
     ensures { λ r. ⌜ returned r (now (words .exit)) (now (fields .exit)) ≡ returnedOf (stepOf shipped (now (words .entry)) worker) ⌝ }
 {
-    let n = refusal(words, SHIPPED);
-    if n != 0 {
-        return answered(Answer::Refused(n), fields);
-    }
-    fit_answer(words, worker, fields)
+    call(words, STEP, worker, 0, fields)
 }
 
 #[no_mangle]

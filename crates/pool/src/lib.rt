@@ -1,11 +1,10 @@
 // The pool on lent words: make, begin put, begin take, step, the size call, the dispatcher and the moves between editions, for all words.
-mod begin;
 pub mod export;
 mod new;
 mod size;
 
-pub use begin::begin_put;
-pub use begin::begin_take;
+pub use calls::begin_put;
+pub use calls::begin_take;
 pub use dispatcher::dispatch;
 pub use moves::move_pool;
 pub use new::make;

@@ -28,7 +28,7 @@ loop-holds : tie.Need-loop-holds Inv-loop μ-loop
 loop-holds c = (refl, c .before .pre .1 .1, c .before .pre .0, refl)
 
 -- whose step was made
-turn : (f : tie.After-fit-answer Inv-loop μ-loop)
+turn : (f : tie.After-next-answer Inv-loop μ-loop)
     → let l = f .before .before .before .before .before .before .before .before .before .before .before .loop in turnFrom (l .words) (f .before .before .before .before .before .before .before .before .before .before .before .before .before .args .g) (l .i) ≡ Worker (f .before .before .before .before .before .before .t .given .0 .0)
 turn f = sym (f .before .before .before .before .before .before .before .before .turn-from .ensures) ∙ f .before .before .before .before .before .before .t .given .1
 
@@ -56,8 +56,8 @@ slice-read-top c = omega (arith, fit-pool _ _ _ (c .before .before .before .befo
 slice-read-mark : tie.Need-slice-read-mark Inv-loop μ-loop
 slice-read-mark c = omega (arith, fit-pool _ _ _ (c .before .before .before .before .before .before .before .before .loop .inv .2) .enough)
 
-fit-answer-requires : tie.Need-fit-answer-requires Inv-loop μ-loop
-fit-answer-requires c κs =
+next-answer-requires : tie.Need-next-answer-requires Inv-loop μ-loop
+next-answer-requires c κs =
     let l = c .before .before .before .before .before .before .before .before .before .before .loop in
     let s = c .before .before .before .before .before .before .before .before .before .before .before .before in
     rw (fit-pool _ (l .words) (s .args .g) (l .inv .2) .settings) (subst (λ (e : ℕ). checkedOf e (l .words) ≡ Fit (s .args .g)) (s .pre .1 .0) (l .inv .2))
@@ -72,8 +72,8 @@ returns-2 : tie.Need-returns-2 Inv-loop μ-loop
 returns-2 c =
     let f = c .before .before .before .before in
     let l = f .before .before .before .before .before .before .before .before .before .before .before .loop in
-    ap (λ r. dispatched r (f .fit-answer .last .0)) (c .ended .ensures)
-    ∙ turns-over (l .words) _ (l .inv .2) (l .i) _ (l .left) (f .before .before .before .before .before .before .before .before .before .before .loop-test .taken) (turn f) (f .fit-answer .ensures) (c .before .if1 .taken)
+    ap (λ r. dispatched r (f .next-answer .last .0)) (c .ended .ensures)
+    ∙ turns-over (l .words) _ (l .inv .2) (l .i) _ (l .left) (f .before .before .before .before .before .before .before .before .before .before .loop-test .taken) (turn f) (f .next-answer .ensures) (c .before .if1 .taken)
     ∙ l .inv .3
 
 add-i : tie.Need-add-i Inv-loop μ-loop
@@ -93,7 +93,7 @@ refusal-after-requires : tie.Need-refusal-after-requires Inv-loop μ-loop
 refusal-after-requires c κs =
     let f = c .before .before .before .before .before in
     let l = f .before .before .before .before .before .before .before .before .before .before .before .loop in
-    omega (arith, f .fit-answer .kept .0, fit-pool _ _ _ (l .inv .2) .enough)
+    omega (arith, f .next-answer .kept .0, fit-pool _ _ _ (l .inv .2) .enough)
 
 stopped-requires : tie.Need-stopped-requires Inv-loop μ-loop
 stopped-requires c κs =
@@ -101,8 +101,8 @@ stopped-requires c κs =
     let l = f .before .before .before .before .before .before .before .before .before .before .before .loop in
     let s = f .before .before .before .before .before .before .before .before .before .before .before .before .before in
     let p = fit-pool _ (l .words) (s .args .g) (l .inv .2) in
-    let unfit = unfit-again (l .words) (f .fit-answer .last .0) (s .args .g) (s .pre .1 .0) _ (c .before .before .refusal-after .ensures) (c .before .if2 .taken) in
-    (p .bounds, ((omega (arith, f .fit-answer .kept .0, p .enough), mod-lt _ (omega (arith, l .inv .1))), unfit))
+    let unfit = unfit-again (l .words) (f .next-answer .last .0) (s .args .g) (s .pre .1 .0) _ (c .before .before .refusal-after .ensures) (c .before .if2 .taken) in
+    (p .bounds, ((omega (arith, f .next-answer .kept .0, p .enough), mod-lt _ (omega (arith, l .inv .1))), unfit))
 
 same-length-3 : tie.Need-same-length-3 Inv-loop μ-loop
 same-length-3 c = search needs
@@ -112,7 +112,7 @@ returns-3 c =
     let f = c .before .before .before .before .before .before .before .before .before in
     let l = f .before .before .before .before .before .before .before .before .before .before .before .loop in
     c .stopped .ensures
-    ∙ turns-left (l .words) _ (l .inv .2) (l .i) _ (l .left) (f .before .before .before .before .before .before .before .before .before .before .loop-test .taken) (turn f) (f .fit-answer .ensures) (c .before .before .before .before .before .before .if1 .left)
+    ∙ turns-left (l .words) _ (l .inv .2) (l .i) _ (l .left) (f .before .before .before .before .before .before .before .before .before .before .loop-test .taken) (turn f) (f .next-answer .ensures) (c .before .before .before .before .before .before .if1 .left)
     ∙ l .inv .3
 
 loop-less : tie.Need-loop-less Inv-loop μ-loop
@@ -126,7 +126,7 @@ loop-again c =
     let g = s .args .g in
     let zero = c .before .before .before .before .if1 .left in
     let some = f .before .before .before .before .before .before .before .before .before .before .loop-test .taken in
-    let step = f .fit-answer in (
+    let step = f .next-answer in (
       step .kept .0 ∙ l .inv .0,
       mod-lt _ (omega (arith, l .inv .1)),
       fit-again (l .words) (step .last .0) g (s .pre .1 .0) (left-settings (l .words) g (l .inv .2) (l .i) _ (l .left) some (turn f) (step .ensures) zero)
@@ -175,7 +175,7 @@ turns-spec =
     returns
     slice-read-top
     slice-read-mark
-    fit-answer-requires
+    next-answer-requires
     ended-requires
     same-length-2
     returns-2

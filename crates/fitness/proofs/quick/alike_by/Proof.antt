@@ -1,19 +1,25 @@
--- `fitness::quick::alike_by` meets its contract: the first pairs, the four behind them and the zeros behind those are all.
-use Rattle.fitness.proofs.Bits.{pairs-wanted}
+-- `fitness::quick::alike_by` meets its contract: the live pairs, the one that may come behind them and the zeros behind that are all.
 use mathlib.Core.Bool.{false≢true}
 use mathlib.Core.Path.{sym, _∙_}
+use Rattle.fitness.proofs.Bits.{pairs-wanted}
 use borrow.Author.Needs.{needs}
 use Rattle.fitness.proofs.quick.alike_by.Statement.{statement}
 use Rattle.fitness.proofs.quick.alike_by.Tie as tie
 
-mul-here : tie.Need-mul-here
-mul-here c = search needs
-
-add-here : tie.Need-add-here
-add-here c = search needs
-
 same-requires : tie.Need-same-requires
 same-requires c κs = search needs
+
+mul-same : tie.Need-mul-same
+mul-same c = search needs
+
+add-same : tie.Need-add-same
+add-same c = search needs
+
+sub-same : tie.Need-sub-same
+sub-same c = search needs
+
+same-requires-2 : tie.Need-same-requires-2
+same-requires-2 c κs = search needs
 
 mul-zeros : tie.Need-mul-zeros
 mul-zeros c = search needs
@@ -33,18 +39,12 @@ add-zeros-2 c = search needs
 zeros-requires : tie.Need-zeros-requires
 zeros-requires c κs = search needs
 
-sub-four : tie.Need-sub-four
-sub-four c = search needs
-
-four-requires : tie.Need-four-requires
-four-requires c κs = search needs
-
 returns : tie.Need-returns
 returns c =
     let s = c .before .before .before .before .before .before in
     let p = s .pre .1 in
-    λ e k l. pairs-wanted (s .args .words .now) (s .args .at) (s .args .live) (s .args .x) (s .args .below) (p .0) (p .1) (p .2)
-    (c .before .before .before .before .same .ensures (c .before .before .before .if1 .taken)) (sym (c .before .before .zeros .ensures) ∙ c .before .if2 .taken) (c .four .ensures e) k l
+    λ e k l. pairs-wanted (s .args .words .now) (s .args .at) (s .args .live) (s .args .even) (s .args .x) (p .0) (p .1)
+    (c .before .before .before .before .same .ensures (c .before .before .before .if1 .taken)) (c .before .before .same2 .ensures (c .before .if2 .taken)) (sym (c .zeros .ensures) ∙ e) k l
 
 returns-2 : tie.Need-returns-2
 returns-2 c = λ e. absurd (false≢true e)
@@ -56,17 +56,17 @@ pub alike-by-spec : {M : Type 1} → statement M
 alike-by-spec =
     tie.close
     (tie.spec
-    mul-here
-    add-here
     same-requires
+    mul-same
+    add-same
+    sub-same
+    same-requires-2
     mul-zeros
     add-zeros
     cast-zeros
     mul-zeros-2
     add-zeros-2
     zeros-requires
-    sub-four
-    four-requires
     returns
     returns-2
     returns-3)

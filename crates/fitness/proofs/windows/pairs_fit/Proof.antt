@@ -1,16 +1,14 @@
--- `fitness::windows::pairs_fit` meets its contract: where the live windows are alike, the first one's test is that of each, and P is told by a product.
+-- `fitness::windows::pairs_fit` meets its contract: the pairs beyond the live ones are zero where each of their words is.
+use Rattle.fitness.proofs.Pairs.{noWord, wordsBehind, pairs-live, pairs-behind}
 use Rattle.rules.specs.Fit.{pairFit}
-use Rattle.rules.specs.Layout.{topAt}
+use Rattle.rules.specs.Windows.{liveOf, bottomOf}
+use Rattle.rules.specs.Limits.{mostLive}
+use mathlib.Core.List.{List}
+use Rattle.rules.specs.declared.Settings.{Settings}
+use Rattle.rules.specs.Layout.{windowsAt, pairAt, topAt}
 use Rattle.laws.specs.Choice.{both, allBelow}
-use lib.ListN.{getD}
 use lib.Dec.{eqb}
-use mathlib.Core.Path.{_≡_, refl, sym, ap, ap₂, _∙_}
-use Rattle.fitness.proofs.Pairs.{allAlike, pairs-alike, tops-alike}
-use Rattle.fitness.proofs.Looks.{and-both}
-use Rattle.rules.specs.declared.Size.{Size}
-use Rattle.rules.specs.Windows.{liveOf, nthSize, bottomOf}
-use Rattle.rules.specs.Limits.{mostLive, sizeFit}
-use native.Mathlib.Nat.{mul-le-mul-right}
+use lib.ListN.{getD}
 use native.Mathlib.Omega.{arith}
 use mathlib.Core.Bool.{Bool, true, false}
 use mathlib.Core.Path.{_≡_, refl, sym, ap, _∙_}
@@ -19,71 +17,77 @@ use borrow.Author.Needs.{needs}
 use Rattle.fitness.proofs.windows.pairs_fit.Statement.{statement}
 use Rattle.fitness.proofs.windows.pairs_fit.Tie as tie
 
-nth-size-requires : tie.Need-nth-size-requires
-nth-size-requires c κs = search needs
+-- the words behind the pairs of so many windows, by where the windows' words lie
+by-pairs : (ws : List ℕ) (g : Settings) (m at : ℕ) → at ≡ windowsAt g
+    → allBelow (at + 4 + 32 - (at + 4 + 2 * m)) (λ k. eqb (getD ws (at + 4 + 2 * m + k) 0) 0) ≡ allBelow (wordsBehind ws g m) (noWord ws g m)
+by-pairs ws g m at e = rw e refl
 
-alike-requires : tie.Need-alike-requires
-alike-requires c κs = search needs
+-- what was asked is whether each word behind the live pairs is zero
+behind : (c : tie.After-zeros)
+    → let a = c .before .before .before .args in
+    c .zeros .result ≡ allBelow (wordsBehind (a .words .now) (a .g) (liveOf (a .words .now) (a .g))) (noWord (a .words .now) (a .g) (liveOf (a .words .now) (a .g)))
+behind c =
+    let a = c .before .before .before .args in
+    let p = c .before .before .before .pre .1 .1 in
+    let ws = a .words .now in
+    c .zeros .ensures
+    ∙ by-pairs ws (a .g) (a .live) _ (c .before .windows-at .ensures)
+    ∙ ap (λ (m : ℕ). allBelow (wordsBehind ws (a .g) m) (noWord ws (a .g) m)) (p .1)
 
-take-bottom-requires : tie.Need-take-bottom-requires
-take-bottom-requires c κs = search needs
+windows-at-requires : tie.Need-windows-at-requires
+windows-at-requires c κs = search needs
 
-cast-top : tie.Need-cast-top
-cast-top c = search needs
+add-pairs : tie.Need-add-pairs
+add-pairs c = search needs
 
-cast-top-2 : tie.Need-cast-top-2
-cast-top-2 c = search needs
+mul-zeros : tie.Need-mul-zeros
+mul-zeros c = search needs
 
-mul-top : tie.Need-mul-top
-mul-top c = omega (arith, mul-le-mul-right {m = c .before .before .before .before .before .before .args .live} {n = 16} (c .before .before .before .before .nth-size .result .depth) (c .before .before .before .before .before .before .pre .1 .1 .1))
+add-zeros : tie.Need-add-zeros
+add-zeros c = search needs
 
-add-top : tie.Need-add-top
-add-top c = omega (arith, mul-le-mul-right {m = c .before .before .before .before .before .before .args .live} {n = 16} (c .before .before .before .before .nth-size .result .depth) (c .before .before .before .before .before .before .pre .1 .1 .1))
+cast-zeros : tie.Need-cast-zeros
+cast-zeros c = search needs
 
-size-fit-requires : tie.Need-size-fit-requires
-size-fit-requires c κs = search needs
+mul-zeros-2 : tie.Need-mul-zeros-2
+mul-zeros-2 c = search needs
 
-shared-slice-read-result : tie.Need-shared-slice-read-result
-shared-slice-read-result c = search needs
+add-zeros-2 : tie.Need-add-zeros-2
+add-zeros-2 c = search needs
 
-cast-result : tie.Need-cast-result
-cast-result c = omega (arith, c .shared-slice-known2 .given 8)
+zeros-requires : tie.Need-zeros-requires
+zeros-requires c κs = search needs
+
+live-fit-requires : tie.Need-live-fit-requires
+live-fit-requires c κs = search needs
 
 returns : tie.Need-returns
 returns c =
-    let s = c .before .before .before .before .before .before .before .before in
-    let ws = s .args .words .now in
-    let g = s .args .g in
-    let p = s .pre .1 .1 in
-    let first = c .before .before .before .before .before .before .nth-size .ensures in
-    let some : 1 ≤ liveOf ws g = rw (p .2) at (p .0) in
-    let most : liveOf ws g ≤ mostLive = rw (p .2) at (p .1) in
-    let alike : allAlike ws g most ≡ true = (rw (first, p .2) at (sym (c .before .before .before .before .before .alike .ensures))) ∙ c .before .before .before .before .if1 .taken in
-    let sum : c .before .before .before .take-bottom .result + s .args .live * c .before .before .before .before .before .before .nth-size .result .depth ≡ bottomOf ws g (s .args .live) =
-    rw (c .before .before .before .take-bottom .ensures, first) (sym (tops-alike ws g most alike (s .args .live) (omega (arith, p .2)))) in
-    and-both (c .before .size-fit .result) _
-    ∙ ap₂ both (c .before .size-fit .ensures ∙ ap (sizeFit g) first ∙ sym (pairs-alike ws g most alike some)) (ap (λ (x : ℕ). eqb x (getD ws topAt 0)) sum)
-
-mixed-fit-requires : tie.Need-mixed-fit-requires
-mixed-fit-requires c κs = search needs
+    let a = c .before .before .before .before .before .args in
+    let p = c .before .before .before .before .before .pre .1 .1 in
+    let most : liveOf (a .words .now) (a .g) ≤ mostLive = rw (p .1) at (p .0) in
+    let none = sym (behind (c .before .before)) ∙ c .before .if1 .taken in
+    c .live-fit .ensures ∙ rw (pairs-live (a .words .now) (a .g) most none, p .1) refl
 
 returns-2 : tie.Need-returns-2
-returns-2 c = search needs
+returns-2 c =
+    let a = c .before .before .before .before .args in
+    let p = c .before .before .before .before .pre .1 .1 in
+    let most : liveOf (a .words .now) (a .g) ≤ mostLive = rw (p .1) at (p .0) in
+    rw (pairs-behind (a .words .now) (a .g) most (sym (behind (c .before)) ∙ c .if1 .left)) refl
 
 pub pairs-fit-spec : {M : Type 1} → statement M
 pairs-fit-spec =
     tie.close
     (tie.spec
-    nth-size-requires
-    alike-requires
-    take-bottom-requires
-    cast-top
-    cast-top-2
-    mul-top
-    add-top
-    size-fit-requires
-    shared-slice-read-result
-    cast-result
+    windows-at-requires
+    add-pairs
+    mul-zeros
+    add-zeros
+    cast-zeros
+    mul-zeros-2
+    add-zeros-2
+    zeros-requires
+    live-fit-requires
     returns
-    mixed-fit-requires
     returns-2)

@@ -79,7 +79,7 @@ pairs-fit-requires : tie.Need-pairs-fit-requires
 pairs-fit-requires c κs =
     let s = c .before .before .before .before .before .before .before .before .before .before .before in
     let low : nthSize (s .args .words .now) (s .args .g) 0 .depth ≤ getD (s .args .words .now) markAt 0 = rw (c .before .before .before .before .before .before .nth-size .ensures) at (c .before .before .before .if3 .left) in
-    (s .pre .0, ((s .pre .1, low), (c .before .before .before .before .before .before .before .before .if1 .left, c .before .before .before .before .before .before .before .if2 .left, c .before .before .before .before .before .before .before .before .before .live-of .ensures)))
+    (s .pre .0, ((s .pre .1, low), (c .before .before .before .before .before .before .before .if2 .left, c .before .before .before .before .before .before .before .before .before .live-of .ensures)))
 
 returns-4 : tie.Need-returns-4
 returns-4 c =

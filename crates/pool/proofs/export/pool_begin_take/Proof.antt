@@ -1,22 +1,20 @@
--- `pool::export::pool_begin_take` meets its contract: the calls' promises put together are the definition.
-use mathlib.Core.Path.{ap}
+-- `pool::export::pool_begin_take` meets its contract: begin take is what is asked of the worker.
+use native.Mathlib.Omega.{arith}
+use Rattle.laws.specs.Choice.{cond}
+use Rattle.calls.specs.Called.{called}
 use borrow.Author.Needs.{needs}
-use Rattle.rules.specs.Answers.{returnedOf}
 use Rattle.pool.proofs.export.pool_begin_take.Statement.{statement}
 use Rattle.pool.proofs.export.pool_begin_take.Tie as tie
 
-begin-take-requires : tie.Need-begin-take-requires
-begin-take-requires c κs = search needs
-
-answered-requires : tie.Need-answered-requires
-answered-requires c κs = search needs
+call-requires : tie.Need-call-requires
+call-requires c κs = λ e. absurd (omega arith)
 
 same-length : tie.Need-same-length
 same-length c = search needs
 
 returns : tie.Need-returns
-returns c = rw (c .answered .ensures .0, c .answered .ensures .1) (ap returnedOf (c .before .before .before .before .begin-take .ensures))
+unfolding called cond
+returns c = c .before .before .call .ensures
 
 pub pool-begin-take-spec : {M : Type 1} → statement M
-pool-begin-take-spec =
-    tie.close (tie.spec begin-take-requires answered-requires same-length returns)
+pool-begin-take-spec = tie.close (tie.spec call-requires same-length returns)
