@@ -1,7 +1,5 @@
 // Which fit pools move: a queue that is given windows of their own sizes, or that had them, only where the two editions tell the same of it; any other pool.
 use crate::behind::above;
-use fitness::past_window;
-use fitness::sub_fit;
 use image::MARK;
 use image::TOP;
 use image::worker_at;
@@ -14,7 +12,9 @@ use rules::Settings;
 use rules::Size;
 use rules::Slot;
 use rules::numbers::MOST_LIVE;
+use shared_fitness::sub_fit;
 use slots::load;
+use worker_fitness::past_window;
 ghost use mathlib.Core.Path.{_≡_};
 ghost use mathlib.Core.Bool.{true};
 ghost use Prim.Native.Nat.{_-_, _<_, _≤_};

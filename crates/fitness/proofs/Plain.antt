@@ -1,5 +1,5 @@
--- What a plain pool has: a sub whose last taken row is not below the take window's bottom is held to that row, an idle worker has seen no window, and windows that
--- all have the pool's size are told by a number for each.
+-- What a plain pool has: a sub whose last taken row is not below the take window's bottom is held to that row, and windows that all have the pool's size are told by a
+-- number for each.
 use Prim.Native.Nat.{ℕ, _+_, _*_, _-_, _%_, _^_, _≤_, _<_}
 use mathlib.Core.Path.{_≡_, refl, sym, ap, _∙_}
 use mathlib.Core.List.{List}
@@ -22,14 +22,8 @@ use Rattle.rules.specs.declared.Size.{Size}
 use Rattle.rules.specs.declared.Slot.{Slot}
 use Rattle.fitness.specs.Alike.{wantedSize, sameSize, bitsOf, bitsAt, wantedBits}
 use Rattle.fitness.proofs.Bits.{wanted-live, wanted-none}
-use Rattle.fitness.proofs.Looks.{all-hold}
-use Rattle.fitness.proofs.Pairs.{allAlike, pairs-alike, tops-alike}
-use Rattle.fitness.proofs.Seen.{unseenFit, boundOf, worker-by-width}
-
--- the shipped edition has windows
-pub shipped-windowed : (g : Settings) → g .edition ≡ shipped → windowed g ≡ true
-unfolding windowed
-shipped-windowed g e = rw e refl
+use Rattle.laws.specs.Looks.{all-hold}
+use Rattle.fitness.proofs.OneSize.{allAlike, pairs-alike, tops-alike}
 
 -- ---- a sub
 pub level-is : (g : Settings) (last bottom : ℕ) → bottom ≤ last → levelOf g last bottom ≡ last
@@ -54,29 +48,6 @@ sub-plain g bottom first second above queue low rows f s a wraps within =
         let few : above ≤ g .rows = leb-true above (g .rows) within in
         let more : second < first = omega (arith, differ) in
         rw (lt-ltb second first more, le-leb (first - second) (g .rows) (omega (arith, more))) refl
-
--- ---- an idle worker
-idle-phase : (kind : ℕ) → phaseFit kind 0 ≡ true
-unfolding phaseFit cond
-idle-phase kind = go (eqb kind 0) refl
-  where
-    go : (b : Bool) → eqb kind 0 ≡ b → cond b true true ≡ true
-    go true e = refl
-    go false e = refl
-
-pub idle-fits : (g : Settings) (s : Slot) → s .number ≡ 0 → s .index < g .width → s .scan < g .width → unseenFit g s ≡ true → workerFit g s ≡ true
-unfolding cond
-idle-fits g s idle index scan unseen = sym (worker-by-width g s) ∙ all
-  where
-    unbound : boundOf g s ≡ g .width
-    unbound = rw idle (go (hasWindows g) refl)
-      where
-        go : (b : Bool) → hasWindows g ≡ b → cond (both b (pastWindow 0)) (s .width) (g .width) ≡ g .width
-        go true e = refl
-        go false e = refl
-
-    all : both (phaseFit (g .kind) (s .number)) (both (leb (boundOf g s) (g .width)) (both (both (ltb (s .index) (boundOf g s)) (ltb (s .scan) (boundOf g s))) (unseenFit g s))) ≡ true
-    all = rw (unbound, idle, idle-phase (g .kind), le-leb (g .width) (g .width) (le-refl (g .width)), lt-ltb (s .index) (g .width) index, lt-ltb (s .scan) (g .width) scan, unseen) refl
 
 -- ---- windows that all have the pool's size
 -- the two words of a number
@@ -146,12 +117,3 @@ pub windows-plain-at : (ws : List ℕ) (g : Settings) → Bounds g → ((i : ℕ
     → windowsFit ws g ≡ true
 windows-plain-at ws g bounds small has at x e f some most wanted set low lead next =
     windows-plain ws g bounds small (rw e at some) (rw e at most) (λ k l. rw (e, f) at (wanted k l)) has (rw e at set) low (rw e at lead) (rw (add-zero at, e, f) at next)
-
--- ---- a stack
--- the words of a stack's windows
-pub stack-windows : (ws : List ℕ) (g : Settings) {at : ℕ} → at ≡ windowsAt g → windowed g ≡ true → eqb (g .kind) 0 ≡ false
-    → allBelow (at + 36 - at) (λ k. eqb (getD ws (at + k) 0) 0) ≡ windowsFit ws g
-unfolding windowsFit cond
-stack-windows ws g {at} e has stack =
-    let many : at + 36 - at ≡ 36 = omega arith in
-    rw (many, e, has, stack, windows-some (g .edition) (windowed-is g has)) refl

@@ -1,10 +1,5 @@
 // Quick looks for the check before a call. What a pool has as a rule is asked for first, and all of a rule only where that is not so: that each window of a
 // queue has the pool's size, and that no sub's last taken row is below the take window's bottom.
-use crate::limits::settings_fit;
-use crate::shared::shared_fit;
-use crate::subs::lowest;
-use crate::windows::zeros;
-use crate::workers::every_fit;
 use image::LIVE;
 use image::MARK;
 use image::NEXT_WIDTH;
@@ -19,10 +14,15 @@ use image::shipped_settings;
 use image::sub_of;
 use image::windows_at;
 use image::words_needed;
+use limits::settings_fit;
 use rules::Settings;
 use rules::numbers::MOST_LIVE;
 use rules::numbers::SHIPPED;
+use shared_fitness::lowest;
+use shared_fitness::shared_fit;
+use shared_fitness::zeros;
 use std::num::wrapping_sub_u64;
+use worker_fitness::every_fit;
 ghost use mathlib.Core.Bool.{true};
 ghost use mathlib.Core.Path.{_≡_};
 ghost use Prim.Native.Nat.{ℕ, _+_, _*_, _<_, _≤_};

@@ -1,16 +1,16 @@
 // The order of the refusals before a call, and of a move's source.
-use crate::limits::settings_fit;
 use crate::quick::quick_pool;
-use crate::shared::shared_fit;
-use crate::workers::workers_fit;
 use image::HEAD_WORDS;
 use image::in_edition;
 use image::settings;
 use image::words_needed;
+use limits::settings_fit;
 use rules::Settings;
 use rules::numbers::NOT_FIT;
 use rules::numbers::TOO_FEW_WORDS;
 use rules::numbers::WRONG_EDITION;
+use shared_fitness::shared_fit;
+use worker_fitness::workers_fit;
 ghost use mathlib.Core.Path.{_≡_};
 ghost use Rattle.rules.specs.Fit.{bodyChecked, headChecked, checkedBy, checkedOf, refusalOf};
 ghost use Rattle.rules.specs.Limits.{Bounds};

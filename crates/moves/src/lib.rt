@@ -2,7 +2,6 @@
 use bridge::above;
 use bridge::may_move;
 use bridge::move_windows;
-use fitness::past_window;
 use fitness::source_refusal;
 use image::BOTTOM;
 use image::CELL_WORDS;
@@ -23,6 +22,7 @@ use rules::numbers::SHIPPED;
 use rules::numbers::TOO_FEW_WORDS;
 use rules::numbers::WRONG_EDITION;
 use slots::load;
+use worker_fitness::past_window;
 ghost use mathlib.Core.Path.{_≡_};
 ghost use Prim.Native.Nat.{_+_, _<_, _≤_};
 ghost use lib.ListN.{length, drop};

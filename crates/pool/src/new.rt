@@ -1,5 +1,4 @@
 // Make.
-use fitness::settings_fit;
 use image::LIVE;
 use image::NEXT_DEPTH;
 use image::NEXT_WIDTH;
@@ -9,6 +8,7 @@ use image::put_head;
 use image::windows_at;
 use image::words_needed;
 use image::worker_at;
+use limits::settings_fit;
 use queue_windows::has_windows;
 use rules::Answer;
 use rules::Settings;

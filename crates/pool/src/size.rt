@@ -1,11 +1,11 @@
 // The size call: the size of put windows from the next one on.
 use fitness::refusal;
-use fitness::size_fit;
 use image::NEXT_DEPTH;
 use image::NEXT_WIDTH;
 use image::SIZE_SET;
 use image::shipped_settings;
 use image::windows_at;
+use limits::size_fit;
 use rules::Answer;
 use rules::Settings;
 use rules::Size;

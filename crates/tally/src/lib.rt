@@ -1,6 +1,6 @@
 // What is counted over the events of a file.
-use fitness::settings_fit;
 use image::in_edition;
+use limits::settings_fit;
 use replay::Done;
 use replay::Said;
 use rules::Answer;

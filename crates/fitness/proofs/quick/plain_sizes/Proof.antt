@@ -1,5 +1,6 @@
 -- `fitness::quick::plain_sizes` meets its contract: what its tests have found of the words is what `windowsFit` asks for.
-use Rattle.fitness.proofs.Plain.{shipped-windowed, windows-plain-at}
+use Rattle.limits.proofs.Shipped.{shipped-windowed}
+use Rattle.fitness.proofs.Plain.{windows-plain-at}
 use Rattle.rules.specs.Layout.{markAt, topAt}
 use Rattle.rules.specs.Windows.{hasWindows}
 use borrow.Author.Tests.{eq-eqb}

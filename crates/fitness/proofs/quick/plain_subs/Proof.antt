@@ -1,5 +1,5 @@
 -- `fitness::quick::plain_subs` meets its contract: both loops' invariant is that every sub passed is fit, held to the bottom that was read once; where one is not plainly so, nothing is said.
-use Rattle.fitness.proofs.Bottoms.{isFit, subs-by}
+use Rattle.shared_fitness.proofs.Bottoms.{isFit, subs-by}
 use Rattle.laws.specs.Choice.{allBelow, allBelow-four, allBelow-more, allBelow-none}
 use borrow.Author.Needs.{needs}
 use native.Mathlib.Omega.{arith}

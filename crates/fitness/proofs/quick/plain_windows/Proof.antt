@@ -1,5 +1,6 @@
 -- `fitness::quick::plain_windows` meets its contract: the kind picks the same branch of `windowsFit`.
-use Rattle.fitness.proofs.Plain.{shipped-windowed, stack-windows}
+use Rattle.limits.proofs.Shipped.{shipped-windowed}
+use Rattle.shared_fitness.proofs.Stacks.{stack-windows}
 use Rattle.rules.proofs.Workers.{windowed-is, windows-some}
 use borrow.Author.Tests.{ne-eqb}
 use native.Mathlib.Omega.{arith}

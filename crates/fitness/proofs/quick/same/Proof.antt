@@ -1,5 +1,5 @@
 -- `fitness::quick::same` meets its contract: each pair passed is the number, and where one is not, nothing is said.
-use Rattle.fitness.proofs.Looks.{each-more}
+use Rattle.laws.specs.Looks.{each-more}
 use Rattle.fitness.specs.Alike.{bitsAt}
 use Rattle.rules.specs.Layout.{pairWords}
 use borrow.Author.Needs.{needs}
