@@ -1,14 +1,13 @@
--- "Words beyond the needed ones are never touched", of every call on any words.
+-- "Words beyond the needed ones are never touched", of every call on any words. Of a dispatch it is said in crates/rounds (specs/DispatchSteps), of a move
+-- in crates/turnaround (specs/Turnaround).
 use Prim.Native.Nat.{ℕ, _≤_}
 use mathlib.Core.Path.{_≡_}
 use mathlib.Core.List.{List}
 use lib.ListN.{getD, length}
 use Rattle.rules.specs.Layout.{needed, settingsOf}
-use Rattle.rules.specs.Make.{makeOf, inEdition}
-use Rattle.rules.specs.Move.{moveOf}
+use Rattle.rules.specs.Make.{makeOf}
 use Rattle.rules.specs.Begin.{beginOf}
 use Rattle.rules.specs.Step.{stepOf}
-use Rattle.rules.specs.Dispatch.{dispatchOf}
 use Rattle.rules.specs.Resize.{setSizeOf}
 use Rattle.rules.specs.declared.Settings.{Settings}
 use Rattle.rules.specs.declared.Side.{Side}
@@ -30,10 +29,3 @@ StepKeeps = (e : ℕ) (ws : List ℕ) (i : ℕ) → Beyond (needed (settingsOf w
 
 abbrev pub SetSizeKeeps : Type 0
 SetSizeKeeps = (e : ℕ) (ws : List ℕ) (size : Size) → Beyond (needed (settingsOf ws)) ws (setSizeOf e ws size .words)
-
--- of a move's target; its source is lent for reading
-abbrev pub MoveKeeps : Type 0
-MoveKeeps = (a b : ℕ) (from to : List ℕ) → Beyond (needed (inEdition b (settingsOf from))) to (moveOf a b from to .words)
-
-abbrev pub DispatchKeeps : Type 0
-DispatchKeeps = (e : ℕ) (ws : List ℕ) (i steps : ℕ) → Beyond (needed (settingsOf ws)) ws (dispatchOf e ws i steps .words)

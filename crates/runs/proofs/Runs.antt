@@ -46,7 +46,8 @@ use Rattle.runs.specs.Extremes.{extremes}
 use Rattle.runs.specs.Spacers.{spacers}
 use Rattle.runs.specs.Solos.{solos}
 use Rattle.runs.specs.Stretches.{Stretch, Unanswered, stretches}
-use Rattle.rules.specs.Move.{mayMove, newWord, windowsMoved, cleared, ownPairs, workerMoved, workersMoved, headMoved, cellsMoved, movedWords, fitMove, checkedMove, moveOf}
+use Rattle.rules.specs.NewWord.{newWord}
+use Rattle.turnaround.specs.Move.{mayMove, windowsMoved, cleared, ownPairs, workerMoved, workersMoved, headMoved, cellsMoved, movedWords, fitMove, checkedMove, moveOf}
 use Rattle.runs.specs.Moves.{MovesByHand, WideMovesByHand}
 use Rattle.runs.specs.Cards.{Cards, Says, carded, editionZero, editionOne, EditionsByHand}
 use Rattle.runs.specs.Sizes.{sized, parting, putsBelow, linesBelow}

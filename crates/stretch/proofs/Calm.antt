@@ -20,7 +20,7 @@ use Rattle.rules.proofs.machine.Good.{Good}
 use Rattle.rules.proofs.machine.Turns.{Common}
 use Rattle.rules.proofs.queue.Inv.{Inv}
 use Rattle.rules.proofs.Course.{At, settingsAt, HoldsAt, nextAt, movedAt, Course, none as no-more, calls, moves, after-call}
-use Rattle.rules.proofs.moves.Kept.{movedIn}
+use Rattle.rules.proofs.machine.Moved.{movedIn}
 use Rattle.rules.proofs.progress.QueueLeft.{Behind}
 use Rattle.rules.proofs.progress.QueueResult.{putIn, Filled, Moved}
 use Rattle.rules.proofs.progress.Law.{twice}

@@ -26,7 +26,7 @@ use Rattle.rules.proofs.words.Made.{Accepted}
 use Rattle.rules.proofs.Transfer.{Related, next-related, made-related}
 use Rattle.rules.proofs.BothKinds.{kindOf, inv-of}
 use Rattle.rules.proofs.Course.{At, settingsAt, HoldsAt, Kept, madeAt}
-use Rattle.rules.proofs.moves.Kept.{movedIn}
+use Rattle.rules.proofs.machine.Moved.{movedIn}
 use Rattle.rules.proofs.progress.QueueResult.{Filled}
 use Rattle.rules.proofs.progress.Law.{twice}
 use Rattle.stretch.proofs.Acts.{Acts, acts}

@@ -11,7 +11,7 @@ use Rattle.rules.proofs.machine.Machine.{State}
 use Rattle.rules.proofs.machine.Good.{good}
 use Rattle.rules.proofs.stack.Inv.{Sight, sight}
 use Rattle.rules.proofs.BothKinds.{kindBy, kindOf}
-use Rattle.rules.proofs.moves.Kept.{movedIn}
+use Rattle.rules.proofs.machine.Moved.{movedIn}
 use Rattle.rules.proofs.progress.QueueLeft.{PutWindow, PutRead, PutCommit, PutShift, TakeWindow, TakeRead, TakeCommit, TakeShift, TakeConfirm, Left as QueueLeft}
 use Rattle.rules.proofs.progress.StackLeft.{Away, Near, Left as StackLeft}
 use Rattle.rules.proofs.progress.Law.{SoloLaw, queueBegun, queueSolo, stackBegun, stackSolo}
