@@ -11,14 +11,14 @@ use Rattle.rules.specs.Layout.{needed, settingsOf}
 use Rattle.rules.specs.Fit.{Checked, Unfit, Fit, checkedOf}
 use Rattle.rules.specs.Step.{stepOf}
 use Rattle.rounds.specs.Dispatch.{DispatchOut, dispatched, workerAfter, turnFrom, afterStep, ifBusy, turnsOf, fitDispatch, checkedDispatch, dispatchOf}
-use Rattle.rules.specs.Untouched.{Beyond}
+use Rattle.untouched.specs.Untouched.{Beyond}
 use Rattle.rounds.specs.DispatchSteps.{DispatchKeeps}
 use Rattle.rules.specs.declared.Settings.{Settings}
 use Rattle.rules.specs.declared.Turn.{Turn}
 use Rattle.rules.specs.declared.Turn.the-variants.{NoneBusy as Nobody, Worker}
 use Rattle.rules.specs.declared.Dispatched.the-variants.{RanOut}
 use Rattle.rules.proofs.Fitness.{fit-pool}
-use Rattle.rules.proofs.Untouched.{unchanged, step-keeps}
+use Rattle.untouched.proofs.Untouched.{unchanged, step-keeps}
 use Rattle.rounds.proofs.Turns.{turn-settings}
 
 both-keep : {n : ℕ} {us vs ws : List ℕ} → Beyond n us vs → Beyond n vs ws → Beyond n us ws

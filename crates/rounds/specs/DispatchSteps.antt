@@ -9,7 +9,7 @@ use Rattle.rules.specs.Answers.{numberOf}
 use Rattle.rules.specs.Layout.{settingsOf, workerAt, needed}
 use Rattle.rules.specs.Fit.{Fit, checkedOf}
 use Rattle.rules.specs.Step.{stepOf}
-use Rattle.rules.specs.Untouched.{Beyond}
+use Rattle.untouched.specs.Untouched.{Beyond}
 use Rattle.rounds.specs.Dispatch.{DispatchOut, dispatched, Busy, turnFrom, dispatchOf}
 use Rattle.rules.specs.Run.{Call, step, callOf, Final}
 use Rattle.rules.specs.Consequences.{wordsAfter}

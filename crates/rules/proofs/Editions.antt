@@ -1,9 +1,8 @@
 -- Settings that differ in their edition alone: what both have, whatever number of words each gives a worker.
 use Prim.Native.Nat.{ℕ, _*_}
-use mathlib.Core.Path.{_≡_, refl, ap, sym, subst}
+use mathlib.Core.Path.{_≡_, ap, sym, subst}
 use Rattle.rules.specs.Limits.{Bounds}
 use Rattle.rules.specs.Make.{inEdition}
-use Rattle.rules.specs.Effects.{hopOf}
 use Rattle.rules.specs.declared.Settings.{Settings}
 
 pub edition-bounds : (e : ℕ) (g : Settings) → Bounds g → Bounds (inEdition e g)
@@ -36,8 +35,3 @@ module _ (g h : Settings) (same : h ≡ inEdition (h .edition) g) where
 
   pub same-cells : h .width * h .rows ≡ g .width * g .rows
   same-cells = ap (λ (x : Settings). x .width * x .rows) same
-
--- the index of a worker that lost a commit moves on by the stride, whatever the edition
-pub hops-same : (g : Settings) (e k : ℕ) → hopOf (inEdition e g) k ≡ hopOf g k
-unfolding hopOf
-hops-same g e k = refl

@@ -35,7 +35,7 @@ use Rattle.rules.proofs.figures.Figures.{exact-most}
 use Rattle.rules.proofs.order.Relaxed.{relaxed}
 use Rattle.rules.proofs.progress.Forms.{ends-later}
 use Rattle.rules.proofs.progress.Theorem.{ends-solo, exact-k3}
-use Rattle.rules.proofs.KnownSizes.{course-known}
+use Rattle.sizes.proofs.KnownSizes.{course-known}
 use Rattle.turnaround.proofs.Moved.{move-does}
 use Rattle.turnaround.proofs.Related.{MovedRelated, move-related}
 

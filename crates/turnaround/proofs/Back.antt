@@ -19,7 +19,7 @@ use Rattle.rules.specs.Limits.{mostLive}
 use Rattle.rules.specs.Windows.{hasWindows}
 use Rattle.rules.specs.Make.{shipped, inEdition}
 use Rattle.turnaround.specs.Move.{leads, mayMove, wordIn, ownLive, movedWords, moveOf}
-use Rattle.rules.specs.Untouched.{Beyond}
+use Rattle.untouched.specs.Untouched.{Beyond}
 use Rattle.turnaround.specs.Turnaround.{Moved, withoutCards, OldToNewToOld, NewToOldToNew}
 use Rattle.rules.specs.declared.Answer.the-variants.{Moving}
 use Rattle.turnaround.proofs.Types.{Settings}

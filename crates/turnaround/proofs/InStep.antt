@@ -29,9 +29,9 @@ use Rattle.turnaround.proofs.Types.{Settings, Side, Putting, Taking, Ef
 use Rattle.rules.proofs.Workers.{low-read}
 use Rattle.rules.proofs.Cells.{cell-lt}
 use Rattle.rules.proofs.Fitness.{settings-bounds, fit-pool}
-use Rattle.rules.proofs.Editions.{hops-same}
-use Rattle.rules.proofs.Alike.{Alike, inOther, measures-alike, rule-same, view-same, held-same, taken-same, body-same}
-use Rattle.rules.proofs.Checked.{checkedCall, call-is, unfit-call}
+use Rattle.rules.proofs.Hops.{hops-same}
+use Rattle.strides.proofs.Alike.{Alike, inOther, measures-alike, rule-same, view-same, held-same, taken-same, body-same}
+use Rattle.strides.proofs.Checked.{checkedCall, call-is, unfit-call}
 use Rattle.turnaround.proofs.Stores.{windowed-old, shared, reads, sub-stored, shifted-stored, raised-stored, dropped-stored, slot-stored, worker-stored, landed-stored, counted-stored}
 
 -- ---- what is read

@@ -15,13 +15,13 @@ use Rattle.rules.specs.Fit.{pastWindow, Checked, Unfit, Fit, sourceChecked, ref
 use Rattle.rules.specs.Make.{inEdition}
 use Rattle.rules.specs.NewWord.{newWord}
 use Rattle.turnaround.specs.Move.{movedWords, leads, mayMove, fitMove, checkedMove, moveOf}
-use Rattle.rules.specs.Untouched.{Beyond}
+use Rattle.untouched.specs.Untouched.{Beyond}
 use Rattle.turnaround.specs.Turnaround.{SamePool, Moved, MoveDoes, MoveKeeps}
 use Rattle.rules.specs.declared.Answer.the-variants.{Moving}
 use Rattle.turnaround.proofs.Types.{Settings, Slot}
 use Rattle.rules.proofs.Workers.{word-lt}
 use Rattle.rules.proofs.Fitness.{fit-with-other, fit-pool, fit-head, fit-own, refusal-none-by}
-use Rattle.rules.proofs.Untouched.{unchanged}
+use Rattle.untouched.proofs.Untouched.{unchanged}
 use Rattle.turnaround.proofs.Words.{head-word, cell-word, moved-beyond, moved-long, moved-settings, kept-word, new-word, low-words}
 use Rattle.turnaround.proofs.May.{may-on, own-few}
 use Rattle.turnaround.proofs.Fits.{Movable, source-pool, source-long, few-live, fit-moved}

@@ -19,10 +19,10 @@ use Rattle.rules.specs.Windows.{hasWindows, sizeOf, noSize, nextSize, liveOf, n
 use Rattle.rules.specs.Worker.{slotAt}
 use Rattle.rules.specs.NewWord.{newWord}
 use Rattle.turnaround.specs.Move.{wordIn, workerMoved, workersMoved, headMoved, cellsMoved, ownLive, movedWords}
-use Rattle.rules.specs.Untouched.{Beyond}
+use Rattle.untouched.specs.Untouched.{Beyond}
 use Rattle.turnaround.proofs.Types.{Settings}
 use Rattle.rules.proofs.Workers.{word-lt, worker-within, workers-apart, words-two, windowed-is}
-use Rattle.rules.proofs.Alike.{settings-alike}
+use Rattle.strides.proofs.Alike.{settings-alike}
 use Rattle.turnaround.proofs.Only.{Only, no-store, one-store, copy-only, copied}
 use Rattle.rules.proofs.machine.Moved.{slotMoved}
 use Rattle.turnaround.proofs.Windows.{windows-only, windows-blank, next-own, set-none, live-own, size-own, size-none}

@@ -19,7 +19,7 @@ use Rattle.rules.specs.Held.{Item, heldItems, countItems}
 use Rattle.rules.specs.Make.{makeOf, inEdition}
 use Rattle.turnaround.specs.Move.{moveOf}
 use Rattle.rounds.specs.Dispatch.{DispatchOut, dispatchOf}
-use Rattle.rules.specs.Untouched.{Beyond}
+use Rattle.untouched.specs.Untouched.{Beyond}
 use Rattle.rules.specs.Sequential.{Operation, demand3Rows}
 use Rattle.rules.specs.Run.{Call, begin, callOf, Event, eventOf, run}
 use Rattle.rules.specs.Statement.{All, OneAtATimeWithin}

@@ -10,26 +10,26 @@ use lib.Seq.{getD-set-same, set-getD}
 use lib.Dec.{leb, eqb}
 use borrow.Author.Tests.{leb-false}
 use Rattle.laws.specs.Choice.{both, cond-both}
 use Rattle.rules.specs.Answers.{Out, out}
 use Rattle.rules.specs.Layout.{headWords, stepsAt, workerAt, phaseAt, indexAt}
 use Rattle.rules.specs.Limits.{windowed, sizeFit}
 use Rattle.rules.specs.Worker.{encodePhase, encode}
 use Rattle.rules.specs.Fit.{Checked, Unfit, Fit, checkedOf, FitPool}
 use Rattle.rules.specs.Begin.{idleAt, outOfSteps, slotBegin, fitBegin, checkedBegin}
 use Rattle.rules.specs.Effects.{hopOf}
 use Rattle.rules.specs.Apply.{countLost, putItem, putLanded, applyBy, applyOf}
 use Rattle.rules.specs.Step.{ruleOf, slotStep, fitStep, checkedStep}
 use Rattle.rules.specs.Run.{Call, beginPut, beginTake, step, setSize, callOf}
 use Rattle.rules.specs.Resize.{fitSetSize, checkedSetSize}
-use Rattle.rules.specs.Stride.{withStride}
+use Rattle.rules.specs.Make.{withStride}
 use Rattle.rules.specs.declared.Outcome.the-variants.{Refused, Moving, Lost, Shifted, Raised, Dropped, Landed, Removed, Empty, Full}
-use Rattle.rules.proofs.Types.{Settings, Size, Side, Putting, Taking, Effect, Outcome}
+use Rattle.strides.proofs.Types.{Settings, Size, Side, Putting, Taking, Effect, Outcome}
 use Rattle.rules.proofs.Fitness.{fit-pool}
-use Rattle.rules.proofs.Checked.{checkedCall, call-is, unfit-call}
-use Rattle.rules.proofs.Untouched.{begin-keeps, step-keeps, set-size-keeps}
+use Rattle.strides.proofs.Checked.{checkedCall, call-is, unfit-call}
+use Rattle.untouched.proofs.Untouched.{begin-keeps, step-keeps, set-size-keeps}
 use Rattle.rules.proofs.words.Writes.{Still}
-use Rattle.rules.proofs.stride.Stores.{lost-commutes, slot-commutes, worker-commutes, shifted-commutes, raised-commutes, dropped-commutes, size-commutes, sub-commutes, landed-commutes, off, high, same-items, sized-alike, reads-alike}
-use Rattle.rules.proofs.Alike.{Alike, rule-same, taken-same, view-same}
+use Rattle.strides.proofs.Stores.{lost-commutes, slot-commutes, worker-commutes, shifted-commutes, raised-commutes, dropped-commutes, size-commutes, sub-commutes, landed-commutes, off, high, same-items, sized-alike, reads-alike}
+use Rattle.strides.proofs.Alike.{Alike, rule-same, taken-same, view-same}
 
 -- an answer, and its words with a store after it
 abbrev pub thenSet : ℕ → ℕ → Out → Out

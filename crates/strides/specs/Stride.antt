@@ -6,12 +6,12 @@ use mathlib.Core.Path.{_≡_}
 use mathlib.Core.Logic.{_≢_}
 use mathlib.Core.List.{List}
 use lib.ListN.{getD, set}
 use Rattle.rules.specs.Answers.{numberOf}
 use Rattle.rules.specs.Layout.{widthAt, strideAt}
-use Rattle.rules.specs.Make.{makeOf}
+use Rattle.rules.specs.Make.{withStride, makeOf}
 use Rattle.rules.specs.Run.{Call, run}
 use Rattle.rules.specs.Consequences.{wordsAfter}
 use Rattle.rules.specs.declared.Settings.{Settings}
 
 -- ---- of any words, fit or damaged
 -- the same list of calls on words whose word 10 is 1, and on the same words but for a 0 there
@@ -25,10 +25,6 @@ abbrev pub StrideOneOnWords : Type 0
 StrideOneOnWords = (e : ℕ) (ws : List ℕ) (cs : List Call) → getD ws widthAt 0 ≢ 1 → OneAsZero e ws cs
 
 -- ---- of a new pool
-abbrev pub withStride : Settings → ℕ → Settings
-withStride g x =
-    record { kind = g .kind; width = g .width; depth = g .depth; shift = g .shift; rows = g .rows; workers = g .workers; stride = x; edition = g .edition }
-
 -- a pool made with these settings, and one made with stride 0 instead
 pub record AsStrideZero (ws : List ℕ) (g : Settings) (cs : List Call) : Type 0 where
   pub made : makeOf ws g .answer ≡ makeOf ws (withStride g 0) .answer

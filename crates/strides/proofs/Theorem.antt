@@ -12,24 +12,24 @@ use lib.Seq.{getD-set-same, getD-set-other, set-comm, set-set, sets}
 use lib.Dec.{eqb}
 use borrow.Author.Tests.{lt-ltb, le-ltb}
 use Rattle.laws.specs.Choice.{cond, cond-under}
 use Rattle.rules.specs.Answers.{Out, notFit, out, numberOf}
 use Rattle.rules.specs.Layout.{headWords, widthAt, strideAt, editionAt, windowsAt, needed, settingsOf}
 use Rattle.rules.specs.Limits.{settingsFit, windowed}
 use Rattle.rules.specs.Fit.{Checked, Unfit, Fit, headChecked, checkedBy, checkedOf}
-use Rattle.rules.specs.Make.{inEdition, zeroed, newHead, newWindows, indexed, madeWords, makeOf}
-use Rattle.rules.specs.Effects.{hopOf}
+use Rattle.rules.specs.Make.{inEdition, withStride, zeroed, newHead, newWindows, indexed, madeWords, makeOf}
 use Rattle.rules.specs.Run.{Call, callOf, measuresAt, run}
 use Rattle.rules.specs.Consequences.{wordsAfter}
-use Rattle.rules.specs.Stride.{StrideOneOnWords, withStride, AsStrideZero, StrideOne, WidthTwo}
+use Rattle.strides.specs.Stride.{StrideOneOnWords, AsStrideZero, StrideOne, WidthTwo}
 use Rattle.rules.specs.declared.Answer.the-variants.{Moving}
-use Rattle.rules.proofs.Types.{Settings, Answer}
+use Rattle.strides.proofs.Types.{Settings, Answer}
 use Rattle.rules.proofs.Fitness.{settings-bounds, fit-pool}
+use Rattle.rules.proofs.Hops.{hops-alike}
 use Rattle.rules.proofs.words.Writes.{Still, still-low, still-high, set-kept}
 use Rattle.rules.proofs.words.Made.{accepted, made-says}
-use Rattle.rules.proofs.Alike.{measures-alike, settings-alike, inOther, body-same}
-use Rattle.rules.proofs.stride.Stores.{windows-commute, indexed-commutes, reads-alike}
-use Rattle.rules.proofs.Checked.{checkedCall, call-is, unfit-call}
-use Rattle.rules.proofs.stride.Calls.{thenSet, call-commutes, kept}
+use Rattle.strides.proofs.Alike.{measures-alike, settings-alike, inOther, body-same}
+use Rattle.strides.proofs.Stores.{windows-commute, indexed-commutes, reads-alike}
+use Rattle.strides.proofs.Checked.{checkedCall, call-is, unfit-call}
+use Rattle.strides.proofs.Calls.{thenSet, call-commutes, kept}
 
 stride-still : Still strideAt
 stride-still = still-high strideAt (omega arith) (omega arith)
@@ -38,10 +38,6 @@ width-still : Still widthAt
 width-still = still-low widthAt (omega arith)
 
 -- ---- settings
-hops-alike : (g : Settings) → g .stride ≡ 0 → (k : ℕ) → hopOf (withStride g 1) k ≡ hopOf g k
-unfolding hopOf cond
-hops-alike g z k = rw z refl
-
 -- a width of 0 is off limits itself
 limits-alike : (g : Settings) → g .stride ≡ 0 → g .width ≢ 1 → settingsFit (withStride g 1) ≡ settingsFit g
 unfolding settingsFit windowed

@@ -11,18 +11,17 @@ use lib.Seq.{getD-set-other, set-comm, sets}
 use lib.Dec.{ltb}
 use Rattle.laws.specs.Choice.{cond, cond-under}
 use Rattle.laws.specs.Wrap.{add32}
 use Rattle.rules.specs.Layout.{headWords, stepsAt, putsAt, topAt, markAt, workerWords, firstAt, secondAt, workerAt, indexAt, bottomAt, cellAt, stampAt, lostWord, lostAt, windowsAt, nextWidthAt, nextDepthAt, setAt, liveAt, pairsAt, pairWords, pairAt}
 use Rattle.rules.specs.Limits.{windowed, mostLive}
 use Rattle.rules.specs.Windows.{liveOf}
 use Rattle.rules.specs.Worker.{wordsOf, seenWords, putSlot}
-use Rattle.rules.specs.Make.{newWindows, indexed}
+use Rattle.rules.specs.Make.{withStride, newWindows, indexed}
 use Rattle.rules.specs.Held.{itemAt}
 use Rattle.rules.specs.Apply.{putItem, putSub, putLanded, putShifted, pairAdded, putRaised, wordsDown, pairGone, putDropped, putWorker, countLost}
 use Rattle.rules.specs.Resize.{putSize}
-use Rattle.rules.specs.Stride.{withStride}
-use Rattle.rules.proofs.Types.{Settings, Size, Slot, Row, Stamp, Effect}
+use Rattle.strides.proofs.Types.{Settings, Size, Slot, Row, Stamp, Effect}
 use Rattle.rules.proofs.words.Writes.{Still, item-kept}
-use Rattle.rules.proofs.Alike.{Alike}
+use Rattle.strides.proofs.Alike.{Alike}
 
 module _ (p : ℕ) (still : Still p) (x : ℕ) where
   beyond : (m : ℕ) → headWords ≤ m → p ≢ m

@@ -10,29 +10,28 @@ use native.Mathlib.Omega.{arith}
 use lib.ListN.{getD, length}
 use lib.Dec.{leb, ltb, eqb}
 use Rattle.laws.specs.Choice.{cond, both, all, cond-both, cond-under, both-true, allBelow, allBelow-none, allBelow-same}
 use Rattle.rules.specs.Layout.{headWords, kindAt, widthAt, depthAt, shiftAt, rowsAt, workerCountAt, strideAt, editionAt, settingsOf, putsAt, topAt, markAt, firstOf, secondOf, subAt, secondAt, workerWords, workerAt, indexAt, indexWord, nextWidthAt, nextDepthAt, setAt, liveAt, pairAt, windowsAt, windowsWords, needed}
 use Rattle.rules.specs.Limits.{windowed, mostLive, sizeFit}
 use Rattle.rules.specs.Windows.{hasWindows, nextSize, liveOf, nthSize, sizesIn, sizesOf, bottomOf, higher, lower, levelOf}
 use Rattle.rules.specs.Worker.{slotAt, seenBy, queuePhase, phaseOf, decode, encodePhase, encode}
 use Rattle.rules.specs.Fit.{Checked, Unfit, Fit, subFit, subsFit, seenFit, workerFit, workersFit, noSizeFit, pairFit, sizesFit, topsFit, windowsFit, bodyFit, bodyChecked}
 use Rattle.rules.specs.Effects.{hopOf, viewOf}
 use Rattle.rules.specs.Held.{Band, itemAt, bandCount, bandOf, windowBand, subBand, bandBetween, itemsAbove, heldBands, heldSub, heldBelow, countItems, reported, distanceOf}
 use Rattle.rules.specs.Window.{windowRule}
 use Rattle.rules.specs.Read.{missOf, queuePutRead, queueTakeRead, stackRead}
 use Rattle.rules.specs.Check.{checkRule}
 use Rattle.rules.specs.Commit.{commitBy, queuePutCommit, queueTakeCommit, queueCommit, stackCommit}
 use Rattle.rules.specs.Shift.{shiftBy, queueShift, stackShift}
 use Rattle.rules.specs.Confirm.{confirmedOf, confirmBy, queueConfirm, stackConfirm}
 use Rattle.rules.specs.Apply.{takenOf}
 use Rattle.rules.specs.Step.{ruleBy}
 use Rattle.rules.specs.Measures.{measured, seenSize, placesAfter, placesOf, measuresOf}
 use Rattle.rules.specs.Run.{Call, beginPut, beginTake, step, setSize, measuresAt}
-use Rattle.rules.specs.Make.{inEdition}
-use Rattle.rules.specs.Stride.{withStride}
+use Rattle.rules.specs.Make.{inEdition, withStride}
 use Rattle.rules.specs.declared.Answer.the-variants.{Taken}
-use Rattle.rules.proofs.Types.{Settings, Size, Sizes, Putting, Taking, Phase, Idle, Window, QueuePutRead, QueueTakeRead, StackRead, Check, QueueCommit, StackCommit, QueueShift, StackShift, QueueConfirm, StackConfirm, Slot, Worker, View, Row, Answer}
+use Rattle.strides.proofs.Types.{Settings, Size, Sizes, Putting, Taking, Phase, Idle, Window, QueuePutRead, QueueTakeRead, StackRead, Check, QueueCommit, StackCommit, QueueShift, StackShift, QueueConfirm, StackConfirm, Slot, Worker, View, Row, Answer}
 use Rattle.rules.proofs.Workers.{words-two, windows-none, windows-some, windowed-is, windowed-not, Read, read-low}
 use Rattle.rules.proofs.words.Writes.{slot-same}
 
 -- settings by their words
 pub settings-alike : (ws vs : List ℕ) (y e : ℕ)

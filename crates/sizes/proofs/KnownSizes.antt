@@ -11,31 +11,31 @@ use native.Mathlib.Omega.{arith}
 use lib.Dec.{eqb}
 use Rattle.laws.specs.Choice.{cond, cases, both}
 use Rattle.laws.specs.Wrap.{add32}
 use Rattle.rules.specs.Answers.{numberOf}
 use Rattle.rules.specs.Limits.{settingsFit, windowed, sizeFit}
 use Rattle.rules.specs.Windows.{hasWindows, sizeOf}
 use Rattle.rules.specs.Measures.{seenSize}
 use Rattle.rules.specs.Sequential.{Contents, noItems}
 use Rattle.rules.specs.Step.{ruleOf}
 use Rattle.rules.specs.Run.{Call, beginPut, beginTake, step, setSize, Event}
 use Rattle.rules.specs.Consequences.{KnownSizes, SizesKnown, OfEveryRun}
-use Rattle.rules.proofs.Types.{Settings, Size, Sizes, Side, Putting, Taking, Effect, Outcome}
+use Rattle.sizes.proofs.Types.{Settings, Size, Sizes, Side, Putting, Taking, Effect, Outcome}
 use Rattle.rules.specs.declared.Outcome.the-variants.{Refused, Moving, Lost, Shifted, Raised, Dropped, Landed, Removed, Empty, Full}
 use Rattle.rules.specs.declared.Answer.the-variants.{Moving as Moves}
 use Rattle.rules.proofs.Fitness.{settings-bounds}
 use Rattle.rules.proofs.counts.Sums.{upd-same, upd-other}
 use Rattle.rules.proofs.counts.Wraps.{add32-is}
 use Rattle.rules.proofs.order.Law.{Next}
 use Rattle.rules.proofs.machine.Machine.{State, next, topOf, sizeAt, sizesAt, sizesIn, viewIn, applyIn, applyInBy, stepIn, beginIn, setSizeIn, nextIn, madeIn, raisedOf}
 use Rattle.rules.proofs.machine.Calls.{Called, refuses, does, Steps, Begins, begun, step-called, begin-called}
 use Rattle.rules.proofs.machine.Turns.{Framed, ItemIn, Counts, Kind}
 use Rattle.rules.proofs.machine.Does.{SharedAfter, Counted, Rises, Sized, sized-in, rule-in, counted-in}
 use Rattle.rules.proofs.machine.Slots.{has-windows, has-queue}
 use Rattle.rules.proofs.queue.Inv.{Inv}
 use Rattle.rules.proofs.Transfer.{Whole, made-whole, made-related}
 use Rattle.rules.proofs.BothKinds.{kindOf, inv-of}
 use Rattle.rules.proofs.Course.{At, settingsAt, kindAt, HoldsAt, nextAt, movedAt, madeAt, Course, none as no-more, calls, moves, after-call, calls-course}
 use Rattle.rules.proofs.words.Made.{accepted}
 
 -- a new window has the next size
 pub raised-size : (s : State) (top : ℕ) → top ≡ topOf (s .frame) + s .next .depth → sizeAt (raisedOf (s .frame) (s .next .width) top) (suc (s .frame .tail)) ≡ s .next

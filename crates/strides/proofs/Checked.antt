@@ -2,13 +2,13 @@
 use Prim.Native.Nat.{ℕ}
 use mathlib.Core.Path.{_≡_, refl}
 use mathlib.Core.List.{List}
 use Rattle.rules.specs.Answers.{Out, refuse}
 use Rattle.rules.specs.Fit.{Checked, Unfit, checkedOf}
 use Rattle.rules.specs.Begin.{checkedBegin, beginOf}
 use Rattle.rules.specs.Resize.{checkedSetSize, setSizeOf}
 use Rattle.rules.specs.Step.{checkedStep, stepOf}
 use Rattle.rules.specs.Run.{Call, beginPut, beginTake, step, setSize, callOf}
-use Rattle.rules.proofs.Types.{Putting, Taking}
+use Rattle.strides.proofs.Types.{Putting, Taking}
 
 abbrev pub checkedCall : List ℕ → Checked → Call → Out
 checkedCall ws k (beginPut i v) = checkedBegin ws k i Putting v

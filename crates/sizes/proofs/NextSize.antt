@@ -12,37 +12,37 @@ use lib.Dec.{leb, eqb}
 use borrow.Author.Tests.{lt-leb}
 use Rattle.laws.specs.Choice.{cond, cases, both, both-true}
 use Rattle.laws.specs.Wrap.{add32}
 use Rattle.rules.specs.Answers.{Out, refuse, numberOf, noSuchWorker, workerIdle, stepsSpent}
 use Rattle.rules.specs.Layout.{stepsAt, topAt, workerAt, indexAt, indexWord}
 use Rattle.rules.specs.Limits.{settingsFit, windowed, sizeFit}
 use Rattle.rules.specs.Fit.{FitPool}
 use Rattle.rules.specs.Begin.{outOfSteps, idleAt}
 use Rattle.rules.specs.Effects.{strideOf, hopOf, viewOf, lastPut, lastTaken, subVersion}
 use Rattle.rules.specs.Commit.{commitBy, queuePutCommit, queueTakeCommit, queueCommit, stackCommit, lostOf}
 use Rattle.rules.specs.Windows.{hasWindows, nextSize, liveOf}
 use Rattle.rules.specs.Worker.{slotAt, encode, encodePhase}
 use Rattle.rules.specs.Apply.{countLost, putWorker, applyBy, applyOf}
 use Rattle.rules.specs.Step.{ruleBy, ruleOf, slotStep, fitStep, checkedStep, stepOf}
 use Rattle.rules.specs.Run.{Call, beginPut, beginTake, step, setSize, callOf, run}
 use Rattle.rules.specs.Consequences.{wordsAfter}
 use Rattle.rules.specs.Collisions.{finds, findsOther, fails}
-use Rattle.rules.specs.NextSize.{sizeAfter, lastSize, NextSizeIsLast, Rises, RaisedHasNext, HopsByPool}
-use Rattle.rules.proofs.Types.{Settings, Size, Side, Putting, Taking, Phase, Idle, Window, QueuePutRead, QueueTakeRead, StackRead, Check, QueueCommit, StackCommit, QueueShift, StackShift, QueueConfirm, StackConfirm, View, Effect, Outcome}
+use Rattle.sizes.specs.NextSize.{sizeAfter, lastSize, NextSizeIsLast, Rises, RaisedHasNext, HopsByPool}
+use Rattle.sizes.proofs.Types.{Settings, Size, Side, Putting, Taking, Phase, Idle, Window, QueuePutRead, QueueTakeRead, StackRead, Check, QueueCommit, StackCommit, QueueShift, StackShift, QueueConfirm, StackConfirm, View, Effect, Outcome}
 use Rattle.rules.specs.declared.Outcome.the-variants.{Refused, Moving, Lost, Shifted, Raised, Dropped, Landed, Removed, Empty, Full}
 use Rattle.rules.proofs.Fitness.{settings-bounds, fit-pool}
-use Rattle.rules.proofs.KnownSizes.{raised-size, raised-top}
+use Rattle.sizes.proofs.KnownSizes.{raised-size, raised-top}
 use Rattle.rules.proofs.order.Law.{Next}
 use Rattle.rules.proofs.machine.Machine.{State, topOf, raisedOf, sizeAt, viewIn, applyIn, applyInBy, setSizeIn, nextIn, madeIn}
 use Rattle.rules.proofs.machine.Calls.{Called, refuses, does, step-called, begin-called}
 use Rattle.rules.proofs.machine.Slots.{has-queue}
 use Rattle.rules.proofs.machine.Turns.{ItemIn, Counts, Kind}
 use Rattle.rules.proofs.machine.Does.{SharedAfter, Counted, sized-in, rule-in, counted-in}
 use Rattle.rules.proofs.Transfer.{Related, related-after, next-related, made-related}
 use Rattle.rules.proofs.BothKinds.{kindOf}
 use Rattle.rules.proofs.words.Made.{accepted}
 use Rattle.rules.proofs.Workers.{worker-within}
 use Rattle.rules.proofs.words.Writes.{word-on}
 use Rattle.rules.proofs.words.Stays.{lost-length}
 
 -- ---- the next size
 module _ (g : Settings) (s : State) where

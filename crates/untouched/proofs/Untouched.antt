@@ -12,41 +12,41 @@ use lib.Dec.{leb, ltb, eqb}
 use borrow.Author.Tests.{ltb-true, leb-false, eqb-true}
 use Rattle.laws.specs.Choice.{cond, cases, both-true, allBelow-at}
 use Rattle.laws.specs.Wrap.{sub32}
 use Rattle.rules.specs.Answers.{Out}
 use Rattle.rules.specs.Layout.{needed, workerWords, lostWord, workerAt, settingsOf, indexAt, bottomAt, windowsAt, windowsWords, pairsAt, pairWords}
 use Rattle.rules.specs.Limits.{settingsFit, windowed, mostLive}
 use Rattle.rules.specs.Windows.{hasWindows, liveOf, sizesIn, ownSizes, sizesOf}
 use Rattle.rules.specs.Worker.{putSlot, wordsOf, seenWords}
 use Rattle.rules.specs.Fit.{Checked, Unfit, Fit, checkedOf, windowsFit, FitPool}
 use Rattle.rules.specs.Make.{zeroed, newHead, newWindows, indexed, madeWords, makeOf}
 use Rattle.rules.specs.Begin.{outOfSteps, slotBegin, fitBegin, checkedBegin, beginOf}
 use Rattle.rules.specs.Effects.{viewOf, takeWindow, queueView, nothingFor}
 use Rattle.rules.specs.Window.{windowRule}
 use Rattle.rules.specs.Read.{missOf, queuePutRead, queueTakeRead, stackRead}
 use Rattle.rules.specs.Check.{checkRule}
 use Rattle.rules.specs.Commit.{commitBy, queuePutCommit, queueTakeCommit, queueCommit, stackCommit}
 use Rattle.rules.specs.Shift.{shiftBy, newTop, mayRise, queueShift, stackShift}
 use Rattle.rules.specs.Confirm.{confirmedOf, confirmBy, queueConfirm, stackConfirm}
 use Rattle.rules.specs.Apply.{countLost, putItem, putSub, putLanded, putShifted, pairAdded, putRaised, wordsDown, pairGone, putDropped, putWorker, applyBy, applyOf}
 use Rattle.rules.specs.Step.{ruleBy, ruleOf, slotStep, fitStep, checkedStep, stepOf}
 use Rattle.rules.specs.Resize.{putSize, fitSetSize, checkedSetSize, setSizeOf}
-use Rattle.rules.specs.Untouched.{Beyond, MakeKeeps, BeginKeeps, StepKeeps, SetSizeKeeps}
+use Rattle.untouched.specs.Untouched.{Beyond, MakeKeeps, BeginKeeps, StepKeeps, SetSizeKeeps}
 use Rattle.rules.specs.declared.Settings.{Settings}
 use Rattle.rules.specs.declared.Size.{Size}
 use Rattle.rules.specs.declared.Side.{Side}
 use Rattle.rules.specs.declared.Side.the-variants.{Putting, Taking}
 use Rattle.rules.specs.declared.Phase.{Phase}
 use Rattle.rules.specs.declared.Phase.the-variants.{Idle, Window, QueuePutRead, QueueTakeRead, StackRead, Check, QueueCommit, StackCommit, QueueShift, StackShift, QueueConfirm, StackConfirm}
 use Rattle.rules.specs.declared.View.{View}
 use Rattle.rules.specs.declared.Slot.{Slot}
 use Rattle.rules.specs.declared.Row.{Row}
 use Rattle.rules.specs.declared.Stamp.{Stamp}
 use Rattle.rules.specs.declared.Effect.{Effect}
 use Rattle.rules.specs.declared.Outcome.{Outcome}
 use Rattle.rules.specs.declared.Outcome.the-variants.{Refused, Moving, Lost, Shifted, Raised, Dropped, Landed, Removed, Empty, Full}
 use Rattle.rules.proofs.Workers.{slot-within, worker-within, words-two, windows-some, windowed-is}
 use Rattle.rules.proofs.Cells.{cell-lt}
 use Rattle.rules.proofs.Fitness.{fit-pool, fit-parts}
 
 -- ---- stores below n
 pub unchanged : (n : ℕ) (ws : List ℕ) → Beyond n ws ws
