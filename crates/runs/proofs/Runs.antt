@@ -25,7 +25,7 @@ use Rattle.rules.specs.Commit.{commitBy, queuePutCommit, queueTakeCommit, queue
 use Rattle.rules.specs.Shift.{shiftBy, queueShift, stackShift}
 use Rattle.rules.specs.Confirm.{confirmedOf, confirmBy, queueConfirm, stackConfirm}
 use Rattle.rules.specs.Held.{bandCount, bandOf, itemsAbove, heldBands, heldSub, heldBelow, countItems, passedOf, distanceOf}
-use Rattle.rules.specs.Segments.{segmentsFrom, segmentsAbove, upFrom}
+use Rattle.ring.specs.Segments.{segmentsFrom, segmentsAbove, upFrom}
 use Rattle.rules.specs.Apply.{putItem, putSub, putLanded, putShifted, putRaised, putDropped, countLost, putWorker, takenOf, applyBy, applyOf, pairAdded, wordsDown, pairGone}
 use Rattle.rules.specs.Step.{ruleBy, ruleOf, slotStep, fitStep, checkedStep, stepOf}
 use Rattle.rules.specs.Resize.{putSize, fitSetSize, checkedSetSize, setSizeOf}

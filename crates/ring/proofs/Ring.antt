@@ -13,11 +13,11 @@ use lib.Dec.{leb, eqb}
 use borrow.Author.Tests.{eqb-true, leb-true, leb-false}
 use Rattle.laws.specs.Choice.{cases}
 use Rattle.laws.specs.Wrap.{sub32}
 use Rattle.rules.specs.Layout.{cellAt, subCellsAt, nthCellAt}
 use Rattle.rules.specs.Held.{itemsAbove}
-use Rattle.rules.specs.Segments.{segment, noCells, only, wrapped, segmentsFrom, segmentsAbove, Within, upFrom, cellsOf, cellItems}
+use Rattle.ring.specs.Segments.{segment, noCells, only, wrapped, segmentsFrom, segmentsAbove, Within, upFrom, cellsOf, cellItems}
 use Rattle.rules.specs.declared.Settings.{Settings}
 use Rattle.rules.specs.declared.Segments.{Segments}
 
 -- ---- numbers one after the other
 upFrom-length : (n k : ℕ) → length (upFrom n k) ≡ k

@@ -8,11 +8,11 @@ use native.Mathlib.Omega.{arith}
 use lib.ListN.{getD, take, drop}
 use lib.Seq.{getD-drop, getD-take}
 use Rattle.laws.specs.Choice.{cond}
 use Rattle.rules.specs.Layout.{cellWords, nthCellAt, stampAt}
 use Rattle.rules.specs.Held.{Item, cellItem, countItems}
-use Rattle.rules.specs.Segments.{upFrom, cellItems, walkedBand, walkedBands, walkedSub, walkedBelow}
+use Rattle.ring.specs.Segments.{upFrom, cellItems, walkedBand, walkedBands, walkedSub, walkedBelow}
 use Rattle.rules.specs.declared.Settings.{Settings}
 use Rattle.rules.proofs.Cells.{count-append}
 
 -- ---- cells
 pub cells-none : (p : Item → Bool) (ws : List ℕ) (at n : ℕ) → countItems p (cellItems ws at (upFrom n 0)) ≡ 0

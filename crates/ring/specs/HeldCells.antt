@@ -4,20 +4,19 @@
 -- nothing, and K2's runs are then for each live window."
 -- The runs are `heldSegments`, the distance along them is `walkedDistance` (specs/Segments); the code's contracts cite both. The
 -- answers' own definition, over the held list, is `distanceOf` (specs/Held), and no rule names a segment.
-use Prim.Native.Nat.{ℕ, suc, _+_, _^_, _≤_, _<_}
+use Prim.Native.Nat.{ℕ, _+_, _^_, _<_}
 use mathlib.Core.Path.{_≡_}
 use mathlib.Core.Logic.{_↔_}
 use mathlib.Core.List.{List, List·Memᴰ}
-use mathlib.Core.Bool.{true}
 use lib.ListN.{getD, length}
-use Rattle.rules.specs.Layout.{cellOf, subCellsAt, firstOf, secondOf}
-use Rattle.rules.specs.Windows.{hasWindows, nthSize, bottomOf}
+use Rattle.rules.specs.Layout.{cellOf, subCellsAt}
 use Rattle.rules.specs.Fit.{Fit, checkedOf}
-use Rattle.rules.specs.Held.{rowsBelow, bandOf, bandCount, itemsAbove, heldItems, heldOf, distanceOf}
-use Rattle.rules.specs.Segments.{Within, heldSegments, cellsOf, cellItems, walkedItems, walkedDistance}
+use Rattle.rules.specs.Held.{bandOf, bandCount, itemsAbove, heldItems, heldOf, distanceOf}
+use Rattle.rules.specs.HeldRows.{HeldRow}
+use Rattle.ring.specs.Segments.{Within, heldSegments, cellsOf, cellItems, walkedItems, walkedDistance}
 use Rattle.rules.specs.declared.Settings.{Settings}
 use Rattle.rules.specs.declared.Stamp.{Stamp}
 use Rattle.rules.specs.declared.Segments.{Segments}
 
 -- "lent 32-bit words", and fit, with these settings
 pub record FitImage (ws : List ℕ) (g : Settings) : Type 0 where
@@ -25,19 +24,6 @@ pub record FitImage (ws : List ℕ) (g : Settings) : Type 0 where
   pub fit : checkedOf (g .edition) ws ≡ Fit g
 
 -- ---- the held cells of a sub
--- a row of sub j in the live window k: within its width, above its bottom and up to its top, which is the next one's bottom
-pub record InWindow (ws : List ℕ) (g : Settings) (k j row : ℕ) : Type 0 where
-  pub wide : j < nthSize ws g k .width
-  pub above : bottomOf ws g k < row
-  pub up-to : row ≤ bottomOf ws g (suc k)
-
--- a row that sub j holds: in a queue above those taken and up to those put, in a stack from 1 up to those held; and of the live window k, where
--- windows have sizes of their own
-pub record HeldRow (ws : List ℕ) (g : Settings) (k j row : ℕ) : Type 0 where
-  pub above : rowsBelow g (secondOf ws j) < row
-  pub up-to : row ≤ firstOf ws j
-  pub window : hasWindows g ≡ true → InWindow ws g k j row
-
 -- x are the straight runs of the held cells of sub j, of one live window
 pub record HeldCells (ws : List ℕ) (g : Settings) (k j : ℕ) (x : Segments) : Type 0 where
   -- "in at most two straight runs, up to the last cell and on from the first"
