@@ -3,7 +3,7 @@
 -- changes." K8: "a row of a sub at or below the take window's bottom, outside its window's width, or above the put window's top holds
 -- nothing, and K2's runs are then for each live window."
 -- The runs are `heldSegments`, the distance along them is `walkedDistance` (specs/Segments); the code's contracts cite both. The
--- answers' own definition, over the held list, is `distanceOf` (specs/Held), and no rule names a segment.
+-- answers' own definition, over the held list, is `distanceOf` (crates/rules, specs/Held), and no rule names a segment.
 use Prim.Native.Nat.{ℕ, _+_, _^_, _<_}
 use mathlib.Core.Path.{_≡_}
 use mathlib.Core.Logic.{_↔_}

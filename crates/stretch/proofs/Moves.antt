@@ -1,4 +1,4 @@
--- K7 over moves between editions: the run over any acts is a course of the machine (rules: moves/Acts), so that no stretch of it is longer; and where the pool
+-- K7 over moves between editions: the run over any acts is a course of the machine (turnaround: Acts), so that no stretch of it is longer; and where the pool
 -- lies in the end a dispatcher finishes an operation, by the edition that it is in there.
 use native.Mathlib.Omega.{arith}
 use Rattle.rules.specs.Make.{makeOf, inEdition}

@@ -1,5 +1,5 @@
 -- Demand 3 over begins, steps, size calls and moves, of a new pool of any edition: a run as one, with one order. A move keeps what holds of the pool, the
--- list with it, and no operation under way sees it (moves/Related), so that the run is a course of the machine (Course). Editions 1 and 2 may answer
+-- list with it, and no operation under way sees it (Related), so that the run is a course of the machine (crates/rules, Course). Editions 1 and 2 may answer
 -- differently, so no run is said to be that of a pool that never moved: what holds at each place holds by the rules of the edition that the pool is in there.
 use Prim.Native.Nat.{ℕ, _+_}
 use mathlib.Core.Path.{_≡_, sym, ap, _∙_, subst}
