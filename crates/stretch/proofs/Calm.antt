@@ -23,7 +23,7 @@ use Rattle.rules.proofs.Course.{At, settingsAt, HoldsAt, nextAt, movedAt, Cours
 use Rattle.rules.proofs.machine.Moved.{movedIn}
 use Rattle.rules.proofs.progress.QueueLeft.{Behind}
 use Rattle.rules.proofs.progress.QueueResult.{putIn, Filled, Moved}
-use Rattle.rules.proofs.progress.Law.{twice}
+use Rattle.solo.proofs.Law.{twice}
 use Rattle.stretch.proofs.Owed.{OwesIn, Debts, begun-others, begun-put-owes}
 use Rattle.stretch.proofs.Acts.{Acts, acts, put-begun, put-begun-other}
 use Rattle.stretch.proofs.Debts.{Pays, Account, account}

@@ -9,7 +9,7 @@ use Rattle.rules.proofs.machine.Phases.{statusOf}
 use Rattle.rules.proofs.machine.Moved.{movedIn}
 use Rattle.rules.proofs.progress.QueueLeft.{putNow, takeNow}
 use Rattle.rules.proofs.progress.QueueResult.{openPut, putIn}
-use Rattle.rules.proofs.progress.Moved.{queue-left}
+use Rattle.solo.proofs.Moved.{queue-left}
 use Rattle.stretch.proofs.Owed.{Owes, OwesIn, Debts}
 
 -- the phases after a move

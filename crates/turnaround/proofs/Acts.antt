@@ -19,7 +19,7 @@ use Rattle.rules.specs.Sequential.{Operation, Contents, demand3Rows}
 use Rattle.rules.specs.Run.{Call, begin}
 use Rattle.rules.specs.Consequences.{wordsAfter, itemsIn}
 use Rattle.rules.specs.Newer.{exactRows}
-use Rattle.rules.specs.Solo.{soloSteps}
+use Rattle.solo.specs.Solo.{soloSteps}
 use Rattle.turnaround.specs.Turnaround.{Act, call, move, Place, here, placeAfter, placeOver, runOver, ExactOverMoves, Demand3OverMoves, NothingLostOverMoves, SizesKnownOverMoves, SoundOverMoves, SoloFrom, SoloOverMoves, K3OverMoves}
 use Rattle.turnaround.proofs.Types.{Settings}
 use Rattle.rules.proofs.Fitness.{fit-head, settings-bounds}
@@ -33,8 +33,8 @@ use Rattle.rules.proofs.words.Made.{Accepted, accepted}
 use Rattle.rules.proofs.counts.Held.{count-none}
 use Rattle.rules.proofs.figures.Figures.{exact-most}
 use Rattle.rules.proofs.order.Relaxed.{relaxed}
-use Rattle.rules.proofs.progress.Forms.{ends-later}
-use Rattle.rules.proofs.progress.Theorem.{ends-solo, exact-k3}
+use Rattle.solo.proofs.Forms.{ends-later}
+use Rattle.solo.proofs.Theorem.{ends-solo, exact-k3}
 use Rattle.sizes.proofs.KnownSizes.{course-known}
 use Rattle.turnaround.proofs.Moved.{move-does}
 use Rattle.turnaround.proofs.Related.{MovedRelated, move-related}

@@ -24,7 +24,7 @@ use Rattle.rules.specs.Sequential.{Operation, demand3Rows}
 use Rattle.rules.specs.Run.{Call, begin, callOf, Event, eventOf, run}
 use Rattle.rules.specs.Statement.{All, OneAtATimeWithin}
 use Rattle.rules.specs.Newer.{exactRows}
-use Rattle.rules.specs.Solo.{Begun, Solo, EndsWithin, k3Steps, soloSteps}
+use Rattle.solo.specs.Solo.{Begun, Solo, EndsWithin, k3Steps, soloSteps}
 use Rattle.rules.specs.Consequences.{wordsAfter, OfEveryRun, itemsIn, KnownSizes, NoSumWraps}
 use Rattle.rules.specs.Spacers.{TakesWithin}
 use Rattle.rules.specs.Full.{FullMeans}

@@ -9,10 +9,10 @@ use lib.ListN.{length, replicate}
 use lib.Dec.{eqb}
 use borrow.Author.Tests.{eqb-true, eqb-false}
 use Rattle.laws.specs.Choice.{cases}
 use Rattle.rules.specs.Answers.{numberOf}
 use Rattle.rules.specs.Run.{Call, beginPut, beginTake, step, setSize, callOf, Event, run, at, Final}
-use Rattle.rules.specs.Solo.{Solo, stepOfWorker, stepsBefore, InTime, EndsWithin, Ends}
-use Rattle.rules.proofs.progress.Solo.{Ending, no-more, between, moving, final}
+use Rattle.solo.specs.Solo.{Solo, stepOfWorker, stepsBefore, InTime, EndsWithin, Ends}
+use Rattle.solo.proofs.Solo.{Ending, no-more, between, moving, final}
 
 -- ---- by positions
 other-call : (i : ℕ) (c : Call) → c ≢ step i → stepOfWorker i c ≡ 0

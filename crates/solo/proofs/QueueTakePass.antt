@@ -8,26 +8,26 @@ use lib.Dec.{leb, eqb}
 use borrow.Author.Tests.{leb-true, leb-false, eqb-true, eqb-false}
 use Rattle.laws.specs.Choice.{cases}
 use Rattle.laws.specs.Wrap.{add32}
 use Rattle.rules.specs.Windows.{levelOf}
 use Rattle.rules.specs.Worker.{zeroSlot}
 use Rattle.rules.specs.Effects.{movedOf, nextOf, withPass, takeWindow}
 use Rattle.rules.specs.Window.{windowRule}
 use Rattle.rules.specs.Read.{queueTakeRead, queueTakeMiss, afterTakes}
 use Rattle.rules.specs.Sequential.{Contents}
-use Rattle.rules.proofs.Types.{Settings, Taking, Phase, QueueTakeRead, QueueCommit, QueueShift, QueueConfirm, Span, Effect}
+use Rattle.solo.proofs.Types.{Settings, Taking, Phase, QueueTakeRead, QueueCommit, QueueShift, QueueConfirm, Span, Effect}
 use Rattle.rules.proofs.counts.Wraps.{add32-suc, next-lt}
 use Rattle.rules.proofs.counts.Visits.{Visited, visited-none, visited-all, visited-next}
 use Rattle.rules.proofs.machine.Machine.{Frame, State, markOf, subIn, viewIn, phaseIn, applyIn}
 use Rattle.rules.proofs.machine.Phases.{OfQueue}
 use Rattle.rules.proofs.machine.Good.{Good}
 use Rattle.rules.proofs.queue.Inv.{Windows, Sees, TakeReads, Knows, Inv}
 use Rattle.rules.proofs.queue.View.{of-now, window-told, take-window-is, put-level}
 use Rattle.rules.proofs.progress.Clean.{Clean, clean-start, clean-more, rest-start}
 use Rattle.rules.proofs.progress.Steps.{miss-cases}
 use Rattle.rules.proofs.progress.Confirm.{AtConfirm}
 use Rattle.rules.proofs.progress.QueueSeen.{wide-le, wide16, take-wide}
 use Rattle.rules.proofs.progress.QueueLeft.{takeNow, Low, countOf, Under, Pass, TakeWindow, TakeRead, TakeCommit, TakeShift, TakeConfirm}
 use Rattle.rules.proofs.progress.QueueResult.{QueueResult, queue-on}
 
 module _ (g : Settings) (good : Good g) (kind : g .kind ≡ 0) (L : ℕ) (enough : g .width < L) (s : State) (q : Contents) (inv : Inv g s q) (i n : ℕ) where
   abbrev Steps : Effect → Type 0

@@ -7,25 +7,25 @@ use lib.Dec.{eqb}
 use borrow.Author.Tests.{ltb-false, eqb-true, eqb-false}
 use Rattle.laws.specs.Choice.{cases}
 use Rattle.laws.specs.Wrap.{add32, sub32}
 use Rattle.rules.specs.Worker.{zeroSlot}
 use Rattle.rules.specs.Effects.{nextOf, windowVersion}
 use Rattle.rules.specs.Window.{windowRule}
 use Rattle.rules.specs.Read.{stackRead, stackHit}
 use Rattle.rules.specs.Check.{checkRule}
 use Rattle.rules.specs.Commit.{stackCommit}
 use Rattle.rules.specs.Sequential.{Contents}
-use Rattle.rules.proofs.Types.{Settings, Side, Putting, Taking, StackRead, Check, StackCommit, StackShift, Version, Effect}
+use Rattle.solo.proofs.Types.{Settings, Side, Putting, Taking, StackRead, Check, StackCommit, StackShift, Version, Effect}
 use Rattle.rules.proofs.counts.Wraps.{sub32-is}
 use Rattle.rules.proofs.order.Gives.{final-put, final-taken}
 use Rattle.rules.proofs.machine.Machine.{State, subIn, viewIn, phaseIn, applyIn, applyInBy}
 use Rattle.rules.proofs.machine.Good.{Good}
 use Rattle.rules.proofs.machine.Turns.{Common}
 use Rattle.rules.proofs.stack.Inv.{sight, Hit, Reading, Inv}
 use Rattle.rules.proofs.stack.Commit.{landsOf, commit-cases}
 use Rattle.rules.proofs.progress.Clean.{Clean, clean-start, clean-more}
-use Rattle.rules.proofs.progress.StackDue.{AtWindow, window-left, window-read, read-again, read-shift}
+use Rattle.solo.proofs.StackDue.{AtWindow, window-left, window-read, read-again, read-shift}
 use Rattle.rules.proofs.progress.Steps.{Result, finishes, miss-cases}
-use Rattle.rules.proofs.progress.StackLeft.{Near, stackBase, Reads, Checks, stackLeft, stack-on}
+use Rattle.solo.proofs.StackLeft.{Near, stackBase, Reads, Checks, stackLeft, stack-on}
 
 module _ (g : Settings) (good : Good g) (kind : g .kind ≡ 1) (s : State) (q : Contents) (common : Common g s) (inv : Inv g s q) (i n : ℕ) (side : Side) where
   abbrev Steps : Effect → Type 0

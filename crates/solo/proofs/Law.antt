@@ -4,23 +4,23 @@ use mathlib.Core.Logic.{inl}
 use Prim.Native.Nat.{ℕ, _+_, _*_, _<_}
 use native.Mathlib.Nat.{le-refl}
 use native.Mathlib.Omega.{arith}
 use Rattle.rules.specs.Step.{ruleOf, ruleBy}
 use Rattle.rules.specs.Sequential.{Contents}
-use Rattle.rules.proofs.Types.{Settings, Side, Putting, Taking, Phase, Idle, Window, QueuePutRead, QueueTakeRead, StackRead, Check, QueueCommit, StackCommit, QueueShift, StackShift, QueueConfirm, StackConfirm, Size, Slot}
+use Rattle.solo.proofs.Types.{Settings, Side, Putting, Taking, Phase, Idle, Window, QueuePutRead, QueueTakeRead, StackRead, Check, QueueCommit, StackCommit, QueueShift, StackShift, QueueConfirm, StackConfirm, Size, Slot}
 use Rattle.rules.proofs.machine.Machine.{State, subIn, viewIn, phaseIn, applyIn, withSlot, withSize}
 use Rattle.rules.proofs.machine.Good.{Good}
 use Rattle.rules.proofs.machine.Turns.{Common, Kind}
 use Rattle.rules.proofs.queue.Turn.{queueKind}
 use Rattle.rules.proofs.stack.Inv.{Inv as StackInv}
 use Rattle.rules.proofs.stack.Turn.{stackKind}
-use Rattle.rules.proofs.progress.StackDue.{due}
+use Rattle.solo.proofs.StackDue.{due}
 use Rattle.rules.proofs.progress.Steps.{Measure, Result}
 use Rattle.rules.proofs.progress.QueueLeft.{PutWindow, TakeWindow, queueLeft}
 use Rattle.rules.proofs.progress.QueueResult.{result}
-use Rattle.rules.proofs.progress.QueueSteps.{queue-step}
-use Rattle.rules.proofs.progress.StackLeft.{stackBase, stackLeft}
-use Rattle.rules.proofs.progress.StackPass.{window-step, read-step, check-step, commit-step}
-use Rattle.rules.proofs.progress.StackShift.{shift-step, stack-confirm}
+use Rattle.solo.proofs.QueueSteps.{queue-step}
+use Rattle.solo.proofs.StackLeft.{stackBase, stackLeft}
+use Rattle.solo.proofs.StackPass.{window-step, read-step, check-step, commit-step}
+use Rattle.solo.proofs.StackShift.{shift-step, stack-confirm}
 
 -- a measure, which a begun operation has, and which each step of its worker's lowers, or else ends the operation
 pub record SoloLaw (g : Settings) (k : Kind g) (begun : Side → ℕ) : Type 1 where

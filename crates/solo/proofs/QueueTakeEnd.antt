@@ -9,29 +9,29 @@ use lib.Dec.{ltb, eqb}
 use borrow.Author.Tests.{ltb-true, eqb-true, eqb-false, eq-eqb}
 use Rattle.laws.specs.Choice.{cond, cases, both}
 use Rattle.laws.specs.Wrap.{add32, sub32}
 use Rattle.rules.specs.Limits.{windowed}
 use Rattle.rules.specs.Windows.{levelOf}
 use Rattle.rules.specs.Effects.{movedOf, nextOf, hopOf}
 use Rattle.rules.specs.Commit.{queueCommit, queueTakeCommit, commitBy, removedOf, rowAbove, lostOf}
 use Rattle.rules.specs.Shift.{queueShift, shiftBy, shiftedOf}
 use Rattle.rules.specs.Confirm.{queueConfirm, sameTop}
 use Rattle.rules.specs.Sequential.{Contents}
-use Rattle.rules.proofs.Types.{Settings, Taking, Window, QueueCommit, QueueShift, QueueConfirm, Span, Slot, Effect}
+use Rattle.solo.proofs.Types.{Settings, Taking, Window, QueueCommit, QueueShift, QueueConfirm, Span, Slot, Effect}
 use Rattle.rules.specs.declared.Outcome.the-variants.{Dropped}
 use Rattle.rules.proofs.counts.Sums.{upd-self}
 use Rattle.rules.proofs.order.Law.{Next}
 use Rattle.rules.proofs.order.Gives.{final-taken}
 use Rattle.rules.proofs.machine.Machine.{Frame, State, topOf, markOf, subIn, viewIn, phaseIn, applyIn, applyInBy, droppedOf, apply-dropped, lost-restarts}
 use Rattle.rules.proofs.machine.Phases.{OfQueue}
 use Rattle.rules.proofs.machine.Good.{Good}
 use Rattle.rules.proofs.queue.Inv.{Windows, TakeShifts, Confirms, Knows, Inv}
 use Rattle.rules.proofs.queue.View.{of-now, put-level}
 use Rattle.rules.proofs.queue.CommitTake.{take-commit as commit-law}
 use Rattle.rules.proofs.progress.Steps.{restarted, shifts-on, Unless, unless-refused}
 use Rattle.rules.proofs.progress.Confirm.{AtConfirm, confirm-cases, confirm-some, confirm-more, confirm-ends}
 use Rattle.rules.proofs.progress.QueueSeen.{wide-le, wide16, count-few, take-wide, not-filled}
 use Rattle.rules.proofs.progress.QueueLeft.{takeNow, Low, Behind, NextReady, countOf, Under, TakeWindow, TakeCommit, TakeShift, TakeConfirm, starts-low, queueLeft}
 use Rattle.rules.proofs.progress.QueueResult.{taken as took, QueueResult, on, moves, ends, queue-on, rests, queue-nothing}
 
 module _ (g : Settings) (good : Good g) (kind : g .kind ≡ 0) (L : ℕ) (s : State) (q : Contents) (inv : Inv g s q) (i n : ℕ) where
   abbrev Steps : Effect → Type 0

@@ -6,22 +6,22 @@ use lib.Dec.{eqb}
 use borrow.Author.Tests.{eqb-false}
 use Rattle.laws.specs.Choice.{cases}
 use Rattle.laws.specs.Wrap.{add32, sub32}
 use Rattle.rules.specs.Effects.{movedOf, nextOf}
 use Rattle.rules.specs.Shift.{stackShift, shiftBy, shiftedOf}
 use Rattle.rules.specs.Confirm.{stackConfirm}
 use Rattle.rules.specs.Sequential.{Contents}
-use Rattle.rules.proofs.Types.{Settings, Side, Putting, Taking, StackShift, StackConfirm, Version, Effect}
+use Rattle.solo.proofs.Types.{Settings, Side, Putting, Taking, StackShift, StackConfirm, Version, Effect}
 use Rattle.rules.specs.declared.Outcome.the-variants.{Shifted}
 use Rattle.rules.proofs.counts.Wraps.{add32-is, add32-suc, sub32-is}
 use Rattle.rules.proofs.machine.Machine.{State, subIn, viewIn, phaseIn, applyIn, apply-shifted}
 use Rattle.rules.proofs.machine.Good.{Good}
 use Rattle.rules.proofs.machine.Turns.{Common}
 use Rattle.rules.proofs.stack.Inv.{sight, Shifting, Inv, versions-few, version-few, window-ge, window-le}
 use Rattle.rules.proofs.progress.Clean.{rest-start}
-use Rattle.rules.proofs.progress.StackDue.{shift-window, shift-confirm, shift-left}
+use Rattle.solo.proofs.StackDue.{shift-window, shift-confirm, shift-left}
 use Rattle.rules.proofs.progress.Steps.{Result, goes, shifts-on, finds-nothing}
 use Rattle.rules.proofs.progress.Confirm.{AtConfirm, confirm-some, confirm-more, confirm-ends, confirm-cases}
-use Rattle.rules.proofs.progress.StackLeft.{shifted, Away, Shifts, stackLeft, stack-on}
+use Rattle.solo.proofs.StackLeft.{shifted, Away, Shifts, stackLeft, stack-on}
 
 module _ (g : Settings) (good : Good g) (kind : g .kind ≡ 1) (s : State) (q : Contents) (common : Common g s) (inv : Inv g s q) (i n : ℕ) where
   abbrev Steps : Effect → Type 0

@@ -9,23 +9,23 @@ use lib.ListN.{replicate}
 use lib.Dec.{eqb}
 use borrow.Author.Tests.{eqb-true, eqb-false}
 use Rattle.laws.specs.Choice.{cases}
 use Rattle.rules.specs.Answers.{numberOf}
 use Rattle.rules.specs.Limits.{stepLimit}
 use Rattle.rules.specs.Make.{makeOf, inEdition}
 use Rattle.rules.specs.Sequential.{Operation, putting, taking}
 use Rattle.rules.specs.Run.{Call, beginPut, beginTake, step, begin, callOf, Event, run}
 use Rattle.rules.specs.Consequences.{wordsAfter}
-use Rattle.rules.specs.Solo.{k3Steps, queueSteps, stackSteps, soloSteps, Begun, afterBegin, Solo, EndsWithin, SoloWithin, K3, SoloExact, PlainWithin, PlainK3, PlainExact}
-use Rattle.rules.proofs.Types.{Settings, Side, Putting, Taking}
+use Rattle.solo.specs.Solo.{k3Steps, queueSteps, stackSteps, soloSteps, Begun, afterBegin, Solo, EndsWithin, SoloWithin, K3, SoloExact, PlainWithin, PlainK3, PlainExact}
+use Rattle.solo.proofs.Types.{Settings, Side, Putting, Taking}
 use Rattle.rules.proofs.machine.Machine.{nextIn}
 use Rattle.rules.proofs.BothKinds.{kindOf}
 use Rattle.rules.proofs.words.Made.{accepted}
 use Rattle.rules.proofs.Transfer.{Related, next-related, made-related, related-after}
 use Rattle.rules.proofs.Course.{At, settingsAt, kindAt, nextAt, Course, calls-course}
-use Rattle.rules.proofs.progress.Law.{queueBegun, stackBegun}
-use Rattle.rules.proofs.progress.Moved.{begunBy, begunOf}
-use Rattle.rules.proofs.progress.Solo.{begun-ends}
-use Rattle.rules.proofs.progress.Forms.{by-position, ends-later, plain, steps-length, steps-own, steps-before, steps-solo}
+use Rattle.solo.proofs.Law.{queueBegun, stackBegun}
+use Rattle.solo.proofs.Moved.{begunBy, begunOf}
+use Rattle.solo.proofs.Solo.{begun-ends}
+use Rattle.solo.proofs.Forms.{by-position, ends-later, plain, steps-length, steps-own, steps-before, steps-solo}
 
 abbrev sideOf : Operation → Side
 sideOf (putting v) = Putting

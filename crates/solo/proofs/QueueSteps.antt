@@ -2,17 +2,17 @@
 -- the take window has moved (QueueLeft).
 use mathlib.Core.Path.{_≡_, refl}
 use Prim.Native.Nat.{ℕ, _<_}
 use Rattle.rules.specs.Step.{ruleOf, ruleBy}
 use Rattle.rules.specs.Sequential.{Contents}
-use Rattle.rules.proofs.Types.{Settings, Putting, Taking, Phase, Idle, Window, QueuePutRead, QueueTakeRead, StackRead, Check, QueueCommit, StackCommit, QueueShift, StackShift, QueueConfirm, StackConfirm}
+use Rattle.solo.proofs.Types.{Settings, Putting, Taking, Phase, Idle, Window, QueuePutRead, QueueTakeRead, StackRead, Check, QueueCommit, StackCommit, QueueShift, StackShift, QueueConfirm, StackConfirm}
 use Rattle.rules.proofs.machine.Machine.{State, subIn, viewIn, phaseIn, applyIn}
 use Rattle.rules.proofs.machine.Good.{Good}
 use Rattle.rules.proofs.queue.Inv.{Inv}
 use Rattle.rules.proofs.progress.QueueLeft.{NextReady, queueLeft}
 use Rattle.rules.proofs.progress.QueueResult.{QueueResult}
 use Rattle.rules.proofs.progress.QueuePut.{put-window, put-read, put-commit, put-shift}
-use Rattle.rules.proofs.progress.QueueTakePass.{take-window, take-read}
-use Rattle.rules.proofs.progress.QueueTakeEnd.{take-commit, take-shift, take-confirm}
+use Rattle.solo.proofs.QueueTakePass.{take-window, take-read}
+use Rattle.solo.proofs.QueueTakeEnd.{take-commit, take-shift, take-confirm}
 
 module _ (g : Settings) (good : Good g) (kind : g .kind ≡ 0) (L : ℕ) (enough : g .width < L) (s : State) (q : Contents) (inv : Inv g s q) (ready : NextReady g L s) (i n : ℕ) where
   by-phase : (p : Phase) → phaseIn g s i ≡ p → queueLeft g L s n (subIn s i) p → QueueResult g L s i n (applyIn g s i (ruleBy g (viewIn g s i) p))

@@ -8,26 +8,26 @@ use Prim.Native.Nat.{ℕ, zero, suc, _+_, _-_, _≤_, _<_}
 use native.Mathlib.Decide.{ℕ-discrete, decLe}
 use native.Mathlib.Omega.{arith}
 use Rattle.laws.specs.Choice.{cases}
 use Rattle.rules.specs.Answers.{numberOf}
 use Rattle.rules.specs.Limits.{settingsFit, stepLimit, windowed}
 use Rattle.rules.specs.Make.{inEdition}
 use Rattle.rules.specs.Worker.{fresh, phaseOf}
 use Rattle.rules.specs.Sequential.{Contents}
 use Rattle.rules.specs.Run.{Call, beginPut, beginTake, step, setSize, Event, Final}
-use Rattle.rules.specs.Solo.{Solo}
-use Rattle.rules.proofs.Types.{Settings, Size, Side, Putting, Taking, Phase, Window, Slot}
+use Rattle.solo.specs.Solo.{Solo}
+use Rattle.solo.proofs.Types.{Settings, Size, Side, Putting, Taking, Phase, Window, Slot}
 use Rattle.rules.specs.declared.Answer.the-variants.{Moving}
 use Rattle.rules.proofs.counts.Sums.{upd-other}
 use Rattle.rules.proofs.order.Law.{Next}
 use Rattle.rules.proofs.machine.Machine.{State, next, subIn, phaseIn, nextIn, beginIn, setSizeIn}
 use Rattle.rules.proofs.machine.Phases.{idle-phase}
 use Rattle.rules.proofs.machine.Calls.{Called, refuses, does, able-does, Begins, step-called, begun, begin-called}
 use Rattle.rules.proofs.machine.Turns.{Common, Kind, refused-same}
 use Rattle.rules.proofs.Transfer.{onward}
 use Rattle.rules.proofs.Course.{At, settingsAt, kindAt, nextAt, HoldsAt, movedAt, Carried, Course, none, calls, moves}
 use Rattle.rules.proofs.progress.Steps.{at-begun, Result, finishes, goes}
-use Rattle.rules.proofs.progress.Law.{SoloLaw}
-use Rattle.rules.proofs.progress.Moved.{begunOf, soloOf, left-moved}
+use Rattle.solo.proofs.Law.{SoloLaw}
+use Rattle.solo.proofs.Moved.{begunOf, soloOf, left-moved}
 
 -- worker i's operation is open, and makes at most n of its steps before the final one, as far as the events go
 pub data Ending (i : ℕ) : ℕ → List Event → Type 0 where

@@ -10,15 +10,15 @@
 --   read        one less, and less by scan; shift b + 1 or w + 3 + b; check 1, commit 0, confirm w - 1 - scan
 use mathlib.Core.Path.{_≡_}
 use Prim.Native.Nat.{ℕ, zero, suc, _+_, _-_, _≤_, _<_, max}
 use Rattle.rules.specs.Effects.{movedOf}
-use Rattle.rules.proofs.Types.{Settings, Side, Putting, Taking, Phase, Idle, Window, QueuePutRead, QueueTakeRead, StackRead, Check, QueueCommit, StackCommit, QueueShift, StackShift, QueueConfirm, StackConfirm, Slot}
+use Rattle.solo.proofs.Types.{Settings, Side, Putting, Taking, Phase, Idle, Window, QueuePutRead, QueueTakeRead, StackRead, Check, QueueCommit, StackCommit, QueueShift, StackShift, QueueConfirm, StackConfirm, Slot}
 use Rattle.rules.proofs.machine.Machine.{State, viewIn, applyIn}
 use Rattle.rules.proofs.machine.Phases.{worker, OfStack, stack-phase}
 use Rattle.rules.proofs.stack.Inv.{Sight, sight, Hit}
 use Rattle.rules.proofs.progress.Clean.{Clean}
-use Rattle.rules.proofs.progress.StackDue.{AtWindow, AtRead, AtShift}
+use Rattle.solo.proofs.StackDue.{AtWindow, AtRead, AtShift}
 use Rattle.rules.proofs.progress.Steps.{Measure, Result, goes, moves-on}
 use Rattle.rules.proofs.progress.Confirm.{AtConfirm}
 
 -- the window after a shift
 abbrev pub shifted : Settings → Side → ℕ → ℕ

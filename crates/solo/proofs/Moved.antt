@@ -4,17 +4,17 @@ use mathlib.Core.Path.{_≡_}
 use mathlib.Core.Bool.{true}
 use Prim.Native.Nat.{ℕ, zero, suc, _+_, _-_}
 use native.Mathlib.Decide.{ℕ-discrete}
 use Rattle.rules.specs.Limits.{settingsFit}
 use Rattle.rules.specs.Make.{inEdition}
-use Rattle.rules.proofs.Types.{Settings, Side, Putting, Taking, Phase, Idle, Window, QueuePutRead, QueueTakeRead, StackRead, Check, QueueCommit, StackCommit, QueueShift, StackShift, QueueConfirm, StackConfirm, Span}
+use Rattle.solo.proofs.Types.{Settings, Side, Putting, Taking, Phase, Idle, Window, QueuePutRead, QueueTakeRead, StackRead, Check, QueueCommit, StackCommit, QueueShift, StackShift, QueueConfirm, StackConfirm, Span}
 use Rattle.rules.proofs.machine.Machine.{State}
 use Rattle.rules.proofs.machine.Good.{good}
 use Rattle.rules.proofs.stack.Inv.{Sight, sight}
 use Rattle.rules.proofs.BothKinds.{kindBy, kindOf}
 use Rattle.rules.proofs.machine.Moved.{movedIn}
 use Rattle.rules.proofs.progress.QueueLeft.{PutWindow, PutRead, PutCommit, PutShift, TakeWindow, TakeRead, TakeCommit, TakeShift, TakeConfirm, Left as QueueLeft}
-use Rattle.rules.proofs.progress.StackLeft.{Away, Near, Left as StackLeft}
-use Rattle.rules.proofs.progress.Law.{SoloLaw, queueBegun, queueSolo, stackBegun, stackSolo}
+use Rattle.solo.proofs.StackLeft.{Away, Near, Left as StackLeft}
+use Rattle.solo.proofs.Law.{SoloLaw, queueBegun, queueSolo, stackBegun, stackSolo}
 
 -- ---- what is left
 module _ (g : Settings) (b : ℕ) where
