@@ -139,7 +139,7 @@ extern "C" {
 /*
  * How many steps to reserve for an operation whose worker alone steps from its begin on, wherever the others have stopped, in a pool
  * from pool_make: with so many left in the step count none of its steps is refused, and the last of them at the latest answers 1 to 4.
- * The first is enough for every operation; the others are the closest by kind and side. Proved: crates/rules/specs/Solo.antt.
+ * The first is enough for every operation; the others are the closest by kind and side. Proved: crates/solo/specs/Solo.antt.
  */
 #define POOL_STEPS_ALONE(width) (3u * (width) + 8u)
 #define POOL_STEPS_ALONE_QUEUE_PUT(width) ((width) + 5u)

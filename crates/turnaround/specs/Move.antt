@@ -70,7 +70,7 @@ unfoldable pub mayMove : List ℕ → Settings → Settings → Bool
 mayMove ws g h = cond (hasWindows h) (all (onLimits ws g h)) (cond (hasWindows g) (all (backLimits ws g h)) true)
 
 -- ---- the words
--- word k of worker i, in an edition that may have more of them than the pool's
+-- word k of worker i, in an edition that may have more of them than the pool's: what a new one is stands in crates/rules (specs/NewWord)
 abbrev pub wordIn : List ℕ → Settings → ℕ → ℕ → ℕ
 wordIn ws g i k = cond (ltb k (workerWords (g .edition))) (getD ws (workerAt g i + k) 0) (newWord g (slotAt g ws (workerAt g i)) k)
 
