@@ -13,9 +13,8 @@ use rules::numbers::NOT_FIT;
 use rules::numbers::TOO_FEW_WORDS;
 use rules::numbers::WRONG_EDITION;
 ghost use mathlib.Core.Path.{_≡_};
-ghost use Rattle.rules.specs.Fit.{bodyChecked, headChecked, checkedBy, checkedOf, refusalOf};
+ghost use Rattle.rules.specs.Fit.{bodyChecked, headChecked, checkedBy, checkedOf, sourceChecked, refusalOf};
 ghost use Rattle.rules.specs.Limits.{Bounds};
-ghost use Rattle.rules.specs.Move.{sourceChecked};
 
 // The words needed, then the windows, the subs and the workers.
 fn body_refusal(words: &[u32], g: Settings) -> u32
