@@ -104,8 +104,8 @@ extern "C" {
 /*
  * A worker's card: how many of its commits have failed since pool_make, because another worker's came first at the same sub. A begin and a final
  * answer leave it. It counts modulo 2^32, which no pool from pool_make lives to see. A move from edition 0 sets it to 0, and each failed commit from
- * then on adds one; a move between editions 1 and 2 keeps it. Proved: crates/rules/specs/Collisions.antt, Turnaround.antt. Which stride has the fewest is in
- * docs/STRIDES.md.
+ * then on adds one; a move between editions 1 and 2 keeps it. Proved: crates/rules/specs/Collisions.antt, crates/turnaround/specs/Turnaround.antt. Which
+ * stride has the fewest is in docs/STRIDES.md.
  */
 #define POOL_LOST(words, width, worker) (+(words)[POOL_HEAD_WORDS + 2u * (width) + POOL_WORKER_WORDS * (worker) + 8u])
 
@@ -139,7 +139,7 @@ extern "C" {
 /*
  * How many steps to reserve for an operation whose worker alone steps from its begin on, wherever the others have stopped, in a pool
  * from pool_make: with so many left in the step count none of its steps is refused, and the last of them at the latest answers 1 to 4.
- * The first is enough for every operation; the others are the closest by kind and side. Proved: crates/rules/specs/Solo.antt.
+ * The first is enough for every operation; the others are the closest by kind and side. Proved: crates/solo/specs/Solo.antt.
  */
 #define POOL_STEPS_ALONE(width) (3u * (width) + 8u)
 #define POOL_STEPS_ALONE_QUEUE_PUT(width) ((width) + 5u)
@@ -215,7 +215,7 @@ uint32_t pool_dispatch(uint32_t *words, size_t len, uint32_t worker, uint32_t st
  * pool's. Windows that are there already keep theirs, so the takes come to the new size once they are through those. A narrow window gives back its items
  * closer to their order, POOL_BOUND(POOL_QUEUE, width, depth, depth) of this size at the most, at the price of more failed commits and more shifts:
  * docs/NARROWING.md. Width 1 to the pool's, depth 1 to 64 and at most half of the rows; 32 for another size and for a stack. It is no step: it counts none,
- * and is answered 0 where the step count is used up. Proved: crates/rules/specs/NextSize.antt.
+ * and is answered 0 where the step count is used up. Proved: crates/sizes/specs/NextSize.antt.
  */
 uint32_t pool_set_size(uint32_t *words, size_t len, uint32_t width, uint32_t depth);
 
@@ -234,7 +234,7 @@ uint32_t pool_set_size(uint32_t *words, size_t len, uint32_t width, uint32_t dep
  * Operations under way go on, in whichever phase they are, and one order of all operations explains the answers before and after; so what is said here of
  * the items of a pool from pool_make is so of one that was moved, any number of times. Editions 0 and 1 answer the same later begins and steps alike. Edition 2
  * may not: it has 16 windows at the most, and answers 3 only where the put window is still the one that the take saw. Proved:
- * crates/rules/specs/Turnaround.antt, and of a dispatch crates/stretch/specs/Stretch.antt.
+ * crates/turnaround/specs/Turnaround.antt, and of a dispatch crates/stretch/specs/Stretch.antt.
  */
 uint32_t pool_move_0_to_1(const uint32_t *from, size_t from_len, uint32_t *to, size_t to_len);
 uint32_t pool_move_1_to_0(const uint32_t *from, size_t from_len, uint32_t *to, size_t to_len);

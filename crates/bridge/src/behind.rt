@@ -17,7 +17,7 @@ ghost use lib.ListN.{length};
 ghost use lib.Seq.{sets};
 ghost use Rattle.rules.specs.Layout.{topAt, windowsAt, pairAt, needed};
 ghost use Rattle.rules.specs.Limits.{Bounds, mostLive};
-ghost use Rattle.rules.specs.Move.{ownLive, cleared, ownPairs, windowsMoved};
+ghost use Rattle.turnaround.specs.Move.{ownLive, cleared, ownPairs, windowsMoved};
 ghost use Rattle.rules.specs.Windows.{hasWindows};
 
 // How far `a` is above `b`; 0 where it is not.

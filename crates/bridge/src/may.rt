@@ -24,7 +24,7 @@ ghost use Rattle.rules.specs.Fit.{FitPool, subFit};
 ghost use Rattle.rules.specs.Layout.{firstOf, secondOf, workersAt, workerAt, pairAt, needed};
 ghost use Rattle.rules.specs.Limits.{Bounds, mostLive};
 ghost use Rattle.rules.specs.Make.{inEdition};
-ghost use Rattle.rules.specs.Move.{onLimits, ownSize, seenOn, seenBack, backLimits, mayMove};
+ghost use Rattle.turnaround.specs.Move.{onLimits, ownSize, seenOn, seenBack, backLimits, mayMove};
 ghost use Rattle.rules.specs.Windows.{hasWindows, nthSize};
 ghost use Rattle.rules.specs.Worker.{slotAt};
 

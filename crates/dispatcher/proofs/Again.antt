@@ -10,11 +10,11 @@ use lib.Dec.{ltb, eqb}
 use lib.ListN.{getD, length}
 use borrow.Author.Tests.{lt-leb, eq-eqb, eqb-true}
 use Rattle.laws.specs.Choice.{cond, both, cases, all}
-use Rattle.rules.proofs.dispatch.Turns.{turns-end}
+use Rattle.rounds.proofs.Turns.{turns-end}
 use Rattle.dispatcher.specs.Moved.{windowMoved}
 use Rattle.rules.proofs.Fitness.{refusal-none, refusal-some}
 use Rattle.rules.specs.Answers.{refuse}
-use Rattle.rules.specs.Dispatch.{dispatched, turnFrom, endedBy, turnsOf}
+use Rattle.rounds.specs.Dispatch.{dispatched, turnFrom, endedBy, turnsOf}
 use Rattle.rules.specs.Fit.{Checked, Unfit, Fit, bodyFit, bodyChecked, headChecked, checkedBy, checkedOf, refusalOf}
 use Rattle.rules.specs.Layout.{headWords, topAt, markAt, needed, settingsOf}
 use Rattle.rules.specs.Make.{shipped, inEdition}

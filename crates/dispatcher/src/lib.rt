@@ -20,7 +20,7 @@ ghost use Rattle.laws.specs.Choice.{cond};
 ghost use Rattle.rules.specs.Fit.{Unfit, Fit, checkedOf, refusalOf};
 ghost use Rattle.rules.specs.Layout.{headWords, needed};
 ghost use Rattle.rules.specs.Limits.{Bounds};
-ghost use Rattle.rules.specs.Dispatch.{dispatched, turnFrom, endedOf, turnsOf, fitDispatch, dispatchOf};
+ghost use Rattle.rounds.specs.Dispatch.{dispatched, turnFrom, endedOf, turnsOf, fitDispatch, dispatchOf};
 ghost use Rattle.rules.specs.Make.{shipped};
 
 // The first busy worker from `from` on. The words need not be a fit pool.

@@ -12,9 +12,8 @@ use rules::numbers::WRONG_EDITION;
 use shared_fitness::shared_fit;
 use worker_fitness::workers_fit;
 ghost use mathlib.Core.Path.{_≡_};
-ghost use Rattle.rules.specs.Fit.{bodyChecked, headChecked, checkedBy, checkedOf, refusalOf};
+ghost use Rattle.rules.specs.Fit.{bodyChecked, headChecked, checkedBy, checkedOf, sourceChecked, refusalOf};
 ghost use Rattle.rules.specs.Limits.{Bounds};
-ghost use Rattle.rules.specs.Move.{sourceChecked};
 
 // The words needed, then what the workers share, then the workers.
 fn body_refusal(words: &[u32], g: Settings) -> u32

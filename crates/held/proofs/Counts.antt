@@ -15,7 +15,7 @@ use Rattle.rules.proofs.Cells.{count-append}
 use Rattle.rules.specs.Fit.{FitPool}
 use Rattle.rules.specs.Held.{Item, Band, bandCount, bandOf, heldBands, heldSub, heldBelow, countItems}
 use Rattle.rules.specs.Layout.{firstOf, secondOf}
-use Rattle.rules.specs.Segments.{walkedBand, walkedBands}
+use Rattle.ring.specs.Segments.{walkedBand, walkedBands}
 use Rattle.rules.specs.Windows.{hasWindows, liveOf, nthSize, bottomOf}
 use Rattle.rules.specs.declared.Settings.{Settings}
 use Rattle.rules.specs.declared.Size.{Size}

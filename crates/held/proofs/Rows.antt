@@ -8,10 +8,10 @@ use lib.ListN.{length, length-append}
 use Rattle.rules.specs.Held.{itemsAbove}
 use Rattle.rules.specs.Layout.{subCellsAt}
 use Rattle.rules.specs.Limits.{Bounds}
-use Rattle.rules.specs.Segments.{segmentsAbove, cellsOf, cellItems}
+use Rattle.ring.specs.Segments.{segmentsAbove, cellsOf, cellItems}
 use Rattle.rules.specs.declared.Settings.{Settings}
 use Rattle.rules.proofs.Cells.{rows-pos}
-use Rattle.rules.proofs.Ring.{segments-cells, above-cells}
+use Rattle.ring.proofs.Ring.{segments-cells, above-cells}
 
 module _ (ws : List ℕ) (g : Settings) (j : ℕ) where
   pub rows-items : (t k : ℕ) → length (itemsAbove ws g j t k) ≡ k

@@ -15,7 +15,7 @@ use Rattle.rules.specs.Fit.{SubFits, FitPool}
 use Rattle.rules.specs.Held.{Band, bandBetween, subBand, windowBand, bandCount, bandOf, itemsAbove, heldBands, heldSub}
 use Rattle.rules.specs.Layout.{topAt, firstAt, secondAt, firstOf, secondOf}
 use Rattle.rules.specs.Limits.{windowed}
-use Rattle.rules.specs.Segments.{walkedBand, walkedBands, walkedSub}
+use Rattle.ring.specs.Segments.{walkedBand, walkedBands, walkedSub}
 use Rattle.rules.specs.Windows.{hasWindows, liveOf, nthSize, bottomOf, higher, lower, levelOf}
 use Rattle.rules.specs.declared.Settings.{Settings}
 use Rattle.rules.proofs.Cells.{band-fits}

@@ -27,7 +27,7 @@ ghost use Rattle.rules.specs.Fit.{FitPool};
 ghost use Rattle.rules.specs.Held.{reported, countItems};
 ghost use Rattle.rules.specs.Layout.{cellWords, subCellsAt, needed};
 ghost use Rattle.rules.specs.Limits.{Bounds, mostRows, mostLive};
-ghost use Rattle.rules.specs.Segments.{Within, upFrom, segmentCells, segmentsAbove, cellsOf, cellItems, walkedSub, walkedDistance};
+ghost use Rattle.ring.specs.Segments.{Within, upFrom, segmentCells, segmentsAbove, cellsOf, cellItems, walkedSub, walkedDistance};
 ghost use Rattle.rules.specs.Windows.{hasWindows};
 
 // Whether the distance of a take of stamp `s` counts an item: no spacer, and older in a queue, newer in a stack.

@@ -6,7 +6,7 @@ use rules::Settings;
 ghost use mathlib.Core.Path.{_≡_};
 ghost use Prim.Native.Nat.{_≤_};
 ghost use Rattle.rules.specs.Limits.{Bounds};
-ghost use Rattle.rules.specs.Segments.{segment, only, segmentsAbove};
+ghost use Rattle.ring.specs.Segments.{segment, only, segmentsAbove};
 
 // One segment alone.
 fn only(start: u32, count: u32) -> Segments

@@ -2,7 +2,7 @@
 -- figure says. So no figure can be lower there. The same runs, with a word on each turn, are texts in examples/runs.
 use mathlib.Core.List.{List, [], _∷_, _++_}
 use Rattle.rules.specs.Sequential.{Operation, putting, taking}
-use Rattle.rules.specs.Solo.{soloSteps}
+use Rattle.solo.specs.Solo.{soloSteps}
 use Rattle.rules.specs.declared.Settings.{Settings}
 use Rattle.runs.specs.Rows.{Row}
 use Rattle.runs.specs.Reach.{Reach, ending}

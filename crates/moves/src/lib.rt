@@ -28,10 +28,11 @@ ghost use Prim.Native.Nat.{_+_, _<_, _≤_};
 ghost use lib.ListN.{length, drop};
 ghost use lib.Seq.{paste};
 ghost use Rattle.rules.specs.Answers.{out};
-ghost use Rattle.rules.specs.Fit.{FitPool};
+ghost use Rattle.rules.specs.Fit.{sourceChecked, FitPool};
 ghost use Rattle.rules.specs.Layout.{workerWords, needed};
 ghost use Rattle.rules.specs.Make.{inEdition};
-ghost use Rattle.rules.specs.Move.{leads, newWord, wordIn, workerMoved, workersMoved, headMoved, cellsMoved, movedWords, sourceChecked, fitMove, checkedMove, moveOf, Areas};
+ghost use Rattle.rules.specs.NewWord.{newWord};
+ghost use Rattle.turnaround.specs.Move.{leads, wordIn, workerMoved, workersMoved, headMoved, cellsMoved, movedWords, fitMove, checkedMove, moveOf, Areas};
 
 // Copies `n` words, from the place `at` of the source to the place `start` of the target.
 fn copy(from: &[u32], at: usize, to: &mut [u32], start: usize, n: usize)

@@ -15,9 +15,9 @@ ghost use mathlib.Core.Path.{_≡_};
 ghost use mathlib.Core.List.{[]};
 ghost use Rattle.rules.specs.Answers.{returned, returnedOf, returnedAlone};
 ghost use Rattle.rules.specs.Begin.{beginPutOf, beginTakeOf};
-ghost use Rattle.rules.specs.Dispatch.{dispatchOf, dispatchReturned, resultNumber, resultFields};
+ghost use Rattle.rounds.specs.Dispatch.{dispatchOf, dispatchReturned, resultNumber, resultFields};
 ghost use Rattle.rules.specs.Make.{shipped, settingsFrom, makeOf};
-ghost use Rattle.rules.specs.Move.{moveOf};
+ghost use Rattle.turnaround.specs.Move.{moveOf};
 ghost use Rattle.rules.specs.Resize.{setSizeOf};
 ghost use Rattle.rules.specs.Step.{stepOf};
 

@@ -20,7 +20,7 @@ use Rattle.rules.proofs.machine.Phases.{statusOf}
 use Rattle.rules.proofs.machine.Turns.{Kind, Turned, statusIn}
 use Rattle.rules.proofs.Transfer.{Whole, Onward, onward, whole-turn, made-whole, made-idle, Related, next-related}
 use Rattle.rules.proofs.BothKinds.{kindOf}
-use Rattle.rules.proofs.moves.Kept.{movedIn}
+use Rattle.rules.proofs.machine.Moved.{movedIn}
 
 -- ---- what the list gives does not ask for an edition
 module _ (g : Settings) (e : ℕ) where

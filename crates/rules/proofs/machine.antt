@@ -1,5 +1,6 @@
 -- The abstract machine, what holds of it whatever the kind, and what a kind has to show.
 pub mod Machine
+pub mod Moved
 pub mod Phases
 pub mod Good
 pub mod Calls

@@ -1,4 +1,4 @@
--- That operations come to an end: how many steps each may still make, and a worker left by itself.
+-- That operations come to an end: what a queue's worker may have left to do, and a put of its step by step. The rest, and a worker left by itself, is crates/solo.
 pub mod Clean
 pub mod Steps
 pub mod Confirm
@@ -6,15 +6,3 @@ pub mod QueueSeen
 pub mod QueueLeft
 pub mod QueueResult
 pub mod QueuePut
-pub mod QueueTakePass
-pub mod QueueTakeEnd
-pub mod QueueSteps
-pub mod StackDue
-pub mod StackLeft
-pub mod StackPass
-pub mod StackShift
-pub mod Law
-pub mod Moved
-pub mod Solo
-pub mod Forms
-pub mod Theorem

@@ -7,7 +7,7 @@ use mathlib.Core.Bool.{Bool, true, false}
 use lib.ListN.{getD, length}
 use lib.Dec.{ltb, leb, eqb}
 use Rattle.laws.specs.Choice.{cond, both, all, allBelow}
-use Rattle.rules.specs.Answers.{tooFewWords, notFit}
+use Rattle.rules.specs.Answers.{tooFewWords, notFit, wrongEdition}
 use Rattle.rules.specs.Layout.{headWords, topAt, markAt, workerAt, phaseAt, indexAt, scanAt, windowsAt, windowsWords, setAt, needed, settingsOf, firstOf, secondOf}
 use Rattle.rules.specs.Limits.{settingsFit, windowed, sizeFit, deepest, mostLive, Bounds}
 use Rattle.rules.specs.Make.{inEdition}
@@ -114,6 +114,11 @@ checkedBy other e ws = cond (ltb (length ws) headWords) (Unfit tooFewWords) (hea
 -- the check before a call: of another edition is not fit
 abbrev pub checkedOf : ℕ → List ℕ → Checked
 checkedOf e ws = checkedBy notFit e ws
+
+-- the check before a move (crates/turnaround), K6: "The order of checks is the source's first 12 words, its settings and stride, its edition, its needed
+-- words, the rest of its fitness": a call's check, but that "it refuses an image of the wrong edition for the direction with 31"
+abbrev pub sourceChecked : ℕ → List ℕ → Checked
+sourceChecked a from = checkedBy wrongEdition a from
 
 -- the number of a refusal; 0 for a fit pool
 abbrev pub refusalOf : Checked → ℕ

@@ -14,7 +14,7 @@ use Rattle.rules.specs.Measures.{placesOf}
 use Rattle.rules.specs.Run.{Call}
 use Rattle.rules.specs.Consequences.{wordsAfter}
 use Rattle.rules.specs.Spacers.{answerAfter}
-use Rattle.rules.specs.HeldCells.{InWindow, HeldRow}
+use Rattle.rules.specs.HeldRows.{InWindow, HeldRow}
 use Rattle.rules.specs.declared.Settings.{Settings}
 
 -- a place: row `row` of sub j in the live window k, of those after the take window, which is window 0. It is held: above the rows taken of its sub, and

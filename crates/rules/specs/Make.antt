@@ -27,6 +27,11 @@ abbrev pub inEdition : ℕ → Settings → Settings
 inEdition e g =
     record { kind = g .kind; width = g .width; depth = g .depth; shift = g .shift; rows = g .rows; workers = g .workers; stride = g .stride; edition = e }
 
+-- and with a stride
+abbrev pub withStride : Settings → ℕ → Settings
+withStride g x =
+    record { kind = g .kind; width = g .width; depth = g .depth; shift = g .shift; rows = g .rows; workers = g .workers; stride = x; edition = g .edition }
+
 -- settings as a call of make that names them has them
 abbrev pub shippedFrom : Settings → Settings
 shippedFrom g = inEdition shipped g

@@ -7,12 +7,13 @@ use Rattle.rules.specs.Limits.{windowed, settingsFit, sizeFit}
 use Rattle.rules.specs.Windows.{levelOf, bottomOf}
 use Rattle.rules.specs.Worker.{slotAt}
 use Rattle.rules.specs.Fit.{subFit, subsFit, phaseFit, seenFit, workerFit, workersFit, windowsFit, bodyChecked, headChecked, checkedBy}
-use Rattle.rules.specs.Segments.{segmentsFrom, segmentsAbove, upFrom}
+use Rattle.ring.specs.Segments.{segmentsFrom, segmentsAbove, upFrom}
 use Rattle.runs.specs.Rows.{AllHold}
 use Rattle.runs.specs.Table.{table}
 use Rattle.runs.specs.HeldCells.{SegmentsByHand}
 use Rattle.runs.specs.Strides.{strides}
-use Rattle.rules.specs.Move.{mayMove, newWord, windowsMoved, cleared, ownPairs, workerMoved, workersMoved, headMoved, cellsMoved, movedWords, fitMove, checkedMove, moveOf}
+use Rattle.rules.specs.NewWord.{newWord}
+use Rattle.turnaround.specs.Move.{mayMove, windowsMoved, cleared, ownPairs, workerMoved, workersMoved, headMoved, cellsMoved, movedWords, fitMove, checkedMove, moveOf}
 use Rattle.runs.specs.Moves.{MovesByHand, WideMovesByHand}
 use Rattle.runs.specs.Tests.{every, holds}
 use Rattle.runs.proofs.Claims.{all-from-tests, row-holds}

@@ -3,7 +3,7 @@
 use Prim.Native.Nat.{ℕ}
 use mathlib.Core.Path.{_≡_}
 use mathlib.Core.List.{List, [], _∷_}
-use Rattle.rules.specs.Segments.{segmentsAbove, segmentCells}
+use Rattle.ring.specs.Segments.{segmentsAbove, segmentCells}
 
 -- a sub of so many cells holds so many rows above row `below`: the cells of its first run, and of its second
 abbrev Goes : ℕ → ℕ → ℕ → List ℕ → List ℕ → Type 0

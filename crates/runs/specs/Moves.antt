@@ -6,7 +6,7 @@ use mathlib.Core.Path.{_≡_}
 use lib.ListN.{set, replicate, take as cut}
 use Rattle.rules.specs.Answers.{out, refuse, numberOf}
 use Rattle.rules.specs.Layout.{strideAt, editionAt}
-use Rattle.rules.specs.Move.{moveOf}
+use Rattle.turnaround.specs.Move.{moveOf}
 use Rattle.rules.specs.declared.Answer.the-variants.{Moving}
 
 -- a queue of width 1, depth 1, two rows and two workers; 7 steps counted, 1 put made, P = 2, T = 1

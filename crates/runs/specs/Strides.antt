@@ -3,7 +3,7 @@
 -- rules.
 use Prim.Native.Nat.{ℕ}
 use mathlib.Core.List.{List, [], _∷_, _++_}
-use Rattle.rules.specs.Stride.{withStride}
+use Rattle.rules.specs.Make.{withStride}
 use Rattle.runs.specs.Rows.{Line, Row}
 use Rattle.runs.specs.Notation.{queue, stack, makes, runs, steps, put, take, landed, taken}
 

@@ -18,8 +18,8 @@ use Rattle.rules.specs.Limits.{settingsFit, windowed, sizeFit, mostLive, Bounds
 use Rattle.rules.specs.Windows.{hasWindows, nextSize, liveOf, nthSize, bottomOf, higher, levelOf}
 use Rattle.rules.specs.Worker.{slotAt}
 use Rattle.rules.specs.Make.{shipped, inEdition}
-use Rattle.rules.specs.Fit.{Checked, Unfit, Fit, FitPool, subFit, subsFit, workersFit, noSizeFit, pairFit, sizesFit, topsFit, windowsFit, bodyChecked, headChecked, checkedBy}
-use Rattle.rules.specs.Move.{leads, subsFitIn, seenOn, onLimits, ownSize, seenBack, backLimits, mayMove, wordIn, workerMoved, workersMoved, headMoved, cellsMoved, windowsMoved, movedWords, sourceChecked, fitMove, checkedMove, moveOf}
+use Rattle.rules.specs.Fit.{Checked, Unfit, Fit, FitPool, subFit, subsFit, workersFit, noSizeFit, pairFit, sizesFit, topsFit, windowsFit, bodyChecked, headChecked, checkedBy, sourceChecked}
+use Rattle.turnaround.specs.Move.{leads, subsFitIn, seenOn, onLimits, ownSize, seenBack, backLimits, mayMove, wordIn, workerMoved, workersMoved, headMoved, cellsMoved, windowsMoved, movedWords, fitMove, checkedMove, moveOf}
 use Rattle.rules.specs.declared.Settings.{Settings}
 use Rattle.rules.proofs.Fitness.{settings-bounds, fit-with-other, fit-pool}
 use Rattle.rules.proofs.Workers.{words-few, windows-few, windows-some, windowed-is, word-within}

@@ -9,10 +9,10 @@ use Rattle.rules.specs.Answers.{Out, numberOf}
 use Rattle.rules.specs.Layout.{settingsOf, needed}
 use Rattle.rules.specs.Limits.{Bounds}
 use Rattle.rules.specs.Make.{inEdition}
-use Rattle.rules.specs.Move.{moveOf}
+use Rattle.turnaround.specs.Move.{moveOf}
 use Rattle.rules.specs.declared.Settings.{Settings}
 use Rattle.rules.proofs.Fitness.{fit-pool}
-use Rattle.rules.proofs.moves.Moved.{move-does}
+use Rattle.turnaround.proofs.Moved.{move-does}
 use Rattle.saved.specs.Bytes.{bytesFor}
 use Rattle.saved.specs.File.{saved, savedBy, poolWords}
 

@@ -7,7 +7,7 @@ use Rattle.laws.specs.Choice.{cond}
 use Rattle.rules.specs.Answers.{Out, numberOf}
 use Rattle.rules.specs.Layout.{settingsOf, needed, mostWords}
 use Rattle.rules.specs.Make.{shipped}
-use Rattle.rules.specs.Move.{moveOf}
+use Rattle.turnaround.specs.Move.{moveOf}
 use Rattle.saved.specs.Bytes.{wordsIn, bytesFor, fronted}
 use Rattle.saved.specs.declared.file.Moved.{Moved}
 

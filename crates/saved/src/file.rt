@@ -14,7 +14,7 @@ ghost use lib.ListN.{length};
 ghost use Rattle.rules.specs.Answers.{returned, returnedAlone};
 ghost use Rattle.rules.specs.Layout.{settingsOf, needed};
 ghost use Rattle.rules.specs.Limits.{Bounds};
-ghost use Rattle.rules.specs.Move.{moveOf};
+ghost use Rattle.turnaround.specs.Move.{moveOf};
 ghost use Rattle.runfile.specs.Words.{wordBytes};
 ghost use Rattle.saved.specs.Bytes.{wordsIn, bytesFor, fronted};
 ghost use Rattle.saved.specs.File.{poolWords, savedOf, filed, filedIn};

@@ -30,8 +30,8 @@ use Rattle.rules.proofs.queue.Turn.{stepped}
 use Rattle.rules.proofs.progress.Steps.{Result}
 use Rattle.rules.proofs.progress.QueueLeft.{queueLeft}
 use Rattle.rules.proofs.progress.QueueResult.{openPut, putIn, Moved, Ended, QueueResult, moves, ends, result}
-use Rattle.rules.proofs.progress.QueueSteps.{queue-step}
-use Rattle.rules.proofs.progress.Law.{twice}
+use Rattle.solo.proofs.QueueSteps.{queue-step}
+use Rattle.solo.proofs.Law.{twice}
 use Rattle.stretch.proofs.Owed.{OwesIn, mostOwed, owes-most}
 
 pub data Acts (g : Settings) (s : State) (c : Call) (o : Next State) : Type 0 where

@@ -12,7 +12,7 @@ use Rattle.stretch.proofs.Types.{Settings}
 use Rattle.rules.proofs.counts.Sums.{sumN}
 use Rattle.rules.proofs.machine.Machine.{State, nextIn}
 use Rattle.rules.proofs.Course.{At, settingsAt, HoldsAt, nextAt, movedAt, Course, none, calls, moves, after-call}
-use Rattle.rules.proofs.progress.Law.{twice}
+use Rattle.solo.proofs.Law.{twice}
 use Rattle.stretch.proofs.Owed.{Debts}
 use Rattle.stretch.proofs.Debts.{Account, pays, answers, account}
 use Rattle.stretch.proofs.Over.{debts-over}

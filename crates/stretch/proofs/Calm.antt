@@ -20,10 +20,10 @@ use Rattle.rules.proofs.machine.Good.{Good}
 use Rattle.rules.proofs.machine.Turns.{Common}
 use Rattle.rules.proofs.queue.Inv.{Inv}
 use Rattle.rules.proofs.Course.{At, settingsAt, HoldsAt, nextAt, movedAt, Course, none as no-more, calls, moves, after-call}
-use Rattle.rules.proofs.moves.Kept.{movedIn}
+use Rattle.rules.proofs.machine.Moved.{movedIn}
 use Rattle.rules.proofs.progress.QueueLeft.{Behind}
 use Rattle.rules.proofs.progress.QueueResult.{putIn, Filled, Moved}
-use Rattle.rules.proofs.progress.Law.{twice}
+use Rattle.solo.proofs.Law.{twice}
 use Rattle.stretch.proofs.Owed.{OwesIn, Debts, begun-others, begun-put-owes}
 use Rattle.stretch.proofs.Acts.{Acts, acts, put-begun, put-begun-other}
 use Rattle.stretch.proofs.Debts.{Pays, Account, account}

@@ -30,7 +30,7 @@ use Rattle.rules.proofs.queue.Inv.{Inv}
 use Rattle.rules.proofs.progress.Steps.{Goes}
 use Rattle.rules.proofs.progress.QueueLeft.{NextReady, queueLeft}
 use Rattle.rules.proofs.progress.QueueResult.{Moved, QueueResult, moves, ends}
-use Rattle.rules.proofs.progress.QueueSteps.{queue-step}
+use Rattle.solo.proofs.QueueSteps.{queue-step}
 use Rattle.stretch.proofs.Owed.{Owes, OwesIn, Debts, begun-owes, begun-others}
 use Rattle.stretch.proofs.Kept.{owes-kept}
 

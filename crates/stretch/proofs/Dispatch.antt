@@ -17,7 +17,7 @@ use Rattle.rules.specs.Limits.{settingsFit, stepLimit}
 use Rattle.rules.specs.Fit.{Fit, checkedOf}
 use Rattle.rules.specs.Step.{stepOf}
 use Rattle.rules.specs.Run.{Call, step, callOf, run, at, Final}
-use Rattle.rules.specs.Dispatch.{DispatchOut, Busy, workerAfter, turnFrom, endedBy, turnsOf, dispatchOf}
+use Rattle.rounds.specs.Dispatch.{DispatchOut, Busy, workerAfter, turnFrom, endedBy, turnsOf, dispatchOf}
 use Rattle.stretch.specs.Stretch.{exactStretch, countedSteps, FinishesIn, DispatchFinishes, DispatchK7}
 use Rattle.stretch.proofs.Types.{Settings}
 use Rattle.rules.specs.declared.Turn.the-variants.{Worker}
@@ -34,7 +34,7 @@ use Rattle.stretch.proofs.Acts.{busy-step}
 use Rattle.stretch.proofs.Owed.{mostOwed}
 use Rattle.stretch.proofs.Past.{Reached, reached}
 use Rattle.stretch.proofs.Theorem.{finishes-within, exact-k7}
-use Rattle.rules.proofs.dispatch.Turns.{HasTurn, has-turn, busy-found, turns-on, turns-end, turn-busy, fit-turns}
+use Rattle.rounds.proofs.Turns.{HasTurn, has-turn, busy-found, turns-on, turns-end, turn-busy, fit-turns}
 
 -- ---- steps none of which is final
 pub record Unfinished (ed : ℕ) (ws : List ℕ) (m : ℕ) : Type 0 where

@@ -1,12 +1,12 @@
--- K7 over moves between editions: the run over any acts is a course of the machine (rules: moves/Acts), so that no stretch of it is longer; and where the pool
+-- K7 over moves between editions: the run over any acts is a course of the machine (turnaround: Acts), so that no stretch of it is longer; and where the pool
 -- lies in the end a dispatcher finishes an operation, by the edition that it is in there.
 use native.Mathlib.Omega.{arith}
 use Rattle.rules.specs.Make.{makeOf, inEdition}
-use Rattle.rules.specs.Turnaround.{here, placeOver}
+use Rattle.turnaround.specs.Turnaround.{here, placeOver}
 use Rattle.stretch.specs.Stretch.{exactStretch, OverMoves, K7OverMoves}
 use Rattle.rules.proofs.machine.Good.{good}
 use Rattle.rules.proofs.words.Made.{accepted}
-use Rattle.rules.proofs.moves.Acts.{made-lies, course-over, lies-so-over}
+use Rattle.turnaround.proofs.Acts.{made-lies, course-over, lies-so-over}
 use Rattle.stretch.proofs.Past.{PastAt, past-kept, past-first}
 use Rattle.stretch.proofs.Theorem.{stretches, exact-k7}
 use Rattle.stretch.proofs.Dispatch.{reached-finishes}

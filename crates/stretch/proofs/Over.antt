@@ -6,10 +6,10 @@ use Rattle.rules.specs.Make.{inEdition}
 use Rattle.stretch.proofs.Types.{Settings, Phase}
 use Rattle.rules.proofs.machine.Machine.{State, subIn, phaseIn}
 use Rattle.rules.proofs.machine.Phases.{statusOf}
-use Rattle.rules.proofs.moves.Kept.{movedIn}
+use Rattle.rules.proofs.machine.Moved.{movedIn}
 use Rattle.rules.proofs.progress.QueueLeft.{putNow, takeNow}
 use Rattle.rules.proofs.progress.QueueResult.{openPut, putIn}
-use Rattle.rules.proofs.progress.Moved.{queue-left}
+use Rattle.solo.proofs.Moved.{queue-left}
 use Rattle.stretch.proofs.Owed.{Owes, OwesIn, Debts}
 
 -- the phases after a move

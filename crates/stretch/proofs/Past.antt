@@ -26,9 +26,9 @@ use Rattle.rules.proofs.words.Made.{Accepted}
 use Rattle.rules.proofs.Transfer.{Related, next-related, made-related}
 use Rattle.rules.proofs.BothKinds.{kindOf, inv-of}
 use Rattle.rules.proofs.Course.{At, settingsAt, HoldsAt, Kept, madeAt}
-use Rattle.rules.proofs.moves.Kept.{movedIn}
+use Rattle.rules.proofs.machine.Moved.{movedIn}
 use Rattle.rules.proofs.progress.QueueResult.{Filled}
-use Rattle.rules.proofs.progress.Law.{twice}
+use Rattle.solo.proofs.Law.{twice}
 use Rattle.stretch.proofs.Acts.{Acts, acts}
 use Rattle.stretch.proofs.Over.{SamePhases, put-over, owes-over}
 use Rattle.stretch.proofs.Stocked.{PutOpen, put-open-begins, put-open-goes, Stocked, stocked-next, ready-filled}

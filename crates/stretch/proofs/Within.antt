@@ -21,7 +21,7 @@ use Rattle.rules.proofs.machine.Turns.{statusIn}
 use Rattle.rules.proofs.queue.Inv.{Inv}
 use Rattle.rules.proofs.Course.{At, settingsAt, HoldsAt, Course}
 use Rattle.rules.proofs.progress.QueueResult.{openPut, putIn, Filled}
-use Rattle.rules.proofs.progress.Law.{twice}
+use Rattle.solo.proofs.Law.{twice}
 use Rattle.stretch.proofs.Owed.{OwesIn, Debts, mostOwed, put-owes}
 use Rattle.stretch.proofs.Bounded.{Bounded, bounded-by-debts}
 use Rattle.stretch.proofs.Stocked.{PutOpen}

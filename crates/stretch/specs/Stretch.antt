@@ -12,9 +12,9 @@ use Rattle.rules.specs.Layout.{stepsAt}
 use Rattle.rules.specs.Limits.{stepLimit}
 use Rattle.rules.specs.Run.{Call, beginPut, beginTake, step, setSize, Event, run, at, Final, StepOf}
 use Rattle.rules.specs.Consequences.{wordsAfter, OfEveryRun}
-use Rattle.rules.specs.Dispatch.{DispatchOut, Busy, dispatchOf}
+use Rattle.rounds.specs.Dispatch.{DispatchOut, Busy, dispatchOf}
 use Rattle.rules.specs.Make.{inEdition}
-use Rattle.rules.specs.Turnaround.{here, placeOver, runOver, OfEveryTurnaround}
+use Rattle.turnaround.specs.Turnaround.{here, placeOver, runOver, OfEveryTurnaround}
 use Rattle.rules.specs.declared.Settings.{Settings}
 use Rattle.rules.specs.declared.Answer.{Answer}
 use Rattle.rules.specs.declared.Dispatched.the-variants.{Finished}

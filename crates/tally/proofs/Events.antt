@@ -34,7 +34,7 @@ use Rattle.rules.specs.declared.Side.{Side}
 use Rattle.rules.specs.declared.Side.the-variants.{Putting, Taking}
 use Rattle.rules.specs.declared.Answer.the-variants.{Moving, Put, Taken, Empty, Full, Refused}
 use Rattle.rules.proofs.Corollaries.{within-bound, nothing-lost, stamps-once}
-use Rattle.rules.proofs.KnownSizes.{sizes-known}
+use Rattle.sizes.proofs.KnownSizes.{sizes-known}
 use Rattle.rules.proofs.BothKinds.{kindOf}
 use Rattle.rules.proofs.Transfer.{related-fit, made-related, related-after}
 use Rattle.rules.proofs.counts.Held.{count-none, count-all}

@@ -4,7 +4,7 @@ use Prim.Native.Nat.{ℕ}
 use native.Mathlib.Omega.{arith}
 use borrow.Author.Needs.{needs}
 use Rattle.rules.specs.Fit.{Checked}
-use Rattle.rules.specs.Dispatch.{dispatched, checkedDispatch, fitDispatch, dispatchOf}
+use Rattle.rounds.specs.Dispatch.{dispatched, checkedDispatch, fitDispatch, dispatchOf}
 use Rattle.rules.proofs.Fitness.{fit-pool, fit-head, refusal-none, refusal-some, fit-own}
 use Rattle.rules.specs.declared.Settings.{Settings}
 use Rattle.rules.specs.Layout.{settingsOf}

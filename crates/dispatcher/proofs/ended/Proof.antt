@@ -1,7 +1,7 @@
 -- `dispatcher::ended` meets its contract: at each return the test that led there picks the same branch of `endedOf`.
 use borrow.Author.Tests.{le-leb, lt-leb}
 use borrow.Author.Needs.{needs}
-use Rattle.rules.specs.Dispatch.{endedOf}
+use Rattle.rounds.specs.Dispatch.{endedOf}
 use Rattle.laws.specs.Choice.{cond}
 use Rattle.dispatcher.proofs.ended.Statement.{statement}
 use Rattle.dispatcher.proofs.ended.Tie as tie

@@ -2,7 +2,7 @@
 use borrow.Author.Tests.{le-leb, lt-leb}
 use mathlib.Core.Path.{_∙_}
 use borrow.Author.Needs.{needs}
-use Rattle.rules.specs.Dispatch.{fitDispatch}
+use Rattle.rounds.specs.Dispatch.{fitDispatch}
 use Rattle.laws.specs.Choice.{cond}
 use Rattle.dispatcher.proofs.fit_dispatch.Statement.{statement}
 use Rattle.dispatcher.proofs.fit_dispatch.Tie as tie

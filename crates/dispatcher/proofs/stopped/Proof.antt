@@ -1,6 +1,6 @@
 -- `dispatcher::stopped` meets its contract: nobody is busy, or the count has run out, or the next step is refused.
 use Rattle.dispatcher.proofs.Again.{turns-refused}
-use Rattle.rules.proofs.dispatch.Turns.{turns-none, turns-out}
+use Rattle.rounds.proofs.Turns.{turns-none, turns-out}
 use native.Mathlib.Omega.{arith}
 use mathlib.Core.Path.{_≡_, sym, _∙_}
 use Prim.Native.Nat.{_<_}

@@ -8,9 +8,9 @@ use borrow.Author.Needs.{needs}
 use borrow.Author.Tests.{eqb-true, eqb-false}
 use Rattle.rules.specs.Layout.{workerAt}
 use Rattle.rules.specs.Begin.{idleAt}
-use Rattle.rules.specs.Dispatch.{busyFrom}
+use Rattle.rounds.specs.Dispatch.{busyFrom}
 use Rattle.rules.proofs.Workers.{worker-lent}
-use Rattle.rules.proofs.dispatch.Turns.{busy-here, busy-next, busy-none}
+use Rattle.rounds.proofs.Turns.{busy-here, busy-next, busy-none}
 use Rattle.dispatcher.proofs.turn_from.Statement.{statement}
 use Rattle.dispatcher.proofs.turn_from.Tie as tie
 

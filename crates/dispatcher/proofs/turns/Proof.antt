@@ -1,12 +1,12 @@
 -- `dispatcher::turns` meets its contract: the pool is fit at the start of each turn, since it stays fit where no window moves on and is checked again where one does, and the
 -- turns still to come, from where they are, are the whole of them.
 use Rattle.dispatcher.proofs.Again.{fit-again, unfit-again}
-use Rattle.rules.proofs.dispatch.Loop.{stays-fit, left-settings, turns-left, turns-over}
-use Rattle.rules.proofs.dispatch.Turns.{has-turn, turns-none, turns-out}
+use Rattle.rounds.proofs.Loop.{stays-fit, left-settings, turns-left, turns-over}
+use Rattle.rounds.proofs.Turns.{has-turn, turns-none, turns-out}
 use Rattle.rules.proofs.machine.Slots.{has-queue}
 use Rattle.rules.proofs.Fitness.{fit-pool}
 use Rattle.rules.specs.declared.Turn.the-variants.{Worker}
-use Rattle.rules.specs.Dispatch.{dispatched, turnFrom, turnsOf}
+use Rattle.rounds.specs.Dispatch.{dispatched, turnFrom, turnsOf}
 use Rattle.rules.specs.Fit.{Fit, checkedOf}
 use lib.ListN.{length}
 use borrow.Author.Needs.{needs}

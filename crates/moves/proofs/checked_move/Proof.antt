@@ -5,10 +5,10 @@ use Prim.Native.Nat.{ℕ}
 use native.Mathlib.Omega.{arith}
 use borrow.Author.Needs.{needs}
 use Rattle.rules.specs.Answers.{refuse, notFit, wrongEdition}
-use Rattle.rules.specs.Fit.{Checked, Fit, refusalOf, FitPool}
+use Rattle.rules.specs.Fit.{Checked, Fit, sourceChecked, refusalOf, FitPool}
 use Rattle.rules.specs.Layout.{settingsOf}
 use Rattle.rules.specs.Make.{inEdition}
-use Rattle.rules.specs.Move.{sourceChecked, fitMove, checkedMove}
+use Rattle.turnaround.specs.Move.{fitMove, checkedMove}
 use Rattle.rules.specs.declared.Settings.{Settings}
 use Rattle.rules.proofs.Fitness.{refusal-none-by, refusal-some-by, fit-with-other, fit-pool}
 use Rattle.moves.proofs.checked_move.Statement.{statement}

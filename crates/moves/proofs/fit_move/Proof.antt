@@ -11,11 +11,11 @@ use Rattle.laws.specs.Choice.{cond}
 use Rattle.rules.specs.Answers.{out, refuse, tooFewWords, excepted}
 use Rattle.rules.specs.Layout.{needed}
 use Rattle.rules.specs.Make.{inEdition}
-use Rattle.rules.specs.Move.{mayMove, movedWords, fitMove}
+use Rattle.turnaround.specs.Move.{mayMove, movedWords, fitMove}
 use Rattle.rules.specs.declared.Answer.the-variants.{Moving}
 use Rattle.rules.specs.declared.Settings.{Settings}
 use Rattle.rules.proofs.Editions.{edition-bounds}
-use Rattle.rules.proofs.moves.May.{may-on}
+use Rattle.turnaround.proofs.May.{may-on}
 use Rattle.moves.proofs.fit_move.Statement.{statement}
 use Rattle.moves.proofs.fit_move.Tie as tie
 

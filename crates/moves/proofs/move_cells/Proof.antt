@@ -3,7 +3,7 @@ use mathlib.Core.Path.{_≡_}
 use native.Mathlib.Omega.{arith}
 use borrow.Author.Needs.{needs}
 use Rattle.rules.specs.Layout.{subCellsAt, cellsAt}
-use Rattle.rules.specs.Move.{cellsMoved}
+use Rattle.turnaround.specs.Move.{cellsMoved}
 use Rattle.rules.specs.declared.Settings.{Settings}
 use Rattle.rules.proofs.Editions.{same-bounds, same-cells}
 use Rattle.moves.proofs.move_cells.Statement.{statement}

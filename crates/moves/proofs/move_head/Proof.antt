@@ -1,7 +1,7 @@
 -- `moves::move_head` meets its contract: the head and the subs are as long in both areas, and the copy and the store are the definition's.
 use native.Mathlib.Omega.{arith}
 use borrow.Author.Needs.{needs}
-use Rattle.rules.specs.Move.{headMoved}
+use Rattle.turnaround.specs.Move.{headMoved}
 use Rattle.rules.proofs.Editions.{same-width}
 use Rattle.moves.proofs.move_head.Statement.{statement}
 use Rattle.moves.proofs.move_head.Tie as tie

@@ -2,7 +2,7 @@
 use mathlib.Core.Path.{refl, sym, _∙_}
 use borrow.Author.Needs.{needs}
 use Rattle.laws.specs.Choice.{cond}
-use Rattle.rules.specs.Move.{moveOf}
+use Rattle.turnaround.specs.Move.{moveOf}
 use Rattle.moves.proofs.move_pool.Statement.{statement}
 use Rattle.moves.proofs.move_pool.Tie as tie
 

@@ -7,10 +7,10 @@ use borrow.Author.Needs.{needs}
 use lib.ListN.{length}
 use Rattle.rules.specs.Limits.{mostLive}
 use Rattle.rules.specs.Make.{inEdition}
-use Rattle.rules.specs.Move.{headMoved, workersMoved, cellsMoved, ownLive, windowsMoved, movedWords}
+use Rattle.turnaround.specs.Move.{headMoved, workersMoved, cellsMoved, ownLive, windowsMoved, movedWords}
 use Rattle.rules.specs.declared.Settings.{Settings}
 use Rattle.rules.proofs.Editions.{same-bounds}
-use Rattle.rules.proofs.moves.May.{own-few}
+use Rattle.turnaround.proofs.May.{own-few}
 use Rattle.moves.proofs.move_words.Statement.{statement}
 use Rattle.moves.proofs.move_words.Tie as tie
 

@@ -6,7 +6,7 @@ use native.Mathlib.Omega.{arith}
 use borrow.Author.Needs.{needs}
 use lib.ListN.{length, length-set}
 use Rattle.rules.specs.Layout.{workerAt}
-use Rattle.rules.specs.Move.{workerMoved}
+use Rattle.turnaround.specs.Move.{workerMoved}
 use Rattle.rules.specs.declared.Settings.{Settings}
 use Rattle.rules.proofs.Editions.{same-workers}
 use Rattle.rules.proofs.Workers.{word-within}

@@ -5,7 +5,7 @@ use native.Mathlib.Numerals.{add-one}
 use native.Mathlib.Omega.{arith}
 use borrow.Author.Needs.{needs}
 use lib.ListN.{length}
-use Rattle.rules.specs.Move.{workersMoved}
+use Rattle.turnaround.specs.Move.{workersMoved}
 use Rattle.moves.proofs.move_workers.Statement.{statement}
 use Rattle.moves.proofs.move_workers.Tie as tie
 

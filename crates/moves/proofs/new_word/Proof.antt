@@ -3,7 +3,7 @@ use mathlib.Core.Path.{refl, sym, _∙_}
 use borrow.Author.Needs.{needs}
 use borrow.Author.Tests.{eq-eqb, ne-eqb}
 use Rattle.laws.specs.Choice.{cond}
-use Rattle.rules.specs.Move.{newWord}
+use Rattle.rules.specs.NewWord.{newWord}
 use Rattle.moves.proofs.new_word.Statement.{statement}
 use Rattle.moves.proofs.new_word.Tie as tie
 

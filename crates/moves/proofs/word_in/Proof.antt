@@ -9,7 +9,8 @@ use borrow.Author.Tests.{le-ltb, lt-ltb}
 use lib.ListN.{length}
 use Rattle.laws.specs.Choice.{cond}
 use Rattle.rules.specs.Layout.{workerWords, workerAt, needed}
-use Rattle.rules.specs.Move.{newWord, wordIn}
+use Rattle.rules.specs.NewWord.{newWord}
+use Rattle.turnaround.specs.Move.{wordIn}
 use Rattle.rules.specs.Worker.{slotAt}
 use Rattle.rules.specs.declared.Settings.{Settings}
 use Rattle.rules.specs.declared.Slot.{Slot}

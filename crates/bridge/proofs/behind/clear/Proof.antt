@@ -5,7 +5,7 @@ use native.Mathlib.Numerals.{add-one}
 use native.Mathlib.Omega.{arith}
 use borrow.Author.Needs.{needs}
 use lib.ListN.{length, length-set}
-use Rattle.rules.specs.Move.{cleared}
+use Rattle.turnaround.specs.Move.{cleared}
 use Rattle.bridge.proofs.behind.clear.Statement.{statement}
 use Rattle.bridge.proofs.behind.clear.Tie as tie
 

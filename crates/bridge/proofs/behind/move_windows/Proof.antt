@@ -10,7 +10,7 @@ use lib.Seq.{sets}
 use Rattle.laws.specs.Choice.{cond, both-true}
 use Rattle.rules.specs.Layout.{windowsAt, windowsWords}
 use Rattle.rules.specs.Limits.{windowed}
-use Rattle.rules.specs.Move.{ownLive, cleared, ownPairs, windowsMoved}
+use Rattle.turnaround.specs.Move.{ownLive, cleared, ownPairs, windowsMoved}
 use Rattle.rules.specs.Windows.{hasWindows}
 use Rattle.rules.specs.declared.Settings.{Settings}
 use Rattle.rules.proofs.Workers.{pairs-within}

@@ -7,7 +7,7 @@ use native.Mathlib.Omega.{arith}
 use borrow.Author.Needs.{needs}
 use lib.ListN.{length, set}
 use Rattle.rules.specs.Layout.{pairsAt, pairWords}
-use Rattle.rules.specs.Move.{ownPairs}
+use Rattle.turnaround.specs.Move.{ownPairs}
 use Rattle.rules.specs.declared.Settings.{Settings}
 use Rattle.bridge.proofs.behind.put_pairs.Statement.{statement}
 use Rattle.bridge.proofs.behind.put_pairs.Tie as tie

@@ -7,7 +7,7 @@ use borrow.Author.Needs.{needs}
 use lib.ListN.{set}
 use lib.Seq.{sets}
 use Rattle.rules.specs.Layout.{windowsAt}
-use Rattle.rules.specs.Move.{ownPairs}
+use Rattle.turnaround.specs.Move.{ownPairs}
 use Rattle.rules.specs.declared.Settings.{Settings}
 use Rattle.bridge.proofs.behind.put_windows.Statement.{statement}
 use Rattle.bridge.proofs.behind.put_windows.Tie as tie

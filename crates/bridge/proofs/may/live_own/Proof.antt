@@ -6,7 +6,7 @@ use mathlib.Core.Path.{_≡_, sym, ap, _∙_}
 use native.Mathlib.Omega.{arith}
 use borrow.Author.Needs.{needs}
 use Rattle.laws.specs.Choice.{allBelow, allBelow-fails, allBelow-more, allBelow-none}
-use Rattle.rules.specs.Move.{ownSize}
+use Rattle.turnaround.specs.Move.{ownSize}
 use Rattle.rules.specs.Windows.{nthSize}
 use Rattle.rules.specs.declared.Settings.{Settings}
 use Rattle.rules.specs.declared.Size.{Size}

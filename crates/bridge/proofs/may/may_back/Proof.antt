@@ -11,7 +11,7 @@ use Rattle.laws.specs.Choice.{cond, both, all, allBelow, both-one, both-true}
 use Rattle.rules.specs.Fit.{FitPool, subFit}
 use Rattle.rules.specs.Layout.{setAt, workerAt, pairAt, firstOf, secondOf}
 use Rattle.rules.specs.Limits.{windowed, mostLive}
-use Rattle.rules.specs.Move.{subsFitIn, ownSize, seenBack, backLimits}
+use Rattle.turnaround.specs.Move.{subsFitIn, ownSize, seenBack, backLimits}
 use Rattle.rules.specs.Windows.{hasWindows, nextSize, liveOf, nthSize}
 use Rattle.rules.specs.Worker.{slotAt}
 use Rattle.rules.specs.declared.Settings.{Settings}

@@ -2,7 +2,7 @@
 use mathlib.Core.Path.{refl, sym, _∙_}
 use borrow.Author.Needs.{needs}
 use Rattle.laws.specs.Choice.{cond}
-use Rattle.rules.specs.Move.{mayMove}
+use Rattle.turnaround.specs.Move.{mayMove}
 use Rattle.bridge.proofs.may.may_move.Statement.{statement}
 use Rattle.bridge.proofs.may.may_move.Tie as tie
 

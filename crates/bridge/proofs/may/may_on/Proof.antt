@@ -11,7 +11,7 @@ use Rattle.rules.specs.Fit.{subFit}
 use Rattle.rules.specs.Layout.{topAt, markAt, workerAt, firstOf, secondOf}
 use Rattle.rules.specs.Limits.{mostLive}
 use Rattle.rules.specs.Make.{inEdition}
-use Rattle.rules.specs.Move.{apart, subsFitIn, seenOn, onLimits}
+use Rattle.turnaround.specs.Move.{apart, subsFitIn, seenOn, onLimits}
 use Rattle.rules.specs.Worker.{slotAt}
 use Rattle.rules.specs.declared.Settings.{Settings}
 use Rattle.rules.proofs.Editions.{same-bounds, same-width}

@@ -5,7 +5,7 @@ use borrow.Author.Needs.{needs}
 use borrow.Author.Tests.{eq-eqb, ne-eqb}
 use Rattle.laws.specs.Choice.{cond}
 use Rattle.rules.specs.Fit.{pastWindow}
-use Rattle.rules.specs.Move.{seenOn, seenBack}
+use Rattle.turnaround.specs.Move.{seenOn, seenBack}
 use Rattle.rules.specs.declared.Settings.{Settings}
 use Rattle.rules.specs.declared.Slot.{Slot}
 use Rattle.bridge.proofs.may.slot_moves.Statement.{statement}

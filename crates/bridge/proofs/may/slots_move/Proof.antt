@@ -7,7 +7,7 @@ use native.Mathlib.Omega.{arith}
 use borrow.Author.Needs.{needs}
 use Rattle.laws.specs.Choice.{cond, allBelow, allBelow-fails, allBelow-more, allBelow-none}
 use Rattle.rules.specs.Layout.{workerAt}
-use Rattle.rules.specs.Move.{seenOn, seenBack}
+use Rattle.turnaround.specs.Move.{seenOn, seenBack}
 use Rattle.rules.specs.Worker.{slotAt}
 use Rattle.rules.specs.declared.Settings.{Settings}
 use Rattle.rules.specs.declared.Slot.{Slot}

@@ -1,9 +1,9 @@
 -- `held::reported::band_reported` meets its contract: the kind that stands in the call is the pool's.
 use Rattle.rules.specs.declared.Segments.{Segments}
-use Rattle.rules.specs.Segments.{Within, segmentsAbove, cellsOf, cellItems}
+use Rattle.ring.specs.Segments.{Within, segmentsAbove, cellsOf, cellItems}
 use Rattle.rules.specs.Layout.{subCellsAt}
 use Rattle.rules.specs.Held.{countItems, reported}
-use Rattle.rules.proofs.Ring.{segments-within}
+use Rattle.ring.proofs.Ring.{segments-within}
 use Rattle.rules.proofs.Cells.{rows-pos}
 use native.Mathlib.Omega.{arith}
 use mathlib.Core.Path.{_≡_, ap₂, sym, _∙_}

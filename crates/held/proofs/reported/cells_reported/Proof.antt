@@ -5,9 +5,9 @@ use mathlib.Core.Path.{sym, _∙_, _≡_}
 use native.Mathlib.Omega.{arith}
 use borrow.Author.Needs.{needs}
 use Rattle.laws.specs.Choice.{cond-true, cond-false}
-use Rattle.rules.proofs.Walk.{cells-none, cells-more}
+use Rattle.ring.proofs.Walk.{cells-none, cells-more}
 use Rattle.rules.specs.Held.{countItems, reported}
-use Rattle.rules.specs.Segments.{upFrom, cellItems}
+use Rattle.ring.specs.Segments.{upFrom, cellItems}
 use Rattle.held.proofs.reported.cells_reported.Statement.{statement}
 use Rattle.held.proofs.reported.cells_reported.Tie as tie
 

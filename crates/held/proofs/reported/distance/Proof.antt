@@ -1,9 +1,9 @@
 -- `held::reported::distance` meets its contract: both loops' invariant is the count over the subs gone through; the second goes through those that lie outside a window.
 use Rattle.held.proofs.Whole.{beyond-has}
-use Rattle.rules.specs.Segments.{walkedBelow, walkedDistance}
+use Rattle.ring.specs.Segments.{walkedBelow, walkedDistance}
 use Rattle.rules.specs.Limits.{mostRows, mostLive}
 use Rattle.rules.specs.Held.{countItems, reported}
-use Rattle.rules.proofs.Walk.{subs-more, subs-none}
+use Rattle.ring.proofs.Walk.{subs-more, subs-none}
 use borrow.Author.Needs.{needs}
 use native.Mathlib.Omega.{arith}
 use mathlib.Core.Path.{sym, _≡_}

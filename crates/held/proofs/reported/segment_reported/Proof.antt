@@ -5,7 +5,7 @@ use native.Mathlib.Omega.{arith}
 use lib.ListN.{length}
 use borrow.Author.Needs.{needs}
 use Rattle.rules.proofs.Cells.{sub-cells-le}
-use Rattle.rules.proofs.Walk.{cells-part}
+use Rattle.ring.proofs.Walk.{cells-part}
 use Rattle.rules.specs.Held.{countItems}
 use Rattle.rules.specs.Layout.{cellWords}
 use Rattle.held.proofs.reported.segment_reported.Statement.{statement}

@@ -5,10 +5,10 @@ use mathlib.Core.Path.{_≡_}
 use mathlib.Core.List.{List}
 use native.Mathlib.Omega.{arith}
 use borrow.Author.Needs.{needs}
-use Rattle.rules.proofs.Walk.{cells-none, cells-two}
+use Rattle.ring.proofs.Walk.{cells-none, cells-two}
 use Rattle.rules.specs.Held.{countItems, reported}
 use Rattle.rules.specs.Layout.{subCellsAt}
-use Rattle.rules.specs.Segments.{segmentCells, cellsOf, cellItems}
+use Rattle.ring.specs.Segments.{segmentCells, cellsOf, cellItems}
 use Rattle.held.proofs.reported.segments_reported.Statement.{statement}
 use Rattle.held.proofs.reported.segments_reported.Tie as tie
 

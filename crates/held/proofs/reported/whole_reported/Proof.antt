@@ -4,7 +4,7 @@ use Rattle.held.proofs.Walks.{walked-sub}
 use Rattle.held.proofs.Rows.{rows-in-runs}
 use Rattle.held.specs.Together.{wholeBand}
 use mathlib.Core.List.{List}
-use Rattle.rules.specs.Segments.{segmentsAbove, cellsOf, cellItems, walkedSub}
+use Rattle.ring.specs.Segments.{segmentsAbove, cellsOf, cellItems, walkedSub}
 use Rattle.rules.specs.Layout.{firstOf, secondOf, subCellsAt}
 use Rattle.rules.specs.Held.{Item, Band, countItems, reported, itemsAbove}
 use native.Mathlib.Omega.{arith}

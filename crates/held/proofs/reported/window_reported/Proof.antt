@@ -1,9 +1,9 @@
 -- `held::reported::window_reported` meets its contract: the segments are the band's, and the kind that stands in the call is a queue's.
 use Rattle.rules.specs.declared.Segments.{Segments}
-use Rattle.rules.specs.Segments.{cellsOf, cellItems}
+use Rattle.ring.specs.Segments.{cellsOf, cellItems}
 use Rattle.rules.specs.Layout.{subCellsAt}
 use Rattle.rules.specs.Held.{countItems, reported}
-use Rattle.rules.proofs.Ring.{segments-within}
+use Rattle.ring.proofs.Ring.{segments-within}
 use Rattle.rules.proofs.Cells.{rows-pos}
 use native.Mathlib.Omega.{arith}
 use mathlib.Core.Path.{_≡_, ap₂, sym, _∙_}

@@ -1,6 +1,6 @@
 -- `held::reported::windows_reported` meets its contract: the count so far is over the bands gone through, and the bottom so far is that of the next window.
 use Rattle.held.proofs.Counts.{live-bands, band-read, live-few, walked-none, walked-more}
-use Rattle.rules.specs.Segments.{walkedBands}
+use Rattle.ring.specs.Segments.{walkedBands}
 use Rattle.rules.specs.Held.{countItems, reported}
 use Rattle.rules.specs.Limits.{windowed}
 use Rattle.laws.specs.Choice.{both-true}

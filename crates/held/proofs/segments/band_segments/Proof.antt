@@ -1,6 +1,6 @@
 -- `held::segments::band_segments` meets its contract: a stack's band is one segment from the first cell on.
-use Rattle.rules.specs.Segments.{segmentsAbove}
-use Rattle.rules.proofs.Ring.{segments-from-first}
+use Rattle.ring.specs.Segments.{segmentsAbove}
+use Rattle.ring.proofs.Ring.{segments-from-first}
 use Rattle.rules.proofs.Cells.{rows-pos}
 use native.Mathlib.Omega.{arith}
 use mathlib.Core.Path.{_≡_, sym, ap, _∙_}

@@ -5,7 +5,7 @@ use borrow.Author.Needs.{needs}
 use mathlib.Core.Path.{_∙_}
 use Rattle.laws.specs.Choice.{cond}
 use Rattle.laws.specs.Tests.{tests}
-use Rattle.rules.specs.Segments.{segmentsFrom, segmentsAbove}
+use Rattle.ring.specs.Segments.{segmentsFrom, segmentsAbove}
 use Rattle.held.proofs.segments.segments_above.Statement.{statement}
 use Rattle.held.proofs.segments.segments_above.Tie as tie
 

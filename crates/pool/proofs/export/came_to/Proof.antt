@@ -1,8 +1,8 @@
 -- `pool::export::came_to` meets its contract: at each return the case that led there picks the same clause of `resultNumber` and `resultFields`.
 use mathlib.Core.Path.{ap, sym, _∙_}
 use borrow.Author.Needs.{needs}
-use Rattle.rules.specs.Dispatch.{resultFields, resultNumber}
-use Rattle.rules.proofs.dispatch.Loop.{six-fields}
+use Rattle.rounds.specs.Dispatch.{resultFields, resultNumber}
+use Rattle.rounds.proofs.Loop.{six-fields}
 use Rattle.pool.proofs.export.came_to.Statement.{statement}
 use Rattle.pool.proofs.export.came_to.Tie as tie
 

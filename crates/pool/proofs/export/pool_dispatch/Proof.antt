@@ -1,7 +1,7 @@
 -- `pool::export::pool_dispatch` meets its contract: the calls' promises put together are the definition.
 use mathlib.Core.Path.{ap}
 use borrow.Author.Needs.{needs}
-use Rattle.rules.specs.Dispatch.{dispatchReturned}
+use Rattle.rounds.specs.Dispatch.{dispatchReturned}
 use Rattle.pool.proofs.export.pool_dispatch.Statement.{statement}
 use Rattle.pool.proofs.export.pool_dispatch.Tie as tie
 

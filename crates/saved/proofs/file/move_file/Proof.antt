@@ -8,7 +8,7 @@ use borrow.Author.Needs.{needs}
 use lib.ListN.{replicate}
 use Rattle.rules.specs.Answers.{Returned, numberOf}
 use Rattle.rules.specs.Layout.{workerWords, windowsWords, settingsOf}
-use Rattle.rules.specs.Move.{moveOf}
+use Rattle.turnaround.specs.Move.{moveOf}
 use Rattle.saved.specs.Bytes.{wordsIn, bytesFor}
 use Rattle.saved.specs.File.{saved, savedOf, poolWords, filed, filedIn}
 use Rattle.saved.proofs.Largest.{needed-most}

@@ -8,7 +8,7 @@ use lib.ListN.{length, take}
 use lib.Seq.{length-take-le, take-at}
 use Rattle.rules.specs.Answers.{returnedAlone}
 use Rattle.rules.specs.Layout.{workerWords, windowsWords}
-use Rattle.rules.specs.Move.{moveOf}
+use Rattle.turnaround.specs.Move.{moveOf}
 use Rattle.saved.specs.Bytes.{wordsIn}
 use Rattle.saved.proofs.Largest.{largest-enough}
 use Rattle.saved.proofs.file.move_words.Statement.{statement}

@@ -1,7 +1,7 @@
 -- `step::apply::taken` meets its contract: the row's item, and the distance of its stamp; counted along the segments, it is that of the
 -- held list.
 use mathlib.Core.Path.{_≡_, _∙_}
-use Rattle.rules.proofs.HeldCells.{distance-walked}
+use Rattle.ring.proofs.HeldCells.{distance-walked}
 use Rattle.rules.specs.Apply.{takenOf}
 use Rattle.rules.specs.Held.{distanceOf}
 use Rattle.rules.specs.Layout.{firstAt}

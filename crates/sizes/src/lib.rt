@@ -1,0 +1,1 @@
+// What a size call does, and that the size of each window is known: see specs/NextSize.antt.

@@ -1,0 +1,1 @@
+// How soon a worker by itself ends: see specs/Solo.antt.

@@ -1,0 +1,1 @@
+// Strides 0 and 1 are one: see specs/Stride.antt.

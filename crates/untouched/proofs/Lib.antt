@@ -1,0 +1,2 @@
+-- Words beyond the needed ones.
+pub mod Untouched
