@@ -1,5 +1,5 @@
 // The phases of a step, as pure functions from what a worker reads to what the step does. No word's place is known here.
 mod check;
-mod read;
+pub mod read;
 pub mod rule;
-mod window;
+pub mod window;

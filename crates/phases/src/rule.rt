@@ -1,11 +1,5 @@
-// Which rule a phase takes.
+// Which rule a phase takes that few steps find a worker in: a check, a shift, a confirm. The others' rules are called by who has read the phase already.
 use crate::check::check;
-use crate::read::queue_put_read;
-use crate::read::queue_take_read;
-use crate::read::stack_read;
-use crate::window::window;
-use commits::queue_commit;
-use commits::stack_commit;
 use effects::refused;
 use misses::queue_confirm;
 use misses::queue_shift;
@@ -21,39 +15,24 @@ ghost use Prim.Native.Nat.{_<_};
 ghost use Rattle.rules.specs.Limits.{Bounds};
 ghost use Rattle.rules.specs.Step.{ruleOf};
 ghost use Rattle.phases.specs.Inside.{Inside};
+ghost use Rattle.phases.specs.Late.{Late};
 
 pub fn rule(g: Settings, v: View) -> Effect
     requires { ⌜ Bounds g ⌝ }
     requires { ⌜ v .worker .index < g .width ⌝ }
     requires { ⌜ Inside v ⌝ }
+    requires { ⌜ Late (v .worker .phase) ⌝ }
     ensures { λ r. ⌜ r ≡ ruleOf g v ⌝ }
 {
     let worker = v.worker;
     let phase = worker.phase;
     match phase {
         Phase::Idle => refused(v, WORKER_IDLE),
-        Phase::Window(side) => window(g, v, side),
-        Phase::QueuePutRead { window, scan } => queue_put_read(g, v, window, scan),
-        Phase::QueueTakeRead {
-            window,
-            bare,
-            scan,
-            sum,
-        } => queue_take_read(g, v, window, bare, scan, sum),
-        Phase::StackRead {
-            side,
-            window,
-            version,
-            scan,
-            sum,
-        } => stack_read(g, v, side, window, version, scan, sum),
         Phase::Check {
             side,
             version,
             seen,
         } => check(g, v, side, version, seen),
-        Phase::QueueCommit { side, window, seen } => queue_commit(g, v, side, window, seen),
-        Phase::StackCommit { side, seen } => stack_commit(g, v, side, seen),
         Phase::QueueShift { side, window } => queue_shift(g, v, side, window),
         Phase::StackShift {
             side,
@@ -63,5 +42,27 @@ pub fn rule(g: Settings, v: View) -> Effect
         } => stack_shift(g, v, side, version, scan, sum),
         Phase::QueueConfirm { window, scan, sum } => queue_confirm(g, v, window, scan, sum),
         Phase::StackConfirm { side, scan, sum } => stack_confirm(g, v, side, scan, sum),
+        // Not late: no caller has these.
+        Phase::Window(_) => refused(v, WORKER_IDLE),
+        Phase::QueuePutRead { window: _, scan: _ } => refused(v, WORKER_IDLE),
+        Phase::QueueTakeRead {
+            window: _,
+            bare: _,
+            scan: _,
+            sum: _,
+        } => refused(v, WORKER_IDLE),
+        Phase::StackRead {
+            side: _,
+            window: _,
+            version: _,
+            scan: _,
+            sum: _,
+        } => refused(v, WORKER_IDLE),
+        Phase::QueueCommit {
+            side: _,
+            window: _,
+            seen: _,
+        } => refused(v, WORKER_IDLE),
+        Phase::StackCommit { side: _, seen: _ } => refused(v, WORKER_IDLE),
     }
 }

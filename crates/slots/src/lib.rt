@@ -26,7 +26,7 @@ ghost use lib.Seq.{sets};
 ghost use Rattle.laws.specs.Choice.{cond};
 ghost use Rattle.rules.specs.Apply.{countLost, putWorker};
 ghost use Rattle.rules.specs.Begin.{idleAt};
-ghost use Rattle.rules.specs.Layout.{workerWords, slotWords, widthWord, stepsAt, indexAt, lostAt};
+ghost use Rattle.rules.specs.Layout.{workerWords, slotWords, widthWord, stepsAt, phaseAt, indexAt, lostAt};
 ghost use Rattle.rules.specs.Limits.{windowed};
 ghost use Rattle.rules.specs.Worker.{slotAt, wordsOf, putSlot};
 
@@ -44,6 +44,14 @@ fn put_word(words: &mut [u32], at: usize, k: usize, x: u32)
     ensures { λ r. ⌜ now (words .exit) ≡ set (now (words .entry)) (at + k) x ⌝ }
 {
     words[at + k] = x;
+}
+
+// The number of the worker's phase.
+pub fn phase_number(words: &[u32], at: usize) -> u32
+    requires { ⌜ at + slotWords ≤ length (now words) ⌝ }
+    ensures { λ r. ⌜ r ≡ getD (now (words .entry)) (phaseAt at) 0 ⌝ }
+{
+    word(words, at, PHASE)
 }
 
 // Whether the worker is idle.

@@ -1,4 +1,5 @@
 pub mod Seen
+pub mod Numbers
 pub mod Pairs
 pub mod Asked
 pub mod Moves

@@ -1,17 +1,20 @@
--- What a rule's effect may write of a queue's windows: a window moves on in the shift phase of a queue alone, and a put window only where there may be one
--- more. So the words have a pair for it, and a take window that goes has one to give up.
+-- What a rule's effect may write. The window phase and the reads leave the shared words as they are, and only the commits put or take an item, or are lost.
+-- A window moves on in the shift phase of a queue alone, and a put window only where there may be one more. So the words have a pair for it, and a take
+-- window that goes has one to give up.
 use Prim.Native.Nat.{ℕ, _<_}
-use mathlib.Core.Bool.{Bool, true}
+use mathlib.Core.Bool.{Bool, true, false}
 use mathlib.Core.List.{List}
 use mathlib.Core.Path.{_≡_, refl}
-use lib.Dec.{leb}
-use borrow.Author.Tests.{eq-eqb, ltb-true}
+use lib.Dec.{leb, eqb}
+use borrow.Author.Tests.{eq-eqb, eqb-true, ltb-true}
 use Rattle.laws.specs.Choice.{cond, cases, both-true}
 use Rattle.laws.specs.Wrap.{sub32}
 use Rattle.rules.specs.Limits.{windowed, mostLive}
 use Rattle.rules.specs.Windows.{hasWindows, liveOf, sizesOf}
+use Rattle.rules.specs.Answers.{out}
+use Rattle.rules.specs.Apply.{putWorker, applyBy, applyOf}
 use Rattle.rules.specs.Fit.{FitPool}
-use Rattle.rules.specs.Worker.{slotAt, phaseOf}
+use Rattle.rules.specs.Worker.{windowPhase, readPhase, commitPhase, numberFor, slotAt, phaseOf}
 use Rattle.rules.specs.Effects.{queueView, viewOf, nothingFor}
 use Rattle.rules.specs.Window.{windowRule}
 use Rattle.rules.specs.Read.{missOf, queuePutRead, queueTakeRead, stackRead}
@@ -30,9 +33,13 @@ use Rattle.rules.specs.declared.Phase.the-variants.{Idle, Window, QueuePutRead,
 use Rattle.rules.specs.declared.Version.{Version}
 use Rattle.rules.specs.declared.View.{View}
 use Rattle.rules.specs.declared.Effect.{Effect}
+use Rattle.rules.specs.declared.Answer.the-variants.{Moving as Answering}
 use Rattle.rules.specs.declared.Outcome.{Outcome}
 use Rattle.rules.specs.declared.Outcome.the-variants.{Refused, Moving, Lost, Shifted, Raised, Dropped, Landed, Removed, Empty, Full}
-use Rattle.step.specs.Allowed.{Allowed}
+use Rattle.phases.specs.Late.{Late}
+use Rattle.step.specs.Allowed.{Allowed, Commits}
+use Rattle.step.specs.ByPhase.{viewBy, effectBy, ruleStep}
+use Rattle.step.proofs.Numbers.{window-is, put-read-is, take-read-is, stack-read-is, queue-commit-is, stack-commit-is}
 use Rattle.step.proofs.Seen.{OfQueue, OfStack, of-phase}
 
 -- ---- the phases
@@ -54,19 +61,63 @@ Shifts g (StackConfirm side scan sum) = Unit {0}
 in-queue : (g : Settings) (s : Slot) → Shifts g (phaseOf g s)
 in-queue g s =
     of-phase (Shifts g) g s
-    (λ queue. record { window = λ side. tt; put-read = λ e. tt; take-read = λ e. tt; commit = λ side. tt; shift = λ side. queue; confirm = λ e. tt; idle = tt })
-    (record { window = λ side. tt; read = λ side. tt; check = λ side. tt; commit = λ side. tt; shift = λ side. tt; confirm = λ side. tt; idle = tt })
+    (λ queue. record { window = λ side e. tt; put-read = λ e. tt; take-read = λ e. tt; commit = λ side e. tt; shift = λ side. queue; confirm = λ e. tt; idle = tt })
+    (record { window = λ side e. tt; read = λ side e. tt; check = λ side. tt; commit = λ side e. tt; shift = λ side. tt; confirm = λ side. tt; idle = tt })
 
--- ---- the rules
+-- ---- the rules of the window phase and of the reads
+module _ (g : Settings) (v : View) where
+  abbrev Goes : Effect → Type 0
+  Goes e = e .outcome ≡ Moving
+
+  pub window-goes : (side : Side) → Goes (windowRule g v side)
+  unfolding windowRule
+  window-goes side = cases Goes _ _ _ (λ e. refl) (λ e. refl)
+
+  miss-goes : (width scan : ℕ) (again after : Phase) (kept : Slot) → Goes (missOf g width v scan again after kept)
+  unfolding missOf
+  miss-goes width scan again after kept = cases Goes _ _ _ (λ e. refl) (λ e. refl)
+
+  put-read-goes : (window : Span) (scan : ℕ) → Goes (queuePutRead g v window scan)
+  unfolding queuePutRead
+  put-read-goes window scan = cases Goes _ _ _ (λ e. refl) (λ e. miss-goes _ _ _ _ _)
+
+  take-read-goes : (window : Span) (bare scan sum : ℕ) → Goes (queueTakeRead g v window bare scan sum)
+  unfolding queueTakeRead
+  take-read-goes window bare scan sum =
+      cases Goes _ _ _ (λ e. miss-goes _ _ _ _ _) (λ e. cases Goes _ _ _ (λ e′. miss-goes _ _ _ _ _) (λ e′. refl))
+
+  stack-read-goes : (side : Side) (window : ℕ) (version : Version) (scan sum : ℕ) → Goes (stackRead g v side window version scan sum)
+  unfolding stackRead
+  stack-read-goes side window version scan sum = cases Goes _ _ _ (λ e. refl) (λ e. miss-goes _ _ _ _ _)
+
+  -- ---- of the commits
+  abbrev Ends : Effect → Type 0
+  Ends e = Commits (e .outcome)
+
+  commit-by-ends : (side : Side) (matches able : Bool) (done : Effect) → Ends done → Ends (commitBy g v side matches able done)
+  unfolding commitBy
+  commit-by-ends side matches able done d = cases Ends _ _ _ (λ e. cases Ends _ _ _ (λ e′. d) (λ e′. tt)) (λ e. tt)
+
+  queue-commit-ends : (side : Side) (window : Span) (seen : ℕ) → Ends (queueCommit g v side window seen)
+  unfolding queueCommit queuePutCommit queueTakeCommit
+  queue-commit-ends Putting window seen = commit-by-ends Putting _ _ _ tt
+  queue-commit-ends Taking window seen = commit-by-ends Taking _ _ _ tt
+
+  stack-commit-ends : (side : Side) (seen : Version) → Ends (stackCommit g v side seen)
+  unfolding stackCommit
+  stack-commit-ends Putting seen = commit-by-ends Putting _ _ _ tt
+  stack-commit-ends Taking seen = commit-by-ends Taking _ _ _ tt
+
+-- ---- of the late phases
 abbrev Moves : Settings → View → Outcome → Type 0
 Moves g v (Refused n) = Unit {0}
 Moves g v Moving = Unit {0}
-Moves g v Lost = Unit {0}
+Moves g v Lost = ⊥
 Moves g v Shifted = Unit {0}
 Moves g v Raised = (g .kind ≡ 0) × (mayRise g (queueView v) ≡ true)
 Moves g v Dropped = g .kind ≡ 0
-Moves g v (Landed value row stamp) = Unit {0}
-Moves g v (Removed row) = Unit {0}
+Moves g v (Landed value row stamp) = ⊥
+Moves g v (Removed row) = ⊥
 Moves g v Empty = Unit {0}
 Moves g v Full = Unit {0}
 
@@ -78,44 +129,9 @@ module _ (g : Settings) (v : View) where
   nothing Putting = tt
   nothing Taking = tt
 
-  window-moves : (side : Side) → To (windowRule g v side)
-  unfolding windowRule
-  window-moves side = cases To _ _ _ (λ e. tt) (λ e. tt)
-
-  miss-moves : (width scan : ℕ) (again after : Phase) (kept : Slot) → To (missOf g width v scan again after kept)
-  unfolding missOf
-  miss-moves width scan again after kept = cases To _ _ _ (λ e. tt) (λ e. tt)
-
-  put-read-moves : (window : Span) (scan : ℕ) → To (queuePutRead g v window scan)
-  unfolding queuePutRead
-  put-read-moves window scan = cases To _ _ _ (λ e. tt) (λ e. miss-moves _ _ _ _ _)
-
-  take-read-moves : (window : Span) (bare scan sum : ℕ) → To (queueTakeRead g v window bare scan sum)
-  unfolding queueTakeRead
-  take-read-moves window bare scan sum =
-      cases To _ _ _ (λ e. miss-moves _ _ _ _ _) (λ e. cases To _ _ _ (λ e′. miss-moves _ _ _ _ _) (λ e′. tt))
-
-  stack-read-moves : (side : Side) (window : ℕ) (version : Version) (scan sum : ℕ) → To (stackRead g v side window version scan sum)
-  unfolding stackRead
-  stack-read-moves side window version scan sum = cases To _ _ _ (λ e. tt) (λ e. miss-moves _ _ _ _ _)
-
   check-moves : (side : Side) (version seen : Version) → To (checkRule g v side version seen)
   unfolding checkRule
   check-moves side version seen = cases To _ _ _ (λ e. tt) (λ e. tt)
-
-  commit-by-moves : (side : Side) (matches able : Bool) (done : Effect) → To done → To (commitBy g v side matches able done)
-  unfolding commitBy
-  commit-by-moves side matches able done d = cases To _ _ _ (λ e. cases To _ _ _ (λ e′. d) (λ e′. tt)) (λ e. tt)
-
-  queue-commit-moves : (side : Side) (window : Span) (seen : ℕ) → To (queueCommit g v side window seen)
-  unfolding queueCommit queuePutCommit queueTakeCommit
-  queue-commit-moves Putting window seen = commit-by-moves Putting _ _ _ tt
-  queue-commit-moves Taking window seen = commit-by-moves Taking _ _ _ tt
-
-  stack-commit-moves : (side : Side) (seen : Version) → To (stackCommit g v side seen)
-  unfolding stackCommit
-  stack-commit-moves Putting seen = commit-by-moves Putting _ _ _ tt
-  stack-commit-moves Taking seen = commit-by-moves Taking _ _ _ tt
 
   shift-by-moves : (side : Side) (same able : Bool) (moved stuck : Effect) → (able ≡ true → To moved) → To stuck → To (shiftBy g v side same able moved stuck)
   unfolding shiftBy
@@ -136,20 +152,20 @@ module _ (g : Settings) (v : View) where
   unfolding confirmBy confirmedOf
   confirm-by-moves side width scan left again sure = cases To _ _ _ (λ e. tt) (λ e. cases To _ _ _ (λ e′. nothing side) (λ e′. tt))
 
-  rule-moves : (p : Phase) → Shifts g p → To (ruleBy g v p)
+  rule-moves : (p : Phase) → Shifts g p → Late p → To (ruleBy g v p)
   unfolding ruleBy queueConfirm stackConfirm
-  rule-moves Idle q = tt
-  rule-moves (Window side) q = window-moves side
-  rule-moves (QueuePutRead window scan) q = put-read-moves window scan
-  rule-moves (QueueTakeRead window bare scan sum) q = take-read-moves window bare scan sum
-  rule-moves (StackRead side window version scan sum) q = stack-read-moves side window version scan sum
-  rule-moves (Check side version seen) q = check-moves side version seen
-  rule-moves (QueueCommit side window seen) q = queue-commit-moves side window seen
-  rule-moves (StackCommit side seen) q = stack-commit-moves side seen
-  rule-moves (QueueShift side window) q = queue-shift-moves q side window
-  rule-moves (StackShift side version scan sum) q = stack-shift-moves side version scan sum
-  rule-moves (QueueConfirm window scan sum) q = confirm-by-moves Taking _ _ _ _ _
-  rule-moves (StackConfirm side scan sum) q = confirm-by-moves side _ _ _ _ _
+  rule-moves Idle q l = tt
+  rule-moves (Window side) q l = absurd l
+  rule-moves (QueuePutRead window scan) q l = absurd l
+  rule-moves (QueueTakeRead window bare scan sum) q l = absurd l
+  rule-moves (StackRead side window version scan sum) q l = absurd l
+  rule-moves (Check side version seen) q l = check-moves side version seen
+  rule-moves (QueueCommit side window seen) q l = absurd l
+  rule-moves (StackCommit side seen) q l = absurd l
+  rule-moves (QueueShift side window) q l = queue-shift-moves q side window
+  rule-moves (StackShift side version scan sum) q l = stack-shift-moves side version scan sum
+  rule-moves (QueueConfirm window scan sum) q l = confirm-by-moves Taking _ _ _ _ _
+  rule-moves (StackConfirm side scan sum) q l = confirm-by-moves side _ _ _ _ _
 
 -- ---- the words
 module _ (ws : List ℕ) (g : Settings) (at : ℕ) (f : FitPool g ws) where
@@ -163,15 +179,43 @@ module _ (ws : List ℕ) (g : Settings) (at : ℕ) (f : FitPool g ws) where
   allowed-by : (o : Outcome) → Moves g (viewOf ws g at) o → Allowed ws g o
   allowed-by (Refused n) m = tt
   allowed-by Moving m = tt
-  allowed-by Lost m = tt
+  allowed-by Lost m = absurd m
   allowed-by Shifted m = tt
   allowed-by Raised m = free (m .0) (m .1)
   allowed-by Dropped m = λ e. f .windows (has e m) .live1
-  allowed-by (Landed value row stamp) m = tt
-  allowed-by (Removed row) m = tt
+  allowed-by (Landed value row stamp) m = absurd m
+  allowed-by (Removed row) m = absurd m
   allowed-by Empty m = tt
   allowed-by Full m = tt
 
-  pub rule-allowed : Allowed ws g (ruleOf g (viewOf ws g at) .outcome)
+  pub rule-allowed : Late (phaseOf g (slotAt g ws at)) → Allowed ws g (ruleOf g (viewOf ws g at) .outcome)
   unfolding ruleOf viewOf
-  rule-allowed = allowed-by (ruleOf g (viewOf ws g at) .outcome) (rule-moves g (viewOf ws g at) (phaseOf g (slotAt g ws at)) (in-queue g (slotAt g ws at)))
+  rule-allowed late = allowed-by (ruleOf g (viewOf ws g at) .outcome) (rule-moves g (viewOf ws g at) (phaseOf g (slotAt g ws at)) (in-queue g (slotAt g ws at)) late)
+
+-- ---- by the number of the phase
+module _ (ws : List ℕ) (g : Settings) (s : Slot) where
+  -- a queue's or a stack's
+  either-kind : (P : Type 0) → (g .kind ≡ 0 → P) → (eqb (g .kind) 0 ≡ false → P) → P
+  either-kind P f h = by (eqb (g .kind) 0) refl
+    where
+      by : (b : Bool) → eqb (g .kind) 0 ≡ b → P
+      by true e = f (eqb-true _ _ e)
+      by false e = h e
+
+  pub look-effect : (side : Side) → s .number ≡ numberFor side windowPhase → effectBy ws g s .outcome ≡ Moving
+  unfolding ruleOf ruleBy
+  look-effect side e = rw (window-is g s side e) (window-goes g _ side)
+
+  pub read-effect : (side : Side) → s .number ≡ numberFor side readPhase → effectBy ws g s .outcome ≡ Moving
+  unfolding ruleOf ruleBy
+  read-effect Putting e = either-kind _ (λ k. rw (put-read-is g s k e) (put-read-goes g _ _ _)) (λ k. rw (stack-read-is g s k Putting e) (stack-read-goes g _ Putting _ _ _ _))
+  read-effect Taking e = either-kind _ (λ k. rw (take-read-is g s k e) (take-read-goes g _ _ _ _ _)) (λ k. rw (stack-read-is g s k Taking e) (stack-read-goes g _ Taking _ _ _ _))
+
+  pub commit-effect : (side : Side) → s .number ≡ numberFor side commitPhase → Commits (effectBy ws g s .outcome)
+  unfolding ruleOf ruleBy
+  commit-effect side e = either-kind _ (λ k. rw (queue-commit-is g s k side e) (queue-commit-ends g _ side _ _)) (λ k. rw (stack-commit-is g s k side e) (stack-commit-ends g _ side _))
+
+-- a step that moves the worker alone
+pub moving-step : (ws : List ℕ) (g : Settings) (at : ℕ) → effectBy ws g (slotAt g ws at) .outcome ≡ Moving → out Answering (putWorker ws g at (effectBy ws g (slotAt g ws at))) ≡ ruleStep ws g at
+unfolding ruleStep applyOf applyBy viewOf slotAt
+moving-step ws g at e = simp e

@@ -1,2 +1,3 @@
 pub mod Asked
 pub mod Allowed
+pub mod ByPhase

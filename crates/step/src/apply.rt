@@ -1,4 +1,4 @@
-// What an effect writes and answers.
+// What an effect writes and answers: a commit's, and those of the phases that are read as a whole.
 use held::distance;
 use image::item_of;
 use image::put_landed;
@@ -19,7 +19,7 @@ ghost use Rattle.rules.specs.Answers.{out};
 ghost use Rattle.rules.specs.Fit.{FitPool};
 ghost use Rattle.rules.specs.Layout.{Lent};
 ghost use Rattle.rules.specs.Apply.{takenOf, applyOf};
-ghost use Rattle.step.specs.Allowed.{Allowed};
+ghost use Rattle.step.specs.Allowed.{Allowed, Commits};
 
 // The answer of a take: the row's item, and the distance just before.
 fn taken(words: &[u32], g: Settings, j: u32, row: Row) -> Answer
@@ -38,37 +38,18 @@ fn taken(words: &[u32], g: Settings, j: u32, row: Row) -> Answer
     }
 }
 
-// Writes an effect of the worker whose words start at `at` and whose sub is `j`.
-pub fn apply(words: &mut [u32], g: Settings, at: usize, j: u32, e: Effect) -> Answer
+// Writes a commit's effect of the worker whose words start at `at` and whose sub is `j`.
+pub fn apply_commit(words: &mut [u32], g: Settings, at: usize, j: u32, e: Effect) -> Answer
     requires { ⌜ FitPool g (now words) ⌝ }
     requires { ⌜ Lent g (now words) at ⌝ }
-    requires { ⌜ (j < g .width) × Allowed (now words) g (e .outcome) ⌝ }
+    requires { ⌜ (j < g .width) × Commits (e .outcome) ⌝ }
     ensures { λ r. ⌜ out r (now (words .exit)) ≡ applyOf (now (words .entry)) g at j e ⌝ }
 {
     let outcome = e.outcome;
     match outcome {
         Outcome::Refused(n) => Answer::Refused(n),
-        Outcome::Moving => {
-            put_worker(words, g, at, e);
-            Answer::Moving
-        }
         Outcome::Lost => {
             count_lost(words, g, at);
-            put_worker(words, g, at, e);
-            Answer::Moving
-        }
-        Outcome::Shifted => {
-            put_shifted(words, e);
-            put_worker(words, g, at, e);
-            Answer::Moving
-        }
-        Outcome::Raised => {
-            put_raised(words, g, e);
-            put_worker(words, g, at, e);
-            Answer::Moving
-        }
-        Outcome::Dropped => {
-            put_dropped(words, g, e);
             put_worker(words, g, at, e);
             Answer::Moving
         }
@@ -88,6 +69,45 @@ pub fn apply(words: &mut [u32], g: Settings, at: usize, j: u32, e: Effect) -> An
             put_worker(words, g, at, e);
             answer
         }
+        // No commit ends so.
+        Outcome::Moving => Answer::Moving,
+        Outcome::Shifted => Answer::Moving,
+        Outcome::Raised => Answer::Moving,
+        Outcome::Dropped => Answer::Moving,
+        Outcome::Empty => Answer::Moving,
+        Outcome::Full => Answer::Moving,
+    }
+}
+
+// Writes a late phase's effect of the worker whose words start at `at` and whose sub is `j`.
+pub fn apply(words: &mut [u32], g: Settings, at: usize, j: u32, e: Effect) -> Answer
+    requires { ⌜ FitPool g (now words) ⌝ }
+    requires { ⌜ Lent g (now words) at ⌝ }
+    requires { ⌜ Allowed (now words) g (e .outcome) ⌝ }
+    ensures { λ r. ⌜ out r (now (words .exit)) ≡ applyOf (now (words .entry)) g at j e ⌝ }
+{
+    let outcome = e.outcome;
+    match outcome {
+        Outcome::Refused(n) => Answer::Refused(n),
+        Outcome::Moving => {
+            put_worker(words, g, at, e);
+            Answer::Moving
+        }
+        Outcome::Shifted => {
+            put_shifted(words, e);
+            put_worker(words, g, at, e);
+            Answer::Moving
+        }
+        Outcome::Raised => {
+            put_raised(words, g, e);
+            put_worker(words, g, at, e);
+            Answer::Moving
+        }
+        Outcome::Dropped => {
+            put_dropped(words, g, e);
+            put_worker(words, g, at, e);
+            Answer::Moving
+        }
         Outcome::Empty => {
             put_worker(words, g, at, e);
             Answer::Empty
@@ -96,5 +116,13 @@ pub fn apply(words: &mut [u32], g: Settings, at: usize, j: u32, e: Effect) -> An
             put_worker(words, g, at, e);
             Answer::Full
         }
+        // A commit's.
+        Outcome::Lost => Answer::Moving,
+        Outcome::Landed {
+            value: _,
+            row: _,
+            stamp: _,
+        } => Answer::Moving,
+        Outcome::Removed { row: _ } => Answer::Moving,
     }
 }

@@ -13,6 +13,7 @@ use worker::size_of;
 ghost use mathlib.Core.Path.{_≡_};
 ghost use Prim.Native.Nat.{_<_};
 ghost use Rattle.laws.specs.Choice.{cond};
+ghost use Rattle.phases.specs.Late.{Late};
 ghost use Rattle.rules.specs.Fit.{FitPool};
 ghost use Rattle.rules.specs.Limits.{mostLive};
 ghost use Rattle.rules.specs.Windows.{hasWindows, sizeOf, noSize, nthSize, sizesOf};
@@ -24,7 +25,7 @@ fn no_size() -> Size
     Size { width: 0, depth: 0 }
 }
 
-fn no_sizes() -> Sizes
+pub fn no_sizes() -> Sizes
     ensures { λ r. ⌜ r ≡ noSizes ⌝ }
 {
     let none = no_size();
@@ -97,7 +98,7 @@ fn only_take(words: &[u32], g: Settings) -> Sizes
 }
 
 // For a worker that looks at a window.
-fn look_sizes(words: &[u32], g: Settings, side: Side) -> Sizes
+pub fn look_sizes(words: &[u32], g: Settings, side: Side) -> Sizes
     requires { ⌜ FitPool g (now words) ⌝ }
     ensures { λ r. ⌜ r ≡ lookAsks side (sizesOf (now (words .entry)) g) ⌝ }
 {
@@ -117,7 +118,7 @@ fn look_sizes(words: &[u32], g: Settings, side: Side) -> Sizes
 }
 
 // For a commit.
-fn commit_sizes(words: &[u32], g: Settings, side: Side) -> Sizes
+pub fn commit_sizes(words: &[u32], g: Settings, side: Side) -> Sizes
     requires { ⌜ FitPool g (now words) ⌝ }
     ensures { λ r. ⌜ r ≡ commitAsks side (sizesOf (now (words .entry)) g) ⌝ }
 {
@@ -151,39 +152,19 @@ fn shift_sizes(words: &[u32], g: Settings, side: Side) -> Sizes
     }
 }
 
-// Those that the rule of a phase asks for, and no others.
+// Those that the rule of a late phase asks for, and no others.
 pub fn sizes_for(words: &[u32], g: Settings, phase: Phase) -> Sizes
     requires { ⌜ FitPool g (now words) ⌝ }
+    requires { ⌜ Late phase ⌝ }
     ensures { λ r. ⌜ r ≡ askedBy phase (sizesOf (now (words .entry)) g) ⌝ }
 {
     match phase {
         Phase::Idle => no_sizes(),
-        Phase::Window(side) => look_sizes(words, g, side),
-        Phase::QueuePutRead { window: _, scan: _ } => no_sizes(),
-        Phase::QueueTakeRead {
-            window: _,
-            bare: _,
-            scan: _,
-            sum: _,
-        } => no_sizes(),
-        Phase::StackRead {
-            side: _,
-            window: _,
-            version: _,
-            scan: _,
-            sum: _,
-        } => no_sizes(),
         Phase::Check {
             side: _,
             version: _,
             seen: _,
         } => no_sizes(),
-        Phase::QueueCommit {
-            side,
-            window: _,
-            seen: _,
-        } => commit_sizes(words, g, side),
-        Phase::StackCommit { side: _, seen: _ } => no_sizes(),
         Phase::QueueShift { side, window: _ } => shift_sizes(words, g, side),
         Phase::StackShift {
             side: _,
@@ -201,5 +182,27 @@ pub fn sizes_for(words: &[u32], g: Settings, phase: Phase) -> Sizes
             scan: _,
             sum: _,
         } => no_sizes(),
+        // Not late: no caller has these.
+        Phase::Window(_) => no_sizes(),
+        Phase::QueuePutRead { window: _, scan: _ } => no_sizes(),
+        Phase::QueueTakeRead {
+            window: _,
+            bare: _,
+            scan: _,
+            sum: _,
+        } => no_sizes(),
+        Phase::StackRead {
+            side: _,
+            window: _,
+            version: _,
+            scan: _,
+            sum: _,
+        } => no_sizes(),
+        Phase::QueueCommit {
+            side: _,
+            window: _,
+            seen: _,
+        } => no_sizes(),
+        Phase::StackCommit { side: _, seen: _ } => no_sizes(),
     }
 }

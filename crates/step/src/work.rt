@@ -1,12 +1,10 @@
 // One step of a worker.
 use crate::answers::answered;
-use crate::apply::apply;
-use crate::view::view;
+use crate::by_phase::phase_step;
 use fitness::refusal;
 use image::out_of_steps;
 use image::shipped_settings;
 use image::worker_at;
-use phases::rule::rule;
 use rules::Answer;
 use rules::Settings;
 use rules::numbers::NO_SUCH_WORKER;
@@ -14,25 +12,17 @@ use rules::numbers::SHIPPED;
 use rules::numbers::STEPS_SPENT;
 use rules::numbers::WORKER_IDLE;
 use slots::idle_at;
-use slots::index_of;
-ghost use mathlib.Core.Bool.{true};
 ghost use mathlib.Core.Path.{_≡_};
-ghost use Prim.Native.Nat.{_<_};
-ghost use lib.ListN.{getD};
 ghost use Rattle.rules.specs.Answers.{out, returned, returnedOf};
-ghost use Rattle.rules.specs.Fit.{Fit, FitPool, SpanFits, checkedOf, pastWindow};
-ghost use Rattle.rules.specs.Layout.{Lent, phaseAt, indexAt, settingsOf};
+ghost use Rattle.rules.specs.Fit.{Fit, FitPool, checkedOf};
+ghost use Rattle.rules.specs.Layout.{settingsOf};
 ghost use Rattle.rules.specs.Make.{shipped};
 ghost use Rattle.rules.specs.Step.{slotStep, fitStep, stepOf};
-ghost use Rattle.rules.specs.Windows.{hasWindows};
-ghost use Rattle.rules.specs.Worker.{slotAt};
+ghost use Rattle.step.specs.ByPhase.{Ready};
 
 // A step of the worker whose words start at `at`.
 fn slot_step(words: &mut [u32], g: Settings, at: usize) -> Answer
-    requires { ⌜ FitPool g (now words) ⌝ }
-    requires { ⌜ Lent g (now words) at ⌝ }
-    requires { ⌜ getD (now words) (indexAt at) 0 < g .width ⌝ }
-    requires { ⌜ (hasWindows g ≡ true → pastWindow (getD (now words) (phaseAt at) 0) ≡ true → SpanFits g (slotAt g (now words) at)) ⌝ }
+    requires { ⌜ Ready g (now words) at ⌝ }
     ensures { λ r. ⌜ out r (now (words .exit)) ≡ slotStep (now (words .entry)) g at ⌝ }
 {
     if idle_at(words, at) {
@@ -41,10 +31,7 @@ fn slot_step(words: &mut [u32], g: Settings, at: usize) -> Answer
     if out_of_steps(words) {
         return Answer::Refused(STEPS_SPENT);
     }
-    let j = index_of(words, at);
-    let v = view(words, g, at);
-    let e = rule(g, v);
-    apply(words, g, at, j, e)
+    phase_step(words, g, at)
 }
 
 // A step of worker `i` of a fit pool.

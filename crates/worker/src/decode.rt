@@ -28,7 +28,7 @@ ghost use Rattle.laws.specs.Choice.{cond};
 ghost use Rattle.rules.specs.Worker.{sideBase, seenBy, queuePhase, stackPhase, phaseOf, decode};
 
 // Whose phase a number is.
-fn side_of(number: u32) -> Side
+pub fn side_of(number: u32) -> Side
     ensures { λ r. ⌜ r ≡ cond (ltb number (sideBase Side.Taking)) Side.Putting Side.Taking ⌝ }
 {
     if number < TAKING {
@@ -38,7 +38,7 @@ fn side_of(number: u32) -> Side
 }
 
 // The window that a queue's worker has seen, in an edition that has no words for its bottom and its width by its top.
-fn seen_by(g: Settings, s: Slot) -> Span
+pub fn seen_by(g: Settings, s: Slot) -> Span
     ensures { λ r. ⌜ r ≡ seenBy g s ⌝ }
 {
     if WINDOWED <= g.edition {

@@ -3,6 +3,8 @@ mod decode;
 mod encode;
 mod windows;
 
+pub use decode::seen_by;
+pub use decode::side_of;
 pub use decode::worker_of;
 pub use encode::fresh_slot;
 pub use encode::seen_slot;

@@ -1,5 +1,5 @@
--- `step::sizes::sizes_for` meets its contract: each phase has its clause.
-use mathlib.Core.Path.{sym, _∙_}
+-- `step::sizes::sizes_for` meets its contract: each late phase has its clause, and no other phase comes here.
+use mathlib.Core.Path.{_∙_}
 use borrow.Author.Needs.{needs}
 use Rattle.step.proofs.sizes.sizes_for.Statement.{statement}
 use Rattle.step.proofs.sizes.sizes_for.Tie as tie
@@ -10,17 +10,17 @@ enum-told c = search needs
 no-sizes-requires : tie.Need-no-sizes-requires
 no-sizes-requires c κs = search needs
 
-enum-known-phase : tie.Need-enum-known-phase
-enum-known-phase c = search needs
-
-look-sizes-requires : tie.Need-look-sizes-requires
-look-sizes-requires c κs = search needs
-
 enum-told-2 : tie.Need-enum-told-2
 enum-told-2 c = search needs
 
 no-sizes-requires-2 : tie.Need-no-sizes-requires-2
 no-sizes-requires-2 c κs = search needs
+
+enum-known-phase : tie.Need-enum-known-phase
+enum-known-phase c = search needs
+
+shift-sizes-requires : tie.Need-shift-sizes-requires
+shift-sizes-requires c κs = search needs
 
 enum-told-3 : tie.Need-enum-told-3
 enum-told-3 c = search needs
@@ -40,23 +40,11 @@ enum-told-5 c = search needs
 no-sizes-requires-5 : tie.Need-no-sizes-requires-5
 no-sizes-requires-5 c κs = search needs
 
-enum-known-phase-2 : tie.Need-enum-known-phase-2
-enum-known-phase-2 c = search needs
-
-commit-sizes-requires : tie.Need-commit-sizes-requires
-commit-sizes-requires c κs = search needs
-
 enum-told-6 : tie.Need-enum-told-6
 enum-told-6 c = search needs
 
 no-sizes-requires-6 : tie.Need-no-sizes-requires-6
 no-sizes-requires-6 c κs = search needs
-
-enum-known-phase-3 : tie.Need-enum-known-phase-3
-enum-known-phase-3 c = search needs
-
-shift-sizes-requires : tie.Need-shift-sizes-requires
-shift-sizes-requires c κs = search needs
 
 enum-told-7 : tie.Need-enum-told-7
 enum-told-7 c = search needs
@@ -76,14 +64,26 @@ enum-told-9 c = search needs
 no-sizes-requires-9 : tie.Need-no-sizes-requires-9
 no-sizes-requires-9 c κs = search needs
 
+enum-told-10 : tie.Need-enum-told-10
+enum-told-10 c = search needs
+
+no-sizes-requires-10 : tie.Need-no-sizes-requires-10
+no-sizes-requires-10 c κs = search needs
+
+enum-told-11 : tie.Need-enum-told-11
+enum-told-11 c = search needs
+
+no-sizes-requires-11 : tie.Need-no-sizes-requires-11
+no-sizes-requires-11 c κs = search needs
+
 returns : tie.Need-returns
 returns c = c .no-sizes .ensures ∙ simp (c .before .enum-told .given .1)
 
 returns-2 : tie.Need-returns-2
-returns-2 c = c .look-sizes .ensures ∙ simp (c .before .before .phase .given .1)
+returns-2 c = c .no-sizes2 .ensures ∙ simp (c .before .enum-told2 .given .1)
 
 returns-3 : tie.Need-returns-3
-returns-3 c = c .no-sizes2 .ensures ∙ simp (c .before .enum-told2 .given .1)
+returns-3 c = c .shift-sizes .ensures ∙ simp (c .before .before .phase .given .1)
 
 returns-4 : tie.Need-returns-4
 returns-4 c = c .no-sizes3 .ensures ∙ simp (c .before .enum-told3 .given .1)
@@ -95,22 +95,22 @@ returns-6 : tie.Need-returns-6
 returns-6 c = c .no-sizes5 .ensures ∙ simp (c .before .enum-told5 .given .1)
 
 returns-7 : tie.Need-returns-7
-returns-7 c = c .commit-sizes .ensures ∙ simp (c .before .before .phase2 .given .1)
+returns-7 c = absurd (rw (c .before .enum-told6 .given .1) at (c .before .before .before .before .pre .1))
 
 returns-8 : tie.Need-returns-8
-returns-8 c = c .no-sizes6 .ensures ∙ simp (c .before .enum-told6 .given .1)
+returns-8 c = absurd (rw (c .before .enum-told7 .given .1) at (c .before .before .before .before .pre .1))
 
 returns-9 : tie.Need-returns-9
-returns-9 c = c .shift-sizes .ensures ∙ simp (c .before .before .phase3 .given .1)
+returns-9 c = absurd (rw (c .before .enum-told8 .given .1) at (c .before .before .before .before .pre .1))
 
 returns-10 : tie.Need-returns-10
-returns-10 c = c .no-sizes7 .ensures ∙ simp (c .before .enum-told7 .given .1)
+returns-10 c = absurd (rw (c .before .enum-told9 .given .1) at (c .before .before .before .before .pre .1))
 
 returns-11 : tie.Need-returns-11
-returns-11 c = c .no-sizes8 .ensures ∙ simp (c .before .enum-told8 .given .1)
+returns-11 c = absurd (rw (c .before .enum-told10 .given .1) at (c .before .before .before .before .pre .1))
 
 returns-12 : tie.Need-returns-12
-returns-12 c = c .no-sizes9 .ensures ∙ simp (c .before .enum-told9 .given .1)
+returns-12 c = absurd (rw (c .before .enum-told11 .given .1) at (c .before .before .before .before .pre .1))
 
 pub sizes-for-spec : {M : Type 1} → statement M
 sizes-for-spec =
@@ -118,28 +118,28 @@ sizes-for-spec =
     (tie.spec
     enum-told
     no-sizes-requires
-    enum-known-phase
-    look-sizes-requires
     enum-told-2
     no-sizes-requires-2
+    enum-known-phase
+    shift-sizes-requires
     enum-told-3
     no-sizes-requires-3
     enum-told-4
     no-sizes-requires-4
     enum-told-5
     no-sizes-requires-5
-    enum-known-phase-2
-    commit-sizes-requires
     enum-told-6
     no-sizes-requires-6
-    enum-known-phase-3
-    shift-sizes-requires
     enum-told-7
     no-sizes-requires-7
     enum-told-8
     no-sizes-requires-8
     enum-told-9
     no-sizes-requires-9
+    enum-told-10
+    no-sizes-requires-10
+    enum-told-11
+    no-sizes-requires-11
     returns
     returns-2
     returns-3

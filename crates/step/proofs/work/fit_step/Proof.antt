@@ -3,6 +3,7 @@ use mathlib.Core.Path.{_∙_}
 use borrow.Author.Tests.{le-leb, lt-leb}
 use Rattle.laws.specs.Choice.{cond}
 use Rattle.rules.specs.Step.{fitStep}
+use Rattle.rules.specs.Worker.{slotAt}
 use borrow.Author.Needs.{needs}
 use Rattle.rules.proofs.Workers.{worker-lent}
 use Rattle.step.proofs.work.fit_step.Statement.{statement}
@@ -16,11 +17,17 @@ worker-at-requires : tie.Need-worker-at-requires
 worker-at-requires c κs = search needs
 
 slot-step-requires : tie.Need-slot-step-requires
+unfolding slotAt
 slot-step-requires c κs =
     let s = c .before .before .before .before .before in
     let l = c .before .before .if1 .left in
     let at = c .worker-at .ensures in
-    (s .pre, (rw at (worker-lent (s .args .g) _ (s .args .i) l (s .pre .enough)), (rw at (s .pre .index (s .args .i) l), rw at (s .pre .span (s .args .i) l))))
+    record {
+      fit = s .pre;
+      lent = rw at (worker-lent (s .args .g) _ (s .args .i) l (s .pre .enough));
+      index = rw at (s .pre .index (s .args .i) l);
+      span = rw at (s .pre .span (s .args .i) l);
+    }
 
 same-length : tie.Need-same-length
 same-length c = search needs
