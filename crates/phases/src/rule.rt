@@ -1,4 +1,4 @@
-// Which rule a phase takes that few steps find a worker in: a check, a shift, a confirm. The others' rules are called by who has read the phase already.
+// Which rule a late phase takes: the check, the shifts and the confirms. A step calls the rules of the other phases itself, by the phase's number.
 use crate::check::check;
 use effects::refused;
 use misses::queue_confirm;

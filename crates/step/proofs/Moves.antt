@@ -38,9 +38,9 @@ use Rattle.rules.specs.declared.Outcome.{Outcome}
 use Rattle.rules.specs.declared.Outcome.the-variants.{Refused, Moving, Lost, Shifted, Raised, Dropped, Landed, Removed, Empty, Full}
 use Rattle.phases.specs.Late.{Late}
 use Rattle.step.specs.Allowed.{Allowed, Commits}
-use Rattle.step.specs.ByPhase.{viewBy, effectBy, ruleStep}
+use Rattle.step.specs.ByPhase.{effectBy, ruleStep}
 use Rattle.step.proofs.Numbers.{window-is, put-read-is, take-read-is, stack-read-is, queue-commit-is, stack-commit-is}
-use Rattle.step.proofs.Seen.{OfQueue, OfStack, of-phase}
+use Rattle.step.proofs.Seen.{of-phase}
 
 -- ---- the phases
 -- a queue alone has a shift phase of this name
@@ -69,7 +69,7 @@ module _ (g : Settings) (v : View) where
   abbrev Goes : Effect → Type 0
   Goes e = e .outcome ≡ Moving
 
-  pub window-goes : (side : Side) → Goes (windowRule g v side)
+  window-goes : (side : Side) → Goes (windowRule g v side)
   unfolding windowRule
   window-goes side = cases Goes _ _ _ (λ e. refl) (λ e. refl)
 

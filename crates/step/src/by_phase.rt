@@ -1,6 +1,6 @@
-// A step of a worker by its phase. The phase is read first, and then what its rule asks of the worker's other words: in the window phase, the reads and the
-// commits, which every operation goes through, no more than that, and in the late phases all of them. Each function has one call, so that all of a step is inlined in
-// one place.
+// A step of a worker by its phase. The phase's number is read first. In the window phase, the reads and the commits, which every operation goes through, it
+// says which of the worker's other words a rule reads, and no others are; the late phases read them all. Each of these steps is called in one place, so that
+// the compiler inlines it there.
 use crate::apply::apply;
 use crate::apply::apply_commit;
 use crate::sizes::commit_sizes;
@@ -191,7 +191,7 @@ fn commit(words: &mut [u32], g: Settings, at: usize, side: Side) -> Answer
     apply_commit(words, g, at, kept.index, e)
 }
 
-// The phases after a pass that found no sub, and the check: few steps find a worker there.
+// A late phase: the shift and the confirm, after a pass that found no sub, and a stack's check.
 fn late(words: &mut [u32], g: Settings, at: usize) -> Answer
     requires { ⌜ Ready g (now words) at ⌝ }
     requires { ⌜ Late (phaseOf g (slotAt g (now words) at)) ⌝ }

@@ -1,7 +1,6 @@
 -- `step::by_phase::look_effect` meets its contract: the phase is the one that the number stands for, and the view has what its rule asks for.
-use mathlib.Core.Path.{ap, _∙_}
+use mathlib.Core.Path.{_∙_}
 use Rattle.rules.specs.Step.{ruleBy}
-use Rattle.rules.specs.declared.View.{View}
 use Rattle.step.proofs.Asked.{effect-is}
 use Rattle.step.proofs.Numbers.{window-is}
 use Rattle.step.proofs.Seen.{inside-as}

@@ -1,7 +1,6 @@
 -- `step::view::view` meets its contract: the worker is what its own words hold, and the sizes are those that its phase asks for.
 use mathlib.Core.Path.{ap, _∙_}
 use native.Mathlib.Omega.{arith}
-use Rattle.phases.specs.Late.{Late}
 use Rattle.rules.specs.Effects.{viewOf}
 use Rattle.rules.specs.Windows.{sizesOf}
 use Rattle.rules.specs.Worker.{slotAt, decode}
