@@ -45,8 +45,8 @@ fn fit_step(words: &mut [u32], g: Settings, i: u32) -> Answer
     slot_step(words, g, worker_at(g, i))
 }
 
-// A step of worker `i` of a fit pool: its answer's number, with the five fields written. C's step and the dispatcher share it, and all of a step is behind
-// it. It returns a number, in a register; an answer, and settings handed to it, would go through memory at every step.
+// A step of worker `i` of a fit pool: its answer's number, with the five fields written. All of a step is behind it, and it becomes a part of the one function
+// behind begins and steps (crate calls). It returns a number, in a register; an answer, and settings handed to it, would go through memory at every step.
 pub fn fit_answer(words: &mut [u32], i: u32, five: &mut [u32; 5]) -> u32
     requires { ⌜ checkedOf shipped (now words) ≡ Fit (settingsOf (now words)) ⌝ }
     ensures { λ r. ⌜ returned r (now (words .exit)) (now (five .exit)) ≡ returnedOf (fitStep (now (words .entry)) (settingsOf (now (words .entry))) i) ⌝ }
