@@ -1,5 +1,6 @@
 // Quick looks for the check before a call. What a pool has as a rule is asked for first, and all of a rule only where that is not so: that each window of a
 // queue has the pool's size, and that no sub's last taken row is below the take window's bottom.
+use crate::refusals::body_refusal;
 use image::LIVE;
 use image::MARK;
 use image::NEXT_WIDTH;
@@ -10,16 +11,16 @@ use image::TOP;
 use image::WINDOWS_WORDS;
 use image::as_shipped;
 use image::in_edition;
-use image::shipped_settings;
 use image::sub_of;
 use image::windows_at;
 use image::words_needed;
 use limits::settings_fit;
 use rules::Settings;
 use rules::numbers::MOST_LIVE;
+use rules::numbers::NOT_FIT;
 use rules::numbers::SHIPPED;
+use rules::numbers::TOO_FEW_WORDS;
 use shared_fitness::lowest;
-use shared_fitness::shared_fit;
 use shared_fitness::zeros;
 use std::num::wrapping_sub_u64;
 use worker_fitness::every_fit;
@@ -29,8 +30,9 @@ ghost use Prim.Native.Nat.{ℕ, _+_, _*_, _<_, _≤_};
 ghost use lib.ListN.{length};
 ghost use Rattle.fitness.specs.Alike.{bitsOf, bitsAt, wantedBits};
 ghost use Rattle.laws.specs.Choice.{both, fourFrom};
-ghost use Rattle.rules.specs.Fit.{Fit, subFit, subsFit, windowsFit, bodyChecked, headChecked};
-ghost use Rattle.rules.specs.Layout.{firstOf, secondOf, pairWords, pairAt, windowsAt, needed, settingsOf};
+ghost use Rattle.rules.specs.Answers.{notFit};
+ghost use Rattle.rules.specs.Fit.{subFit, subsFit, windowsFit, bodyChecked, headChecked, refusalOf};
+ghost use Rattle.rules.specs.Layout.{firstOf, secondOf, pairWords, pairAt, windowsAt, needed, headWords, settingsOf};
 ghost use Rattle.rules.specs.Limits.{Bounds, mostLive};
 ghost use Rattle.rules.specs.Make.{shipped};
 
@@ -211,58 +213,46 @@ fn plain_subs(words: &[u32], g: Settings) -> bool
     true
 }
 
-// The whole check of what the workers share, where a quick look does not tell. It reads the settings itself: handed to it, they would go through memory at
-// every call.
-fn whole_fit(words: &[u32]) -> bool
-    requires { ⌜ Bounds (settingsOf (now words)) ⌝ }
-    requires { ⌜ (needed (settingsOf (now words)) ≤ length (now words)) × (settingsOf (now words) .edition ≡ shipped) ⌝ }
-    ensures { λ r. ⌜ r ≡ both (windowsFit (now (words .entry)) (settingsOf (now (words .entry)))) (subsFit (now (words .entry)) (settingsOf (now (words .entry)))) ⌝ }
-{
-    shared_fit(words, shipped_settings(words))
-}
-
-// Whether what the workers share is fit, by a quick look or by all of it.
-fn quick_shared(words: &[u32], g: Settings) -> bool
+// Whether a quick look finds what the workers share fit.
+fn plain_shared(words: &[u32], g: Settings) -> bool
     requires { ⌜ Bounds g ⌝ }
     requires { ⌜ (needed g ≤ length (now words)) × (g .edition ≡ shipped) ⌝ }
-    requires { ⌜ g ≡ settingsOf (now words) ⌝ }
     ensures { λ r. ⌜ (r ≡ true → both (windowsFit (now (words .entry)) g) (subsFit (now (words .entry)) g) ≡ true) ⌝ }
 {
     if plain_windows(words, g) {
-        if plain_subs(words, g) {
-            return true;
-        }
+        return plain_subs(words, g);
     }
-    whole_fit(&words[..])
+    false
 }
 
-// Whether all words behind the head are fit.
-fn quick_body(words: &[u32], g: Settings) -> bool
+// The number of the refusal of what is behind the head, else 0: by quick looks, and by the whole check of it where they do not tell, which reads the settings
+// itself. Handed to it, they would be kept for it at every call.
+fn quick_body(words: &[u32], g: Settings) -> u32
     requires { ⌜ Bounds g ⌝ }
-    requires { ⌜ g .edition ≡ shipped ⌝ }
+    requires { ⌜ (headWords ≤ length (now words)) × (g .edition ≡ shipped) ⌝ }
     requires { ⌜ g ≡ settingsOf (now words) ⌝ }
-    ensures { λ r. ⌜ (r ≡ true → bodyChecked (now (words .entry)) g ≡ Fit g) ⌝ }
+    ensures { λ r. ⌜ r ≡ refusalOf (bodyChecked (now (words .entry)) g) ⌝ }
 {
     if words.len() < words_needed(g) {
-        return false;
+        return TOO_FEW_WORDS;
     }
-    if quick_shared(words, g) {
-        return every_fit(words, g);
-    }
-    false
-}
-
-// Whether the words are a fit pool of the edition, and that the shipped one, which is told to the compiler.
-pub fn quick_pool(words: &[u32], g: Settings, edition: u32) -> bool
-    requires { ⌜ g ≡ settingsOf (now words) ⌝ }
-    ensures { λ r. ⌜ (r ≡ true → (other : ℕ) → headChecked other edition (now (words .entry)) g ≡ Fit g) ⌝ }
-{
-    if edition == SHIPPED {
-        if settings_fit(in_edition(g, edition)) {
-            if g.edition == SHIPPED {
-                return quick_body(words, as_shipped(g));
-            }
+    if plain_shared(words, g) {
+        if every_fit(words, g) {
+            return 0;
         }
     }
-    false
+    body_refusal(&words[..])
+}
+
+// The same with the head, of the shipped edition, which is told to the compiler.
+pub fn quick_head(words: &[u32], g: Settings) -> u32
+    requires { ⌜ (headWords ≤ length (now words)) × (g ≡ settingsOf (now words)) ⌝ }
+    ensures { λ r. ⌜ r ≡ refusalOf (headChecked notFit shipped (now (words .entry)) g) ⌝ }
+{
+    if settings_fit(in_edition(g, SHIPPED)) {
+        if g.edition == SHIPPED {
+            return quick_body(words, as_shipped(g));
+        }
+    }
+    NOT_FIT
 }

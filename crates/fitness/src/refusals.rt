@@ -1,5 +1,5 @@
 // The order of the refusals before a call, and of a move's source.
-use crate::quick::quick_pool;
+use crate::quick::quick_head;
 use image::HEAD_WORDS;
 use image::in_edition;
 use image::settings;
@@ -7,19 +7,24 @@ use image::words_needed;
 use limits::settings_fit;
 use rules::Settings;
 use rules::numbers::NOT_FIT;
+use rules::numbers::SHIPPED;
 use rules::numbers::TOO_FEW_WORDS;
 use rules::numbers::WRONG_EDITION;
 use shared_fitness::shared_fit;
 use worker_fitness::workers_fit;
 ghost use mathlib.Core.Path.{_≡_};
+ghost use Prim.Native.Nat.{_≤_};
+ghost use lib.ListN.{length};
 ghost use Rattle.rules.specs.Fit.{bodyChecked, headChecked, checkedBy, checkedOf, sourceChecked, refusalOf};
+ghost use Rattle.rules.specs.Layout.{headWords, settingsOf};
 ghost use Rattle.rules.specs.Limits.{Bounds};
 
 // The words needed, then what the workers share, then the workers.
-fn body_refusal(words: &[u32], g: Settings) -> u32
-    requires { ⌜ Bounds g ⌝ }
-    ensures { λ r. ⌜ r ≡ refusalOf (bodyChecked (now (words .entry)) g) ⌝ }
+pub fn body_refusal(words: &[u32]) -> u32
+    requires { ⌜ (headWords ≤ length (now words)) × Bounds (settingsOf (now words)) ⌝ }
+    ensures { λ r. ⌜ r ≡ refusalOf (bodyChecked (now (words .entry)) (settingsOf (now (words .entry)))) ⌝ }
 {
+    let g = settings(words);
     if words.len() < words_needed(g) {
         return TOO_FEW_WORDS;
     }
@@ -33,11 +38,12 @@ fn body_refusal(words: &[u32], g: Settings) -> u32
 
 // The settings by the edition asked for, then the edition, which has a number of its own to refuse another, then the above.
 fn head_refusal(words: &[u32], g: Settings, edition: u32, other: u32) -> u32
+    requires { ⌜ (headWords ≤ length (now words)) × (g ≡ settingsOf (now words)) ⌝ }
     ensures { λ r. ⌜ r ≡ refusalOf (headChecked other edition (now (words .entry)) g) ⌝ }
 {
     if settings_fit(in_edition(g, edition)) {
         if g.edition == edition {
-            return body_refusal(words, g);
+            return body_refusal(words);
         }
         return other;
     }
@@ -68,10 +74,10 @@ pub fn quick_refusal(words: &[u32], edition: u32) -> u32
     if words.len() < HEAD_WORDS {
         return TOO_FEW_WORDS;
     }
-    if quick_pool(words, settings(words), edition) {
-        return 0;
+    if edition == SHIPPED {
+        return quick_head(words, settings(words));
     }
-    refusal(&words[..], edition)
+    refusal(words, edition)
 }
 
 // The same of the source of a move from an edition, in full.

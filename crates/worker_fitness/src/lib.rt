@@ -123,27 +123,9 @@ fn worker_fit(words: &[u32], g: Settings, at: usize) -> bool
     phase_fit(g.kind, x) & ((width <= g.width) & (inside & stack_unseen(words, g, at)))
 }
 
-// Whether every worker is fit, in any edition.
-pub fn workers_fit(words: &[u32], g: Settings) -> bool
-    requires { ⌜ Bounds g ⌝ }
-    requires { ⌜ needed g ≤ length (now words) ⌝ }
-    ensures { λ r. ⌜ r ≡ workersFit (now (words .entry)) g ⌝ }
-{
-    let n = g.workers;
-    let mut i: u32 = 0;
-    while i < n {
-        if worker_fit(words, g, worker_at(g, i)) {
-            i += 1;
-        } else {
-            return false;
-        }
-    }
-    true
-}
-
-// Whether the worker at `at` is idle and fit, in the shipped edition.
+// Whether the worker at `at` is idle and fit.
 fn idle_fit(words: &[u32], g: Settings, at: usize) -> bool
-    requires { ⌜ (at + workerWords (g .edition) ≤ length (now words)) × (g .edition ≡ shipped) ⌝ }
+    requires { ⌜ at + workerWords (g .edition) ≤ length (now words) ⌝ }
     ensures { λ r. ⌜ (r ≡ true → workerFit g (slotAt g (now (words .entry)) at) ≡ true) ⌝ }
 {
     if words[at] != IDLE {
@@ -151,10 +133,7 @@ fn idle_fit(words: &[u32], g: Settings, at: usize) -> bool
     }
     if words[at + INDEX] < g.width {
         if words[at + SCAN] < g.width {
-            if g.kind == 0 {
-                return true;
-            }
-            return (words[at + BOTTOM] | words[at + SEEN_WIDTH]) == 0;
+            return stack_unseen(words, g, at);
         }
     }
     false
@@ -163,8 +142,7 @@ fn idle_fit(words: &[u32], g: Settings, at: usize) -> bool
 // The first worker from `first` on that is not idle and fit, or how many there are. The idle ones, which are many as a rule, are passed in a short loop.
 fn not_idle_from(words: &[u32], g: Settings, first: u32) -> u32
     requires { ⌜ Bounds g ⌝ }
-    requires { ⌜ (needed g ≤ length (now words)) × (g .edition ≡ shipped) ⌝ }
-    requires { ⌜ first ≤ g .workers ⌝ }
+    requires { ⌜ (needed g ≤ length (now words)) × (first ≤ g .workers) ⌝ }
     ensures { λ r. ⌜ (first ≤ r) × (r ≤ g .workers) × (allBelow first (λ i. workerFit g (slotAt g (now (words .entry)) (workerAt g i))) ≡ true → allBelow r (λ i. workerFit g (slotAt g (now (words .entry)) (workerAt g i))) ≡ true) ⌝ }
 {
     let n = g.workers;
@@ -177,6 +155,24 @@ fn not_idle_from(words: &[u32], g: Settings, first: u32) -> u32
         }
     }
     i
+}
+
+// Whether every worker is fit, in any edition.
+pub fn workers_fit(words: &[u32], g: Settings) -> bool
+    requires { ⌜ Bounds g ⌝ }
+    requires { ⌜ needed g ≤ length (now words) ⌝ }
+    ensures { λ r. ⌜ r ≡ workersFit (now (words .entry)) g ⌝ }
+{
+    let n = g.workers;
+    let mut i = not_idle_from(words, g, 0);
+    while i < n {
+        if worker_fit(words, g, worker_at(g, i)) {
+            i = not_idle_from(words, g, i + 1);
+        } else {
+            return false;
+        }
+    }
+    true
 }
 
 // Whether word `k` of a worker is fit, whose index and scan lie below a width.

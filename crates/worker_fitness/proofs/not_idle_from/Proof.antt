@@ -25,7 +25,7 @@ worker-at-requires c κs = search needs
 idle-fit-requires : tie.Need-idle-fit-requires Inv-loop μ-loop
 idle-fit-requires c κs =
     let s = c .before .before .before .before in
-    (rw (c .worker-at .ensures) (omega (arith, worker-within (s .args .g) (c .before .before .loop .i) (c .before .loop-test .taken), s .pre .1 .0 .0)), s .pre .1 .0 .1)
+    rw (c .worker-at .ensures) (omega (arith, worker-within (s .args .g) (c .before .before .loop .i) (c .before .loop-test .taken), s .pre .1 .0))
 
 add-i : tie.Need-add-i Inv-loop μ-loop
 add-i c = search needs

@@ -3,13 +3,13 @@
 use Rattle.fitness.proofs.Heads.{asked, own-bounds}
 use borrow.Author.Tests.{eq-eqb, ne-eqb}
 use Prim.Native.Nat.{ℕ}
-use mathlib.Core.Path.{_≡_, _∙_}
+use mathlib.Core.Path.{_≡_, sym, ap, subst, _∙_}
 use mathlib.Core.Bool.{true}
 use mathlib.Core.List.{List}
 use borrow.Author.Needs.{needs}
-use Rattle.rules.specs.Fit.{headChecked, refusalOf}
+use Rattle.rules.specs.Fit.{bodyChecked, headChecked, refusalOf}
 use Rattle.rules.specs.Make.{inEdition}
-use Rattle.rules.specs.Limits.{settingsFit}
+use Rattle.rules.specs.Limits.{settingsFit, Bounds}
 use Rattle.rules.specs.declared.Settings.{Settings}
 use Rattle.laws.specs.Choice.{cond}
 use Rattle.fitness.proofs.refusals.head_refusal.Statement.{statement}
@@ -28,12 +28,15 @@ in-edition-requires c κs = search needs
 
 body-refusal-requires : tie.Need-body-refusal-requires
 body-refusal-requires c κs =
-    own-bounds _ _ (asked (c .before .before .before .before .before .before .args .g) _ _ (c .before .before .before .before .in-edition .ensures) (c .before .before .before .settings-fit .ensures) (c .before .before .if1 .taken)) (c .if2 .taken)
+    let s = c .before .before .before .before .before .before in
+    (s .pre .0, subst Bounds (s .pre .1) (own-bounds _ _ (asked (c .before .before .before .before .before .before .args .g) _ _ (c .before .before .before .before .in-edition .ensures) (c .before .before .before .settings-fit .ensures) (c .before .before .if1 .taken)) (c .if2 .taken)))
 
 returns : tie.Need-returns
 unfolding headChecked cond
 returns c =
+    let s = c .before .before .before .before .before .before .before in
     c .body-refusal .ensures
+    ∙ ap (λ (g : Settings). refusalOf (bodyChecked (s .args .words .now) g)) (sym (s .pre .1))
     ∙ simp (
       asked (c .before .before .before .before .before .before .before .args .g) _ _ (c .before .before .before .before .before .in-edition .ensures) (c .before .before .before .before .settings-fit .ensures) (c .before .before .before .if1 .taken),
       eq-eqb _ _ (c .before .if2 .taken),
