@@ -10,9 +10,16 @@ use Rattle.rules.specs.Step.{stepOf}
 use Rattle.rules.specs.declared.Side.{Side}
 use Rattle.rules.specs.declared.Side.the-variants.{Putting, Taking}
 
+-- the numbers from which on it is a step, and of a step that goes without the check
+abbrev pub stepAsked : ℕ
+stepAsked = 2
+
+abbrev pub checkedAsked : ℕ
+checkedAsked = 3
+
 -- whose begin it is
 abbrev pub sideFor : ℕ → Side
 sideFor what = cond (eqb what 0) Putting Taking
 
 unfoldable pub called : ℕ → List ℕ → ℕ → ℕ → Out
-called what ws i value = cond (ltb what 2) (beginOf shipped ws i (sideFor what) value) (stepOf shipped ws i)
+called what ws i value = cond (ltb what stepAsked) (beginOf shipped ws i (sideFor what) value) (stepOf shipped ws i)

@@ -9,7 +9,7 @@ use rules::numbers::SHIPPED;
 use step::answers::answered;
 use step::fit_answer;
 ghost use mathlib.Core.Path.{_≡_};
-ghost use Rattle.calls.specs.Called.{sideFor, called};
+ghost use Rattle.calls.specs.Called.{checkedAsked, sideFor, called};
 ghost use Rattle.rules.specs.Answers.{returned, returnedOf};
 ghost use Rattle.rules.specs.Begin.{fitBegin};
 ghost use Rattle.rules.specs.Fit.{Fit, checkedOf, refusalOf};
@@ -38,7 +38,7 @@ fn side_for(what: u32) -> Side
 
 // The number of the refusal where the words are no fit pool, else 0.
 fn check(words: &[u32], what: u32) -> u32
-    requires { ⌜ (what ≡ 3 → checkedOf shipped (now words) ≡ Fit (settingsOf (now words))) ⌝ }
+    requires { ⌜ (what ≡ checkedAsked → checkedOf shipped (now words) ≡ Fit (settingsOf (now words))) ⌝ }
     ensures { λ r. ⌜ r ≡ refusalOf (checkedOf shipped (now (words .entry))) ⌝ }
 {
     if what == CHECKED_STEP {
@@ -59,7 +59,7 @@ fn begun(words: &mut [u32], side: Side, i: u32, value: u32, five: &mut [u32; 5])
 
 // Does what is asked of worker `i`: the answer's number, with the five fields written.
 pub fn call(words: &mut [u32], what: u32, i: u32, value: u32, five: &mut [u32; 5]) -> u32
-    requires { ⌜ (what ≡ 3 → checkedOf shipped (now words) ≡ Fit (settingsOf (now words))) ⌝ }
+    requires { ⌜ (what ≡ checkedAsked → checkedOf shipped (now words) ≡ Fit (settingsOf (now words))) ⌝ }
     ensures { λ r. ⌜ returned r (now (words .exit)) (now (five .exit)) ≡ returnedOf (called what (now (words .entry)) i value) ⌝ }
 {
     let n = check(words, what);

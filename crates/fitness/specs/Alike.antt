@@ -1,5 +1,5 @@
--- Windows that are all of one size: where no call set another, or all that one was set before, the pairs of the live ones are equal. The check asks
--- for this first, since it is told by one look at all of them together, or, where the size is the pool's, by a number for each pair.
+-- Windows that are all of one size: where no call set another, the pairs of the live ones are equal. The check before a call asks for this first, since where
+-- the size is the pool's it is told by a number for each pair.
 use Prim.Native.Nat.{ℕ, _+_, _*_, _^_}
 use mathlib.Core.Bool.{Bool}
 use mathlib.Core.List.{List}
