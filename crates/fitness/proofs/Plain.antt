@@ -1,29 +1,25 @@
 -- What a plain pool has: a sub whose last taken row is not below the take window's bottom is held to that row, and windows that all have the pool's size are told by a
--- number for each.
+-- number for each, and the take window's bottom by T and the pool's depth.
 use Prim.Native.Nat.{ℕ, _+_, _*_, _-_, _%_, _^_, _≤_, _<_}
 use mathlib.Core.Path.{_≡_, refl, sym, ap, _∙_}
 use mathlib.Core.List.{List}
 use mathlib.Core.Bool.{Bool, true, false}
-use native.Mathlib.Decide.{decLt}
 use native.Mathlib.Nat.{le-refl, add-zero}
 use native.Mathlib.Omega.{arith}
 use lib.Dec.{ltb, leb, eqb}
 use lib.ListN.{getD}
-use borrow.Author.Tests.{lt-ltb, le-ltb, le-leb, eq-eqb, eqb-false, leb-true}
-use Rattle.laws.specs.Choice.{cond, cond-true, cond-false, both, allBelow}
-use Rattle.rules.specs.Fit.{phaseFit, pastWindow, pairFit, subFit, windowsFit, workerFit}
+use borrow.Author.Tests.{lt-ltb, le-leb, eq-eqb, eqb-false, leb-true}
+use Rattle.laws.specs.Choice.{cond, both, allBelow}
+use Rattle.rules.specs.Fit.{pairFit, subFit, windowsFit}
 use Rattle.rules.specs.Layout.{markAt, topAt, setAt, windowsAt, pairsAt, pairWords, pairAt}
-use Rattle.rules.proofs.Workers.{windowed-is, windows-some}
 use Rattle.rules.specs.Limits.{Bounds, windowed, deepest, mostLive, sizeFit}
-use Rattle.rules.specs.Make.{shipped}
 use Rattle.rules.specs.Windows.{hasWindows, sizeOf, noSize, nextSize, liveOf, nthSize, bottomOf, levelOf}
 use Rattle.rules.specs.declared.Settings.{Settings}
 use Rattle.rules.specs.declared.Size.{Size}
-use Rattle.rules.specs.declared.Slot.{Slot}
-use Rattle.fitness.specs.Alike.{wantedSize, sameSize, bitsOf, bitsAt, wantedBits}
+use Rattle.fitness.specs.Alike.{bitsOf, bitsAt, wantedBits}
+use Rattle.fitness.specs.Plain.{plainBottom}
 use Rattle.fitness.proofs.Bits.{wanted-live, wanted-none}
-use Rattle.laws.specs.Looks.{all-hold}
-use Rattle.fitness.proofs.OneSize.{allAlike, pairs-alike, tops-alike}
+use Rattle.fitness.proofs.OneSize.{pairs-alike, tops-alike}
 
 -- ---- a sub
 pub level-is : (g : Settings) (last bottom : ℕ) → bottom ≤ last → levelOf g last bottom ≡ last
@@ -83,37 +79,35 @@ module _ (ws : List ℕ) (g : Settings) (bounds : Bounds g) (small : (i : ℕ) �
     none-size : (k : ℕ) → liveOf ws g ≤ k → k < mostLive → nthSize ws g k ≡ noSize
     none-size k l m = none-by (pairAt g k) (wanted k m ∙ wanted-none (liveOf ws g) poolBits k l)
 
-    size-same : (a b : Size) → a ≡ b → sameSize a b ≡ true
-    size-same a b e = rw (eq-eqb (a .width) (b .width) (ap (λ (x : Size). x .width) e), eq-eqb (a .depth) (b .depth) (ap (λ (x : Size). x .depth) e)) refl
+    as-first : (k : ℕ) → k < liveOf ws g → nthSize ws g k ≡ nthSize ws g 0
+    as-first k l = live-size k l ∙ sym (live-size 0 some)
 
-    all-alike : allAlike ws g most ≡ true
-    all-alike = all-hold mostLive (λ k. sameSize (nthSize ws g k) (wantedSize (liveOf ws g) (nthSize ws g 0) k)) each
-      where
-        each : (k : ℕ) → k < mostLive → sameSize (nthSize ws g k) (wantedSize (liveOf ws g) (nthSize ws g 0) k) ≡ true
-        each k l =
-            elim (decLt k (liveOf ws g)) [
-              | yes a ↦ size-same _ _ (live-size k a ∙ sym (live-size 0 some) ∙ sym (rw (lt-ltb k (liveOf ws g) a) (cond-true _ _)))
-              | no a ↦ size-same _ _ (none-size k (omega (arith, a)) l ∙ sym (rw (le-ltb k (liveOf ws g) (omega (arith, a))) (cond-false _ _)))
-            ]
-
-    pub windows-plain : hasWindows g ≡ true → getD ws (setAt g) 0 ≤ 1 → g .depth ≤ getD ws markAt 0 → getD ws markAt 0 - g .depth + liveOf ws g * g .depth ≡ getD ws topAt 0 → bitsAt ws (windowsAt g) ≡ poolBits
+    pub windows-plain : hasWindows g ≡ true → getD ws (setAt g) 0 ≡ 0 → g .depth ≤ getD ws markAt 0 → getD ws markAt 0 - g .depth + liveOf ws g * g .depth ≡ getD ws topAt 0 → bitsAt ws (windowsAt g) ≡ poolBits
         → windowsFit ws g ≡ true
     unfolding windowsFit cond bottomOf
     windows-plain has set low lead next =
         let deep : nthSize ws g 0 .depth ≡ g .depth = ap (λ (x : Size). x .depth) (live-size 0 some) in
         let fits = pool-size-fits g bounds in
         let next-fits : sizeFit g (nextSize ws g) ≡ true = ap (sizeFit g) (size-by (windowsAt g) next) ∙ fits in
-        let pairs : allBelow mostLive (pairFit ws g) ≡ true = pairs-alike ws g most all-alike some ∙ ap (sizeFit g) (live-size 0 some) ∙ fits in
-        rw (has, le-leb (getD ws (setAt g) 0) 1 set, le-leb 1 (liveOf ws g) some, le-leb (liveOf ws g) mostLive most, next-fits, pairs, le-leb (nthSize ws g 0 .depth) (getD ws markAt 0) (omega (arith, deep, low)), eq-eqb (bottomOf ws g (liveOf ws g)) (getD ws topAt 0) (reaches low lead deep))
+        let pairs : allBelow mostLive (pairFit ws g) ≡ true = pairs-alike ws g as-first some most none-size ∙ ap (sizeFit g) (live-size 0 some) ∙ fits in
+        rw (has, le-leb (getD ws (setAt g) 0) 1 (omega (arith, set)), le-leb 1 (liveOf ws g) some, le-leb (liveOf ws g) mostLive most, next-fits, pairs, le-leb (nthSize ws g 0 .depth) (getD ws markAt 0) (omega (arith, deep, low)), eq-eqb (bottomOf ws g (liveOf ws g)) (getD ws topAt 0) (reaches low lead deep))
         refl
       where
         reaches : g .depth ≤ getD ws markAt 0 → getD ws markAt 0 - g .depth + liveOf ws g * g .depth ≡ getD ws topAt 0 → nthSize ws g 0 .depth ≡ g .depth → bottomOf ws g (liveOf ws g) ≡ getD ws topAt 0
-        reaches low lead deep = tops-alike ws g most all-alike (liveOf ws g) (le-refl (liveOf ws g)) ∙ rw deep lead
+        reaches low lead deep = tops-alike ws g as-first (liveOf ws g) (le-refl (liveOf ws g)) ∙ rw deep lead
+
+    -- the take window is as deep as the pool, so its bottom is the plain one
+    pub bottom-plain : g .kind ≡ 0 → plainBottom ws g ≡ bottomOf ws g 0
+    unfolding plainBottom cond bottomOf
+    bottom-plain queue = rw (eq-eqb (g .kind) 0 queue, ap (λ (x : Size). x .depth) (live-size 0 some)) refl
 
 -- the same, where the words of the windows start at a place that was worked out before
-pub windows-plain-at : (ws : List ℕ) (g : Settings) → Bounds g → ((i : ℕ) → getD ws i 0 < 2 ^ 32) → hasWindows g ≡ true → (at x : ℕ) → at ≡ windowsAt g → x ≡ bitsOf (g .width) (g .depth)
+pub windows-plain-at : (ws : List ℕ) (g : Settings) → Bounds g → ((i : ℕ) → getD ws i 0 < 2 ^ 32) → g .kind ≡ 0 → hasWindows g ≡ true → (at x : ℕ) → at ≡ windowsAt g → x ≡ bitsOf (g .width) (g .depth)
     → 1 ≤ getD ws (at + 3) 0 → getD ws (at + 3) 0 ≤ mostLive → ((k : ℕ) → k < mostLive → bitsAt ws (at + 4 + pairWords * k) ≡ wantedBits (getD ws (at + 3) 0) x k)
-    → getD ws (at + 2) 0 ≤ 1 → g .depth ≤ getD ws markAt 0 → getD ws markAt 0 - g .depth + getD ws (at + 3) 0 * g .depth ≡ getD ws topAt 0 → bitsAt ws (at + 0) ≡ x
-    → windowsFit ws g ≡ true
-windows-plain-at ws g bounds small has at x e f some most wanted set low lead next =
-    windows-plain ws g bounds small (rw e at some) (rw e at most) (λ k l. rw (e, f) at (wanted k l)) has (rw e at set) low (rw e at lead) (rw (add-zero at, e, f) at next)
+    → getD ws (setAt g) 0 ≡ 0 → g .depth ≤ getD ws markAt 0 → getD ws markAt 0 - g .depth + getD ws (at + 3) 0 * g .depth ≡ getD ws topAt 0 → bitsAt ws (at + 0) ≡ x
+    → (windowsFit ws g ≡ true) × (plainBottom ws g ≡ bottomOf ws g 0)
+windows-plain-at ws g bounds small queue has at x e f some most wanted set low lead next =
+    let pairs : (k : ℕ) → k < mostLive → bitsAt ws (pairsAt g + pairWords * k) ≡ wantedBits (liveOf ws g) (bitsOf (g .width) (g .depth)) k = λ k l. rw (e, f) at (wanted k l) in (
+      windows-plain ws g bounds small (rw e at some) (rw e at most) pairs has set low (rw e at lead) (rw (add-zero at, e, f) at next),
+      bottom-plain ws g bounds small (rw e at some) (rw e at most) pairs queue,
+    )

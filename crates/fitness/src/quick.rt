@@ -1,12 +1,12 @@
-// Quick looks for the check before a call. What a pool has as a rule is asked for first, and all of a rule only where that is not so: that each window of a
-// queue has the pool's size, and that no sub's last taken row is below the take window's bottom.
+// Quick looks for the check before a call. What a pool has where no size was set is asked for first, and all of a rule only where that is not so: that each
+// window of a queue has the pool's size, and that no sub's last taken row is below the take window's bottom. The windows come last: the compiler keeps what
+// the looks at subs and workers go by in registers, which those at the windows want for themselves.
 use crate::refusals::body_refusal;
 use image::LIVE;
 use image::MARK;
 use image::NEXT_WIDTH;
 use image::PAIR_WORDS;
 use image::PAIRS;
-use image::SIZE_SET;
 use image::TOP;
 use image::WINDOWS_WORDS;
 use image::as_shipped;
@@ -15,26 +15,28 @@ use image::sub_of;
 use image::windows_at;
 use image::words_needed;
 use limits::settings_fit;
+use queue_windows::size_set;
 use rules::Settings;
 use rules::numbers::MOST_LIVE;
 use rules::numbers::NOT_FIT;
 use rules::numbers::SHIPPED;
 use rules::numbers::TOO_FEW_WORDS;
-use shared_fitness::lowest;
 use shared_fitness::zeros;
 use std::num::wrapping_sub_u64;
 use worker_fitness::every_fit;
 ghost use mathlib.Core.Bool.{true};
 ghost use mathlib.Core.Path.{_≡_};
 ghost use Prim.Native.Nat.{ℕ, _+_, _*_, _<_, _≤_};
-ghost use lib.ListN.{length};
+ghost use lib.ListN.{getD, length};
 ghost use Rattle.fitness.specs.Alike.{bitsOf, bitsAt, wantedBits};
-ghost use Rattle.laws.specs.Choice.{both, fourFrom};
+ghost use Rattle.fitness.specs.Plain.{plainBottom, subsFitAbove};
+ghost use Rattle.laws.specs.Choice.{cond, fourFrom};
 ghost use Rattle.rules.specs.Answers.{notFit};
-ghost use Rattle.rules.specs.Fit.{subFit, subsFit, windowsFit, bodyChecked, headChecked, refusalOf};
-ghost use Rattle.rules.specs.Layout.{firstOf, secondOf, pairWords, pairAt, windowsAt, needed, headWords, settingsOf};
+ghost use Rattle.rules.specs.Fit.{subFit, windowsFit, bodyChecked, headChecked, refusalOf};
+ghost use Rattle.rules.specs.Layout.{firstOf, secondOf, pairWords, pairAt, windowsAt, setAt, needed, headWords, settingsOf};
 ghost use Rattle.rules.specs.Limits.{Bounds, mostLive};
 ghost use Rattle.rules.specs.Make.{shipped};
+ghost use Rattle.rules.specs.Windows.{hasWindows, bottomOf};
 
 // Two words as one number.
 fn together(first: u32, second: u32) -> u64
@@ -110,20 +112,19 @@ fn alike(words: &[u32], at: usize, live: u32, x: u64) -> bool
     }
 }
 
-// Whether a queue's windows, of which the words start at `at`, and the next one all have the pool's size, and lead from T up to P.
+// Whether a queue's windows, of which the words start at `at`, and the next one all have the pool's size, and lead from T up to P. The bottom that the subs
+// were held to is then the take window's. That no size was set was asked for before.
 fn plain_sizes(words: &[u32], g: Settings, at: usize) -> bool
     requires { ⌜ Bounds g ⌝ }
     requires { ⌜ (at ≡ windowsAt g) × (pairAt g mostLive ≤ length (now words)) ⌝ }
     requires { ⌜ (g .kind ≡ 0) × (g .edition ≡ shipped) ⌝ }
-    ensures { λ r. ⌜ (r ≡ true → windowsFit (now (words .entry)) g ≡ true) ⌝ }
+    requires { ⌜ getD (now words) (setAt g) 0 ≡ 0 ⌝ }
+    ensures { λ r. ⌜ (r ≡ true → (windowsFit (now (words .entry)) g ≡ true) × (plainBottom (now (words .entry)) g ≡ bottomOf (now (words .entry)) g 0)) ⌝ }
 {
     let live = words[at + LIVE];
     let mark = words[MARK];
     let x = together(g.width, g.depth);
     if bits(words, at + NEXT_WIDTH) == x {
-        if 1 < words[at + SIZE_SET] {
-            return false;
-        }
         if live < 1 {
             return false;
         }
@@ -145,7 +146,8 @@ fn plain_sizes(words: &[u32], g: Settings, at: usize) -> bool
 fn plain_windows(words: &[u32], g: Settings) -> bool
     requires { ⌜ Bounds g ⌝ }
     requires { ⌜ (needed g ≤ length (now words)) × (g .edition ≡ shipped) ⌝ }
-    ensures { λ r. ⌜ (r ≡ true → windowsFit (now (words .entry)) g ≡ true) ⌝ }
+    requires { ⌜ getD (now words) (setAt g) 0 ≡ 0 ⌝ }
+    ensures { λ r. ⌜ (r ≡ true → (windowsFit (now (words .entry)) g ≡ true) × (plainBottom (now (words .entry)) g ≡ cond (hasWindows g) (bottomOf (now (words .entry)) g 0) 0)) ⌝ }
 {
     let at = windows_at(g);
     if g.kind == 0 {
@@ -187,13 +189,27 @@ fn plain_four(words: &[u32], g: Settings, bottom: u32, j: u32) -> bool
     false
 }
 
-// Whether all subs are so, four subs a turn: the test of one is shorter than a turn's own work.
+// The bottom of the take window, if it has the pool's depth: no sub is below it as a rule.
+fn plain_bottom(words: &[u32], g: Settings) -> u32
+    requires { ⌜ headWords ≤ length (now words) ⌝ }
+    ensures { λ r. ⌜ r ≡ plainBottom (now (words .entry)) g ⌝ }
+{
+    if g.kind == 0 {
+        let mark = words[MARK];
+        if g.depth <= mark {
+            return mark - g.depth;
+        }
+    }
+    0
+}
+
+// Whether all subs are so, held to that bottom, four subs a turn: the test of one is shorter than a turn's own work.
 fn plain_subs(words: &[u32], g: Settings) -> bool
     requires { ⌜ Bounds g ⌝ }
-    requires { ⌜ (needed g ≤ length (now words)) × (windowsFit (now words) g ≡ true) ⌝ }
-    ensures { λ r. ⌜ (r ≡ true → subsFit (now (words .entry)) g ≡ true) ⌝ }
+    requires { ⌜ needed g ≤ length (now words) ⌝ }
+    ensures { λ r. ⌜ (r ≡ true → subsFitAbove (now (words .entry)) g (plainBottom (now (words .entry)) g) ≡ true) ⌝ }
 {
-    let bottom = lowest(words, g);
+    let bottom = plain_bottom(words, g);
     let width = g.width;
     let mut j: u32 = 0;
     while j + 3 < width {
@@ -213,20 +229,8 @@ fn plain_subs(words: &[u32], g: Settings) -> bool
     true
 }
 
-// Whether a quick look finds what the workers share fit.
-fn plain_shared(words: &[u32], g: Settings) -> bool
-    requires { ⌜ Bounds g ⌝ }
-    requires { ⌜ (needed g ≤ length (now words)) × (g .edition ≡ shipped) ⌝ }
-    ensures { λ r. ⌜ (r ≡ true → both (windowsFit (now (words .entry)) g) (subsFit (now (words .entry)) g) ≡ true) ⌝ }
-{
-    if plain_windows(words, g) {
-        return plain_subs(words, g);
-    }
-    false
-}
-
-// The number of the refusal of what is behind the head, else 0: by quick looks, and by the whole check of it where they do not tell, which reads the settings
-// itself. Handed to it, they would be kept for it at every call.
+// The number of the refusal of what is behind the head, else 0: by quick looks where no size was set, and by the whole check of it where they do not tell,
+// which reads the settings itself. Handed to it, they would be kept for it at every call.
 fn quick_body(words: &[u32], g: Settings) -> u32
     requires { ⌜ Bounds g ⌝ }
     requires { ⌜ (headWords ≤ length (now words)) × (g .edition ≡ shipped) ⌝ }
@@ -236,9 +240,13 @@ fn quick_body(words: &[u32], g: Settings) -> u32
     if words.len() < words_needed(g) {
         return TOO_FEW_WORDS;
     }
-    if plain_shared(words, g) {
-        if every_fit(words, g) {
-            return 0;
+    if size_set(words, g) == 0 {
+        if plain_subs(words, g) {
+            if every_fit(words, g) {
+                if plain_windows(words, g) {
+                    return 0;
+                }
+            }
         }
     }
     body_refusal(&words[..])

@@ -1,28 +1,30 @@
 // The distance of a take: the held items of all subs that it passes over, spacers not counted, each band of a sub in at most two straight
 // runs of cells.
-use crate::bands::Band;
-use crate::bands::Reach;
-use crate::bands::reach_of;
-use crate::bands::whole_band;
-use crate::bands::window_band;
-use crate::segments::band_segments;
+use bands::Band;
+use bands::Reach;
+use bands::band_segments;
+use bands::between;
+use bands::joined_from;
+use bands::reach_of;
+use bands::whole_band;
 use image::CELL_WORDS;
 use image::Item;
 use image::cell_item;
 use image::sub_cells_at;
 use image::sub_of;
+use laws::num::higher;
+use laws::num::lower;
 use queue_windows::live_of;
 use queue_windows::nth_size;
-use queue_windows::take_bottom;
 use rules::Segment;
 use rules::Segments;
 use rules::Settings;
 use rules::Stamp;
 ghost use mathlib.Core.Bool.{true};
 ghost use mathlib.Core.Path.{_≡_};
-ghost use Prim.Native.Nat.{_+_, _*_, _≤_, _<_};
+ghost use Prim.Native.Nat.{_+_, _*_, _%_, _≤_, _<_};
 ghost use lib.ListN.{length};
-ghost use Rattle.held.specs.Together.{Together};
+ghost use Rattle.bands.specs.Together.{Together};
 ghost use Rattle.rules.specs.Fit.{FitPool};
 ghost use Rattle.rules.specs.Held.{reported, countItems};
 ghost use Rattle.rules.specs.Layout.{cellWords, subCellsAt, needed};
@@ -89,55 +91,70 @@ fn segments_reported(words: &[u32], g: Settings, j: u32, x: Segments, kind: u32,
 }
 
 // The same of a band of sub `j`. Each call has its kind as a number, so that the compiler makes the loop of each kind, and no cell asks for it.
-fn band_reported(words: &[u32], g: Settings, j: u32, band: Band, s: Stamp) -> u32
+fn band_reported(words: &[u32], g: Settings, r: Reach, j: u32, band: Band, s: Stamp) -> u32
     requires { ⌜ Bounds g ⌝ }
     requires { ⌜ (needed g ≤ length (now words)) × (j < g .width) ⌝ }
     requires { ⌜ (band .rows ≤ g .rows) × (1 ≤ g .kind → band .below ≡ 0) ⌝ }
-    ensures { λ r. ⌜ (r ≡ countItems (reported (g .kind) (s .0)) (cellItems (now (words .entry)) (subCellsAt g j) (cellsOf (segmentsAbove (g .rows) (band .below) (band .rows))))) × (r ≤ mostRows) ⌝ }
+    requires { ⌜ (r .cell ≡ r .bottom % g .rows) × (r .bottom ≤ band .below) ⌝ }
+    ensures { λ n. ⌜ (n ≡ countItems (reported (g .kind) (s .0)) (cellItems (now (words .entry)) (subCellsAt g j) (cellsOf (segmentsAbove (g .rows) (band .below) (band .rows))))) × (n ≤ mostRows) ⌝ }
 {
-    let held = band_segments(g, band);
+    let held = band_segments(g, r, band);
     if g.kind == 0 {
         return segments_reported(words, g, j, held, 0, s);
     }
     segments_reported(words, g, j, held, 1, s)
 }
 
-// The same of a band of a queue's window. It has a function for itself, since the one above is inlined only where a single place calls it.
-fn window_reported(words: &[u32], g: Settings, j: u32, band: Band, s: Stamp) -> u32
+// The same of a band of a queue's windows. It has a function for itself, since the one above is inlined only where a single place calls it.
+fn window_reported(words: &[u32], g: Settings, r: Reach, j: u32, band: Band, s: Stamp) -> u32
     requires { ⌜ Bounds g ⌝ }
     requires { ⌜ (needed g ≤ length (now words)) × (j < g .width) ⌝ }
     requires { ⌜ (band .rows ≤ g .rows) × (g .kind ≡ 0) ⌝ }
-    ensures { λ r. ⌜ (r ≡ countItems (reported (g .kind) (s .0)) (cellItems (now (words .entry)) (subCellsAt g j) (cellsOf (segmentsAbove (g .rows) (band .below) (band .rows))))) × (r ≤ mostRows) ⌝ }
+    requires { ⌜ (r .cell ≡ r .bottom % g .rows) × (r .bottom ≤ band .below) ⌝ }
+    ensures { λ n. ⌜ (n ≡ countItems (reported (g .kind) (s .0)) (cellItems (now (words .entry)) (subCellsAt g j) (cellsOf (segmentsAbove (g .rows) (band .below) (band .rows))))) × (n ≤ mostRows) ⌝ }
 {
-    segments_reported(words, g, j, band_segments(g, band), 0, s)
+    segments_reported(words, g, j, band_segments(g, r, band), 0, s)
 }
 
 // How many held items of sub `j` the distance counts, where it lies within all windows: they are of one band.
 fn whole_reported(words: &[u32], g: Settings, r: Reach, j: u32, s: Stamp) -> u32
     requires { ⌜ FitPool g (now words) ⌝ }
-    requires { ⌜ Together (now words) g (r .bottom) (r .top) (r .width) ⌝ }
+    requires { ⌜ Together (now words) g (r .bottom) (r .cell) (r .top) (r .width) ⌝ }
     requires { ⌜ j < r .width ⌝ }
     ensures { λ n. ⌜ (n ≡ countItems (reported (g .kind) (s .0)) (walkedSub (now (words .entry)) g j)) × (n ≤ mostRows) ⌝ }
 {
-    band_reported(words, g, j, whole_band(g, r, sub_of(words, j)), s)
+    band_reported(words, g, r, j, whole_band(g, r, sub_of(words, j)), s)
 }
 
-// The same of a sub that does not: window by window, from the lowest on.
-fn windows_reported(words: &[u32], g: Settings, j: u32, s: Stamp) -> u32
+// The same of a sub of which that is not known. Windows one after the other that it lies in have one band; from its last put row on there is nothing more.
+fn windows_reported(words: &[u32], g: Settings, r: Reach, j: u32, s: Stamp) -> u32
     requires { ⌜ FitPool g (now words) ⌝ }
+    requires { ⌜ Together (now words) g (r .bottom) (r .cell) (r .top) (r .width) ⌝ }
     requires { ⌜ (hasWindows g ≡ true) × (j < g .width) ⌝ }
     ensures { λ n. ⌜ (n ≡ countItems (reported (g .kind) (s .0)) (walkedSub (now (words .entry)) g j)) × (n ≤ mostLive * mostRows) ⌝ }
 {
     let sub = sub_of(words, j);
+    let mut bottom = r.bottom;
+    if sub.first <= higher(sub.second, bottom) {
+        return 0;
+    }
     let live = live_of(words, g);
-    let mut bottom = take_bottom(words, g);
     let mut n: u32 = 0;
     let mut k: u32 = 0;
     while k < live {
-        let size = nth_size(words, g, k);
-        n += window_reported(words, g, j, window_band(sub, j, bottom, size), s);
-        bottom += size.depth;
-        k += 1;
+        let on = joined_from(words, g, j, k, live, bottom);
+        let band = between(higher(sub.second, bottom), lower(sub.first, on.top));
+        n += window_reported(words, g, r, j, band, s);
+        if sub.first <= on.top {
+            return n;
+        }
+        bottom = on.top;
+        k = on.end;
+        if k < live {
+            let size = nth_size(words, g, k);
+            bottom += size.depth;
+            k += 1;
+        }
     }
     n
 }
@@ -157,7 +174,7 @@ pub fn distance(words: &[u32], g: Settings, s: Stamp) -> u32
         j += 1;
     }
     while j < width {
-        n += windows_reported(words, g, j, s);
+        n += windows_reported(words, g, r, j, s);
         j += 1;
     }
     n

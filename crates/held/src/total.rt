@@ -1,7 +1,7 @@
 // The items held by a pool.
-use crate::bands::reach_of;
-use crate::bands::whole_band;
-use crate::bands::window_band;
+use bands::reach_of;
+use bands::whole_band;
+use bands::window_band;
 use fitness::refusal;
 use image::settings;
 use image::sub_of;

@@ -4,6 +4,5 @@ mod subs;
 mod windows;
 
 pub use shared::shared_fit;
-pub use subs::lowest;
 pub use subs::sub_fit;
 pub use windows::zeros;

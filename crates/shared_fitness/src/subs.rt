@@ -56,7 +56,7 @@ fn four_fit(words: &[u32], g: Settings, bottom: u32, j: u32) -> bool
 }
 
 // The bottom that the subs are held to: the take window's, where there are windows.
-pub fn lowest(words: &[u32], g: Settings) -> u32
+fn lowest(words: &[u32], g: Settings) -> u32
     requires { ⌜ Bounds g ⌝ }
     requires { ⌜ (needed g ≤ length (now words)) × (windowsFit (now words) g ≡ true) ⌝ }
     ensures { λ r. ⌜ r ≡ cond (hasWindows g) (bottomOf (now (words .entry)) g 0) 0 ⌝ }

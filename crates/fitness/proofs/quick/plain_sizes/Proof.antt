@@ -35,15 +35,6 @@ add-bits c = search needs
 bits-requires : tie.Need-bits-requires
 bits-requires c κs = search needs
 
-add-if2 : tie.Need-add-if2
-add-if2 c = search needs
-
-mul-if2 : tie.Need-mul-if2
-mul-if2 c = search needs
-
-shared-slice-read-if2 : tie.Need-shared-slice-read-if2
-shared-slice-read-if2 c = search needs
-
 returns : tie.Need-returns
 returns c = λ e. absurd (false≢true e)
 
@@ -53,29 +44,26 @@ returns-2 c = λ e. absurd (false≢true e)
 returns-3 : tie.Need-returns-3
 returns-3 c = λ e. absurd (false≢true e)
 
-returns-4 : tie.Need-returns-4
-returns-4 c = λ e. absurd (false≢true e)
+cast-if5 : tie.Need-cast-if5
+cast-if5 c = omega (arith, c .before .before .before .before .before .before .before .before .before .before .shared-slice-known .given markAt .fits)
 
-cast-if6 : tie.Need-cast-if6
-cast-if6 c = omega (arith, c .before .before .before .before .before .before .before .before .before .before .before .before .shared-slice-known .given markAt .fits)
+cast-if5-2 : tie.Need-cast-if5-2
+cast-if5-2 c = search needs
 
-cast-if6-2 : tie.Need-cast-if6-2
-cast-if6-2 c = search needs
+cast-if5-3 : tie.Need-cast-if5-3
+cast-if5-3 c = search needs
 
-cast-if6-3 : tie.Need-cast-if6-3
-cast-if6-3 c = search needs
+mul-if5 : tie.Need-mul-if5
+mul-if5 c = omega (arith, mul-le-mul-right {m = getD (c .before .before .before .before .before .before .before .before .before .before .before .before .args .words .now) (c .before .before .before .before .before .before .before .before .before .before .before .before .args .at + 3) 0} {n = 16} (c .before .before .before .before .before .before .before .before .before .before .before .before .args .g .depth) (c .before .before .before .before .if3 .left), c .before .before .before .before .before .before .before .before .before .before .before .before .pre .0 .depth64)
 
-mul-if6 : tie.Need-mul-if6
-mul-if6 c = omega (arith, mul-le-mul-right {m = getD (c .before .before .before .before .before .before .before .before .before .before .before .before .before .before .args .words .now) (c .before .before .before .before .before .before .before .before .before .before .before .before .before .before .args .at + 3) 0} {n = 16} (c .before .before .before .before .before .before .before .before .before .before .before .before .before .before .args .g .depth) (c .before .before .before .before .if4 .left), c .before .before .before .before .before .before .before .before .before .before .before .before .before .before .pre .0 .depth64)
+add-if5 : tie.Need-add-if5
+add-if5 c = omega (arith, mul-le-mul-right {m = getD (c .before .before .before .before .before .before .before .before .before .before .before .before .args .words .now) (c .before .before .before .before .before .before .before .before .before .before .before .before .args .at + 3) 0} {n = 16} (c .before .before .before .before .before .before .before .before .before .before .before .before .args .g .depth) (c .before .before .before .before .if3 .left), c .before .before .before .before .before .before .before .before .before .before .before .before .pre .0 .depth64, c .before .before .before .before .before .before .before .before .before .before .before .shared-slice-known .given markAt .fits)
 
-add-if6 : tie.Need-add-if6
-add-if6 c = omega (arith, mul-le-mul-right {m = getD (c .before .before .before .before .before .before .before .before .before .before .before .before .before .before .args .words .now) (c .before .before .before .before .before .before .before .before .before .before .before .before .before .before .args .at + 3) 0} {n = 16} (c .before .before .before .before .before .before .before .before .before .before .before .before .before .before .args .g .depth) (c .before .before .before .before .if4 .left), c .before .before .before .before .before .before .before .before .before .before .before .before .before .before .pre .0 .depth64, c .before .before .before .before .before .before .before .before .before .before .before .before .before .shared-slice-known .given markAt .fits)
+shared-slice-read-if5 : tie.Need-shared-slice-read-if5
+shared-slice-read-if5 c = search needs
 
-shared-slice-read-if6 : tie.Need-shared-slice-read-if6
-shared-slice-read-if6 c = search needs
-
-cast-if6-4 : tie.Need-cast-if6-4
-cast-if6-4 c = omega (arith, c .before .before .before .before .before .before .before .before .before .before .before .before .before .before .shared-slice-known .given topAt .fits)
+cast-if5-4 : tie.Need-cast-if5-4
+cast-if5-4 c = omega (arith, c .before .before .before .before .before .before .before .before .before .before .before .before .shared-slice-known .given topAt .fits)
 
 add-alike : tie.Need-add-alike
 add-alike c = search needs
@@ -83,23 +71,23 @@ add-alike c = search needs
 alike-requires : tie.Need-alike-requires
 alike-requires c κs = search needs
 
-returns-5 : tie.Need-returns-5
-returns-5 c =
-    let s = c .before .before .before .before .before .before .before .before .before .before .before .before .before .before .before .before .before in
-    let words = c .before .before .before .before .before .before .before .before .before .before .before .before .before .before .before .before .shared-slice-known .given in
+returns-4 : tie.Need-returns-4
+returns-4 c =
+    let s = c .before .before .before .before .before .before .before .before .before .before .before .before .before .before .before in
+    let words = c .before .before .before .before .before .before .before .before .before .before .before .before .before .before .shared-slice-known .given in
     let g = s .args .g in
-    let queue = s .pre .1 .1 in
+    let queue = s .pre .1 .1 .0 in
     let has : hasWindows g ≡ true = rw (shipped-windowed g (queue .1), eq-eqb (g .kind) 0 (queue .0)) refl in
     λ e.
-    windows-plain-at (s .args .words .now) g (s .pre .0) (λ i. words i .fits) has (s .args .at) (c .before .before .before .before .before .before .before .before .before .before .before .before .before .together .result) (s .pre .1 .0 .0) (c .before .before .before .before .before .before .before .before .before .before .before .before .before .together .ensures)
-    (c .before .before .before .before .before .before .before .before .if3 .left) (c .before .before .before .before .before .before .before .if4 .left) (c .alike .ensures e) (c .before .before .before .before .before .before .before .before .before .if2 .left) (c .before .before .before .before .before .if5 .left) (c .before .if6 .taken)
-    (sym (c .before .before .before .before .before .before .before .before .before .before .before .before .bits .ensures) ∙ c .before .before .before .before .before .before .before .before .before .before .before .if1 .taken)
+    windows-plain-at (s .args .words .now) g (s .pre .0) (λ i. words i .fits) (queue .0) has (s .args .at) (c .before .before .before .before .before .before .before .before .before .before .before .together .result) (s .pre .1 .0 .0) (c .before .before .before .before .before .before .before .before .before .before .before .together .ensures)
+    (c .before .before .before .before .before .before .before .before .if2 .left) (c .before .before .before .before .before .before .before .if3 .left) (c .alike .ensures e) (s .pre .1 .1 .1) (c .before .before .before .before .before .if4 .left) (c .before .if5 .taken)
+    (sym (c .before .before .before .before .before .before .before .before .before .before .bits .ensures) ∙ c .before .before .before .before .before .before .before .before .before .if1 .taken)
+
+returns-5 : tie.Need-returns-5
+returns-5 c = λ e. absurd (false≢true e)
 
 returns-6 : tie.Need-returns-6
 returns-6 c = λ e. absurd (false≢true e)
-
-returns-7 : tie.Need-returns-7
-returns-7 c = λ e. absurd (false≢true e)
 
 pub plain-sizes-spec : {M : Type 1} → statement M
 plain-sizes-spec =
@@ -112,22 +100,18 @@ plain-sizes-spec =
     together-requires
     add-bits
     bits-requires
-    add-if2
-    mul-if2
-    shared-slice-read-if2
     returns
     returns-2
     returns-3
-    returns-4
-    cast-if6
-    cast-if6-2
-    cast-if6-3
-    mul-if6
-    add-if6
-    shared-slice-read-if6
-    cast-if6-4
+    cast-if5
+    cast-if5-2
+    cast-if5-3
+    mul-if5
+    add-if5
+    shared-slice-read-if5
+    cast-if5-4
     add-alike
     alike-requires
+    returns-4
     returns-5
-    returns-6
-    returns-7)
+    returns-6)

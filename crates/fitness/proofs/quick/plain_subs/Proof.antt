@@ -1,10 +1,10 @@
 -- `fitness::quick::plain_subs` meets its contract: both loops' invariant is that every sub passed is fit, held to the bottom that was read once; where one is not plainly so, nothing is said.
-use Rattle.shared_fitness.proofs.Bottoms.{isFit, subs-by}
+use Rattle.shared_fitness.proofs.Bottoms.{isFit}
 use Rattle.laws.specs.Choice.{allBelow, allBelow-four, allBelow-more, allBelow-none}
 use borrow.Author.Needs.{needs}
 use native.Mathlib.Omega.{arith}
 use mathlib.Core.Bool.{true, false≢true}
-use mathlib.Core.Path.{sym, _∙_, _≡_}
+use mathlib.Core.Path.{_≡_}
 use Prim.Native.Nat.{_-_, _≤_}
 use Rattle.fitness.proofs.quick.plain_subs.Statement.{statement}
 use Rattle.fitness.proofs.quick.plain_subs.Tie as tie
@@ -21,8 +21,8 @@ Inv-loop2 words g bottom width j₀ j = (j ≤ width) × (allBelow j (isFit word
 abbrev μ-loop2 : tie.MeasureT-loop2
 μ-loop2 words g bottom width j₀ j = width - j
 
-lowest-requires : tie.Need-lowest-requires Inv-loop μ-loop Inv-loop2 μ-loop2
-lowest-requires c κs = search needs
+plain-bottom-requires : tie.Need-plain-bottom-requires Inv-loop μ-loop Inv-loop2 μ-loop2
+plain-bottom-requires c κs = search needs
 
 loop-holds : tie.Need-loop-holds Inv-loop μ-loop Inv-loop2 μ-loop2
 loop-holds c = (search needs, allBelow-none _)
@@ -67,7 +67,7 @@ returns-3 : tie.Need-returns-3 Inv-loop μ-loop Inv-loop2 μ-loop2
 returns-3 c =
     let a = c .before .before .before .before .before .before .args in
     let all : c .before .loop2 .j ≡ a .g .width = omega arith in
-    λ e. sym (subs-by (a .words .now) (a .g) _ (c .before .before .before .before .lowest .ensures)) ∙ (rw all at (c .before .loop2 .inv .1))
+    λ e. rw (← c .before .before .before .before .plain-bottom .ensures) (rw all at (c .before .loop2 .inv .1))
 
 pub plain-subs-spec : {M : Type 1} → statement M
 plain-subs-spec =
@@ -77,7 +77,7 @@ plain-subs-spec =
     μ-loop
     Inv-loop2
     μ-loop2
-    lowest-requires
+    plain-bottom-requires
     loop-holds
     add-loop
     plain-four-requires

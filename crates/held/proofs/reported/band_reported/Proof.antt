@@ -16,7 +16,7 @@ use Rattle.held.proofs.reported.band_reported.Tie as tie
 within : (c : tie.After-band-segments) → Within (c .before .before .args .g .rows) (c .band-segments .result)
 within c =
     let s = c .before .before in
-    rw (c .band-segments .ensures) (segments-within (s .args .g .rows) (s .args .band .below) (s .args .band .rows) (rows-pos (s .args .g) (s .pre .0)) (s .pre .1 .1 .0))
+    rw (c .band-segments .ensures) (segments-within (s .args .g .rows) (s .args .band .below) (s .args .band .rows) (rows-pos (s .args .g) (s .pre .0)) (s .pre .1 .1 .0 .0))
 
 -- what is counted in them with the kind as a number is what is counted with the pool's kind
 by-kind : (c : tie.After-band-segments) (kind : ℕ) → let a = c .before .before .args in

@@ -1,5 +1,5 @@
 -- `held::reported::distance` meets its contract: both loops' invariant is the count over the subs gone through; the second goes through those that lie outside a window.
-use Rattle.held.proofs.Whole.{beyond-has}
+use Rattle.bands.proofs.Whole.{beyond-has}
 use Rattle.ring.specs.Segments.{walkedBelow, walkedDistance}
 use Rattle.rules.specs.Limits.{mostRows, mostLive}
 use Rattle.rules.specs.Held.{countItems, reported}
@@ -18,10 +18,10 @@ abbrev μ-loop : tie.MeasureT-loop
 μ-loop words g s r together width n₀ j₀ n j = r .width - j
 
 abbrev Inv-loop2 : tie.InvT-loop2
-Inv-loop2 words g s together width n₀ j₀ n j = (together ≤ j) × (j ≤ g .width) × (n ≤ mostLive * mostRows * j) × (n ≡ countItems (reported (g .kind) (s .0)) (walkedBelow words g j))
+Inv-loop2 words g s r together width n₀ j₀ n j = (together ≤ j) × (j ≤ g .width) × (n ≤ mostLive * mostRows * j) × (n ≡ countItems (reported (g .kind) (s .0)) (walkedBelow words g j))
 
 abbrev μ-loop2 : tie.MeasureT-loop2
-μ-loop2 words g s together width n₀ j₀ n j = g .width - j
+μ-loop2 words g s r together width n₀ j₀ n j = g .width - j
 
 reach-of-requires : tie.Need-reach-of-requires Inv-loop μ-loop Inv-loop2 μ-loop2
 reach-of-requires c κs = search needs
@@ -57,7 +57,7 @@ windows-reported-requires : tie.Need-windows-reported-requires Inv-loop μ-loop 
 windows-reported-requires c κs =
     let s = c .before .before .before .before .before .before in
     let r = c .before .before .before .before .reach-of in
-    (s .pre, (beyond-has (s .args .words .now) (s .args .g) (r .result .bottom) (r .result .top) (r .result .width) (c .before .loop2 .j) (r .ensures) (c .before .loop2 .inv .0) (c .loop2-test .taken), c .loop2-test .taken))
+    (s .pre, (r .ensures, (beyond-has (s .args .words .now) (s .args .g) (r .result .bottom) (r .result .cell) (r .result .top) (r .result .width) (c .before .loop2 .j) (r .ensures) (c .before .loop2 .inv .0) (c .loop2-test .taken), c .loop2-test .taken)))
 
 add-n-2 : tie.Need-add-n-2 Inv-loop μ-loop Inv-loop2 μ-loop2
 add-n-2 c = let s = c .before .before .before .before .before .before .before in omega (arith, c .windows-reported .ensures .1, c .before .before .loop2 .inv .2, c .before .loop2-test .taken, s .pre .bounds .width16)

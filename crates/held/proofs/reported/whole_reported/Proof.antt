@@ -1,15 +1,13 @@
 -- `held::reported::whole_reported` meets its contract: the whole band of the sub is all that it holds, and lies in the segments that are gone through.
-use Rattle.held.proofs.Whole.{IsWhole, whole-sub}
-use Rattle.held.proofs.Walks.{walked-sub}
-use Rattle.held.proofs.Rows.{rows-in-runs}
-use Rattle.held.specs.Together.{wholeBand}
-use mathlib.Core.List.{List}
-use Rattle.ring.specs.Segments.{segmentsAbove, cellsOf, cellItems, walkedSub}
-use Rattle.rules.specs.Layout.{firstOf, secondOf, subCellsAt}
-use Rattle.rules.specs.Held.{Item, Band, countItems, reported, itemsAbove}
+use Rattle.bands.proofs.Whole.{IsWhole, whole-sub}
+use Rattle.bands.proofs.Walks.{walked-sub}
+use Rattle.bands.proofs.Rows.{rows-in-runs}
+use Rattle.bands.specs.Together.{wholeBand}
+use Rattle.rules.specs.Layout.{firstOf, secondOf}
+use Rattle.rules.specs.Held.{countItems, reported}
 use native.Mathlib.Omega.{arith}
 use mathlib.Core.Path.{_≡_, sym, ap, _∙_}
-use Prim.Native.Nat.{ℕ, _<_}
+use Prim.Native.Nat.{_<_}
 use borrow.Author.Needs.{needs}
 use Rattle.held.proofs.reported.whole_reported.Statement.{statement}
 use Rattle.held.proofs.reported.whole_reported.Tie as tie
@@ -23,10 +21,10 @@ read c = rw (c .before .sub-of .ensures .0, c .before .sub-of .ensures .1) at (c
 
 whole : (c : tie.After-whole-band)
     → let a = c .before .before .before .args in
-    IsWhole (a .words .now) (a .g) (a .j) (wholeBand (a .g) (a .r .bottom) (a .r .top) (firstOf (a .words .now) (a .j)) (secondOf (a .words .now) (a .j)))
+    IsWhole (a .words .now) (a .g) (a .j) (a .r .bottom) (wholeBand (a .g) (a .r .bottom) (a .r .top) (firstOf (a .words .now) (a .j)) (secondOf (a .words .now) (a .j)))
 whole c =
     let s = c .before .before .before in
-    whole-sub (s .args .words .now) (s .args .g) (s .pre .0) (λ k. c .before .before .shared-slice-known .given k .fits) (s .args .r .bottom) (s .args .r .top) (s .args .r .width) (s .pre .1 .0) (s .args .j) (s .pre .1 .1)
+    whole-sub (s .args .words .now) (s .args .g) (s .pre .0) (λ k. c .before .before .shared-slice-known .given k .fits) (s .args .r .bottom) (s .args .r .cell) (s .args .r .top) (s .args .r .width) (s .pre .1 .0) (s .args .j) (s .pre .1 .1)
 
 sub-of-requires : tie.Need-sub-of-requires
 sub-of-requires c κs = search needs
@@ -40,7 +38,7 @@ band-reported-requires c κs =
     let b = read c in
     let w = whole c in
     let wide : s .args .j < s .args .g .width = omega (arith, s .pre .1 .1, s .pre .1 .0 .most) in
-    (s .pre .0 .bounds, ((s .pre .0 .enough, wide), (rw (b .1) (w .walked .few), λ stack. b .0 ∙ w .first-cells stack)))
+    (s .pre .0 .bounds, ((s .pre .0 .enough, wide), ((rw (b .1) (w .walked .few), λ stack. b .0 ∙ w .first-cells stack), (s .pre .1 .0 .at-cell, rw (b .0) (w .above)))))
 
 returns : tie.Need-returns
 returns c =

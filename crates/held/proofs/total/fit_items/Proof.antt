@@ -1,8 +1,8 @@
 -- `held::total::fit_items` meets its contract: so many items are held by the subs gone through; the second loop goes through those that lie outside a window.
-use Rattle.held.proofs.Counts.{held-none, held-more}
-use Rattle.held.proofs.Whole.{IsWhole, whole-sub, beyond-has}
-use Rattle.held.proofs.Rows.{rows-items}
-use Rattle.held.specs.Together.{wholeBand}
+use Rattle.bands.proofs.Counts.{held-none, held-more}
+use Rattle.bands.proofs.Whole.{whole-sub, beyond-has}
+use Rattle.bands.proofs.Rows.{rows-items}
+use Rattle.bands.specs.Together.{wholeBand}
 use Rattle.rules.specs.Limits.{mostRows, mostLive}
 use Rattle.rules.specs.Layout.{firstOf, secondOf}
 use Rattle.rules.specs.Held.{heldSub, heldBelow}
@@ -10,7 +10,7 @@ use lib.ListN.{length}
 use borrow.Author.Needs.{needs}
 use native.Mathlib.Omega.{arith}
 use mathlib.Core.Path.{sym, _≡_, ap, _∙_}
-use Prim.Native.Nat.{_*_, _-_, _≤_, _<_}
+use Prim.Native.Nat.{_*_, _-_, _≤_}
 use Rattle.held.proofs.total.fit_items.Statement.{statement}
 use Rattle.held.proofs.total.fit_items.Tie as tie
 
@@ -39,7 +39,7 @@ rows-of c =
     let sub = c .before .sub-of .ensures in
     let band = wholeBand g (r .result .bottom) (r .result .top) (firstOf ws j) (secondOf ws j) in
     let read : c .whole-band .result .rows ≡ band .rows = rw (sub .0, sub .1) at (c .whole-band .ensures .1) in
-    let whole = whole-sub ws g (s .pre) (λ i. c .before .before .before .before .before .shared-slice-known .given i .fits) (r .result .bottom) (r .result .top) (r .result .width) (r .ensures) j (c .before .before .loop-test .taken) in
+    let whole = whole-sub ws g (s .pre) (λ i. c .before .before .before .before .before .shared-slice-known .given i .fits) (r .result .bottom) (r .result .cell) (r .result .top) (r .result .width) (r .ensures) j (c .before .before .loop-test .taken) in
     (read ∙ sym (ap length (whole .items) ∙ rows-items ws g j (band .below) (band .rows)), omega (arith, read, whole .walked .few, s .pre .bounds .rows1024))
 
 reach-of-requires : tie.Need-reach-of-requires Inv-loop μ-loop Inv-loop2 μ-loop2
@@ -79,7 +79,7 @@ windows-held-requires : tie.Need-windows-held-requires Inv-loop μ-loop Inv-loop
 windows-held-requires c κs =
     let s = c .before .before .before .before .before .before in
     let r = c .before .before .before .before .reach-of in
-    (s .pre, (beyond-has (s .args .words .now) (s .args .g) (r .result .bottom) (r .result .top) (r .result .width) (c .before .loop2 .j) (r .ensures) (c .before .loop2 .inv .0) (c .loop2-test .taken), c .loop2-test .taken))
+    (s .pre, (beyond-has (s .args .words .now) (s .args .g) (r .result .bottom) (r .result .cell) (r .result .top) (r .result .width) (c .before .loop2 .j) (r .ensures) (c .before .loop2 .inv .0) (c .loop2-test .taken), c .loop2-test .taken))
 
 add-n-2 : tie.Need-add-n-2 Inv-loop μ-loop Inv-loop2 μ-loop2
 add-n-2 c = let s = c .before .before .before .before .before .before .before in omega (arith, c .windows-held .ensures .1, c .before .before .loop2 .inv .2, c .before .loop2-test .taken, s .pre .bounds .width16)

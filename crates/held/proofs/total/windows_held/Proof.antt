@@ -1,8 +1,8 @@
 -- `held::total::windows_held` meets its contract: the count so far is of the rows of the bands gone through, and the bottom so far is that of the next window.
-use Rattle.held.proofs.Counts.{live-bands, band-read, live-few, rows-none, rows-more}
+use Rattle.bands.proofs.Counts.{live-bands, band-read, live-few, rows-none, rows-more}
 use Rattle.rules.specs.Held.{heldBands, heldSub}
 use lib.ListN.{getD, length}
-use Rattle.held.proofs.Bottoms.{bottom-after, top-small, pairs-there}
+use Rattle.bands.proofs.Bottoms.{bottom-after, top-small, pairs-there}
 use Rattle.rules.specs.declared.Size.{Size}
 use Rattle.rules.specs.Held.{Band, bandOf, bandCount}
 use Rattle.rules.specs.Windows.{liveOf, nthSize, bottomOf}
