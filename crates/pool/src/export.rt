@@ -1,6 +1,4 @@
 // The functions that C calls: the answer's number is returned, and its five fields are written; of a dispatcher's result six, and a size call and a move have none.
-use crate::new::make;
-use crate::size::set_size;
 use calls::PUT;
 use calls::STEP;
 use calls::TAKE;
@@ -8,6 +6,8 @@ use calls::call;
 use dispatcher::dispatch;
 use moves::move_pool;
 use rules::Dispatched;
+use setup::make;
+use setup::set_size;
 use step::answers::answered;
 use step::answers::fields;
 use step::answers::number;

@@ -17,8 +17,8 @@ use Rattle.rules.specs.declared.Phase.{Phase}
 use Rattle.rules.specs.declared.Phase.the-variants.{Idle, Window, QueuePutRead, QueueTakeRead, StackRead, Check, QueueCommit, StackCommit, QueueShift, StackShift, QueueConfirm, StackConfirm}
 use Rattle.rules.specs.declared.Slot.{Slot}
 use Rattle.rules.specs.declared.View.{View}
-use Rattle.step.specs.Asked.{askedBy, withSizes, asked}
-use Rattle.step.specs.ByPhase.{viewIn, viewBy, effectBy}
+use Rattle.step_views.specs.Asked.{askedBy, withSizes, asked}
+use Rattle.step_views.specs.ByPhase.{viewIn, viewBy, effectBy}
 
 by-phase : (g : Settings) (v : View) (p : Phase) → ruleBy g (withSizes (askedBy p (v .sizes)) v) p ≡ ruleBy g v p
 unfolding ruleBy windowRule missOf queuePutRead queueTakeRead stackRead checkRule commitBy queuePutCommit queueTakeCommit queueCommit stackCommit shiftBy queueShift stackShift confirmedOf confirmBy queueConfirm stackConfirm

@@ -38,7 +38,7 @@ use Rattle.rules.specs.declared.Outcome.{Outcome}
 use Rattle.rules.specs.declared.Outcome.the-variants.{Refused, Moving, Lost, Shifted, Raised, Dropped, Landed, Removed, Empty, Full}
 use Rattle.phases.specs.Late.{Late}
 use Rattle.step.specs.Allowed.{Allowed, Commits}
-use Rattle.step.specs.ByPhase.{effectBy, ruleStep}
+use Rattle.step_views.specs.ByPhase.{effectBy, ruleStep}
 use Rattle.step.proofs.Numbers.{window-is, put-read-is, take-read-is, stack-read-is, queue-commit-is, stack-commit-is}
 use Rattle.step.proofs.Seen.{of-phase}
 

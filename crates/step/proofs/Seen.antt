@@ -21,8 +21,8 @@ use Rattle.rules.specs.declared.Side.the-variants.{Putting, Taking}
 use Rattle.rules.specs.declared.Phase.{Phase}
 use Rattle.rules.specs.declared.Phase.the-variants.{Idle, Window, QueuePutRead, QueueTakeRead, StackRead, Check, QueueCommit, StackCommit, QueueShift, StackShift, QueueConfirm, StackConfirm}
 use Rattle.phases.specs.Inside.{InWindow, Inside}
-use Rattle.step.specs.Asked.{askedBy, asked}
-use Rattle.step.specs.ByPhase.{Spanned, Ready, Loaded, viewIn, viewBy}
+use Rattle.step_views.specs.Asked.{askedBy, asked}
+use Rattle.step_views.specs.ByPhase.{Spanned, Ready, Loaded, viewIn, viewBy}
 
 -- ---- the phases
 -- what is so of the phase that has a number, and of those behind it

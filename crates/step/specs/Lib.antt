@@ -1,3 +1,1 @@
-pub mod Asked
 pub mod Allowed
-pub mod ByPhase

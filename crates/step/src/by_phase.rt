@@ -3,11 +3,6 @@
 // the compiler inlines it there.
 use crate::apply::apply;
 use crate::apply::apply_commit;
-use crate::sizes::commit_sizes;
-use crate::sizes::look_sizes;
-use crate::sizes::no_sizes;
-use crate::view::view;
-use crate::view::view_in;
 use commits::queue_commit;
 use commits::stack_commit;
 use phases::read::queue_put_read;
@@ -32,6 +27,11 @@ use slots::index_of;
 use slots::load;
 use slots::phase_number;
 use slots::put_worker;
+use step_views::commit_sizes;
+use step_views::look_sizes;
+use step_views::no_sizes;
+use step_views::view;
+use step_views::view_in;
 use worker::seen_by;
 use worker::side_of;
 ghost use mathlib.Core.Bool.{false};
@@ -42,7 +42,7 @@ ghost use Rattle.phases.specs.Late.{Late};
 ghost use Rattle.rules.specs.Answers.{out};
 ghost use Rattle.rules.specs.Layout.{phaseAt};
 ghost use Rattle.rules.specs.Worker.{commitPhase, numberFor, phaseOf, readPhase, slotAt, windowPhase};
-ghost use Rattle.step.specs.ByPhase.{Loaded, Ready, effectBy, ruleStep};
+ghost use Rattle.step_views.specs.ByPhase.{Loaded, Ready, effectBy, ruleStep};
 
 // The window phase: the worker looks at a window.
 fn look_effect(words: &[u32], g: Settings, kept: Slot, side: Side) -> Effect

@@ -2,8 +2,6 @@
 pub mod answers;
 mod apply;
 mod by_phase;
-mod sizes;
-mod view;
 mod work;
 
 pub use work::fit_answer;

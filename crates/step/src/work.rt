@@ -18,7 +18,7 @@ ghost use Rattle.rules.specs.Fit.{Fit, FitPool, checkedOf};
 ghost use Rattle.rules.specs.Layout.{settingsOf};
 ghost use Rattle.rules.specs.Make.{shipped};
 ghost use Rattle.rules.specs.Step.{slotStep, fitStep, stepOf};
-ghost use Rattle.step.specs.ByPhase.{Ready};
+ghost use Rattle.step_views.specs.ByPhase.{Ready};
 
 // A step of the worker whose words start at `at`.
 fn slot_step(words: &mut [u32], g: Settings, at: usize) -> Answer

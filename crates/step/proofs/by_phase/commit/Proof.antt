@@ -3,7 +3,7 @@ use mathlib.Core.Path.{ap, _∙_}
 use Rattle.rules.specs.Effects.{viewOf}
 use Rattle.rules.specs.Worker.{slotAt}
 use Rattle.rules.specs.declared.Slot.{Slot}
-use Rattle.step.specs.ByPhase.{ruleStep}
+use Rattle.step_views.specs.ByPhase.{ruleStep}
 use Rattle.step.proofs.Moves.{commit-effect}
 use Rattle.step.proofs.Seen.{loaded}
 use borrow.Author.Needs.{needs}

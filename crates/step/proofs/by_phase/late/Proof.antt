@@ -4,7 +4,7 @@ use Rattle.rules.specs.Effects.{viewOf}
 use Rattle.rules.specs.Step.{ruleOf}
 use Rattle.rules.specs.Worker.{slotAt}
 use Rattle.rules.specs.declared.View.{View}
-use Rattle.step.specs.ByPhase.{ruleStep}
+use Rattle.step_views.specs.ByPhase.{ruleStep}
 use Rattle.step.proofs.Asked.{rule-asked}
 use Rattle.step.proofs.Moves.{rule-allowed}
 use Rattle.step.proofs.Seen.{loaded, view-inside}

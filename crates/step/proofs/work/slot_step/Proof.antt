@@ -2,7 +2,7 @@
 use mathlib.Core.Path.{sym, _∙_}
 use Rattle.laws.specs.Choice.{cond}
 use Rattle.rules.specs.Step.{slotStep}
-use Rattle.step.specs.ByPhase.{ruleStep}
+use Rattle.step_views.specs.ByPhase.{ruleStep}
 use borrow.Author.Needs.{needs}
 use Rattle.step.proofs.work.slot_step.Statement.{statement}
 use Rattle.step.proofs.work.slot_step.Tie as tie

@@ -1,0 +1,4 @@
+-- What the proofs of the functions cite.
+pub mod Bits
+pub mod OneSize
+pub mod Plain
