@@ -20,6 +20,10 @@ abbrev pub bandWithin : ℕ → ℕ → ℕ → ℕ → Size → Band
 bandWithin j first second bottom size =
     cond (ltb j (size .width)) (bandBetween (higher second bottom) (lower first (bottom + size .depth))) (bandBetween 0 0)
 
+-- a cell of a ring of so many rows from which that of the row above `below` is told: it is that of the row above a bottom which is no higher
+abbrev pub TellsCell : ℕ → ℕ → ℕ → ℕ → Type 0
+TellsCell rows bottom cell below = (cell ≡ bottom % rows) × (bottom ≤ below)
+
 -- the lowest bottom, the cell of the row above it, the highest top, and a width within which a sub lies in all of them
 pub record Together (ws : List ℕ) (g : Settings) (bottom cell top width : ℕ) : Type 0 where
   pub low : bottom ≡ cond (hasWindows g) (bottomOf ws g 0) 0

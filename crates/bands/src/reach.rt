@@ -24,8 +24,8 @@ pub struct Band {
     pub rows: u32,
 }
 
-// All live windows together: their lowest bottom, with the cell of the row above it, their highest top, and how many subs lie in each of them: all, where
-// the windows are as wide as the pool, else none is counted on.
+// All live windows together: their lowest bottom, with the cell of the row above it, their highest top, and a number of subs that lie in each of them: all
+// where each window is as wide as the pool, else 0.
 pub struct Reach {
     pub bottom: u32,
     pub cell: u32,

@@ -6,6 +6,7 @@ use rules::Segments;
 use rules::Settings;
 ghost use mathlib.Core.Path.{_≡_};
 ghost use Prim.Native.Nat.{_%_, _≤_};
+ghost use Rattle.bands.specs.Together.{TellsCell};
 ghost use Rattle.rules.specs.Limits.{Bounds};
 ghost use Rattle.ring.specs.Segments.{segment, only, segmentsAbove};
 
@@ -19,10 +20,11 @@ fn only(start: u32, count: u32) -> Segments
     }
 }
 
-// The cell of the row above `below`, from that of the row above the lowest bottom: a ring's cells on, which is a remainder only where it goes round twice.
+// The cell of the row above `below`: as far on from that of the row above the lowest bottom as `below` is above that bottom, and on from the first cell behind
+// the last. A remainder is taken only where that goes round twice.
 fn cell_above(rows: u32, r: Reach, below: u32) -> u32
     requires { ⌜ 1 ≤ rows ⌝ }
-    requires { ⌜ (r .cell ≡ r .bottom % rows) × (r .bottom ≤ below) ⌝ }
+    requires { ⌜ TellsCell rows (r .bottom) (r .cell) below ⌝ }
     ensures { λ c. ⌜ c ≡ below % rows ⌝ }
 {
     let at = r.cell + (below - r.bottom);
@@ -39,7 +41,7 @@ fn cell_above(rows: u32, r: Reach, below: u32) -> u32
 // Those of the cells of `held` rows above row `below`: up to the last cell, and on from the first. Where no row is held, no cell is looked for.
 fn segments_above(rows: u32, r: Reach, below: u32, held: u32) -> Segments
     requires { ⌜ 1 ≤ rows ⌝ }
-    requires { ⌜ (r .cell ≡ r .bottom % rows) × (r .bottom ≤ below) ⌝ }
+    requires { ⌜ TellsCell rows (r .bottom) (r .cell) below ⌝ }
     ensures { λ x. ⌜ x ≡ segmentsAbove rows below held ⌝ }
 {
     if held == 0 {
@@ -63,7 +65,7 @@ fn segments_above(rows: u32, r: Reach, below: u32, held: u32) -> Segments
 pub fn band_segments(g: Settings, r: Reach, band: Band) -> Segments
     requires { ⌜ Bounds g ⌝ }
     requires { ⌜ (band .rows ≤ g .rows) × (1 ≤ g .kind → band .below ≡ 0) ⌝ }
-    requires { ⌜ (r .cell ≡ r .bottom % g .rows) × (r .bottom ≤ band .below) ⌝ }
+    requires { ⌜ TellsCell (g .rows) (r .bottom) (r .cell) (band .below) ⌝ }
     ensures { λ x. ⌜ x ≡ segmentsAbove (g .rows) (band .below) (band .rows) ⌝ }
 {
     if g.kind == 0 {

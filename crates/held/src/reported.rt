@@ -22,9 +22,9 @@ use rules::Settings;
 use rules::Stamp;
 ghost use mathlib.Core.Bool.{true};
 ghost use mathlib.Core.Path.{_≡_};
-ghost use Prim.Native.Nat.{_+_, _*_, _%_, _≤_, _<_};
+ghost use Prim.Native.Nat.{_+_, _*_, _≤_, _<_};
 ghost use lib.ListN.{length};
-ghost use Rattle.bands.specs.Together.{Together};
+ghost use Rattle.bands.specs.Together.{TellsCell, Together};
 ghost use Rattle.rules.specs.Fit.{FitPool};
 ghost use Rattle.rules.specs.Held.{reported, countItems};
 ghost use Rattle.rules.specs.Layout.{cellWords, subCellsAt, needed};
@@ -95,7 +95,7 @@ fn band_reported(words: &[u32], g: Settings, r: Reach, j: u32, band: Band, s: St
     requires { ⌜ Bounds g ⌝ }
     requires { ⌜ (needed g ≤ length (now words)) × (j < g .width) ⌝ }
     requires { ⌜ (band .rows ≤ g .rows) × (1 ≤ g .kind → band .below ≡ 0) ⌝ }
-    requires { ⌜ (r .cell ≡ r .bottom % g .rows) × (r .bottom ≤ band .below) ⌝ }
+    requires { ⌜ TellsCell (g .rows) (r .bottom) (r .cell) (band .below) ⌝ }
     ensures { λ n. ⌜ (n ≡ countItems (reported (g .kind) (s .0)) (cellItems (now (words .entry)) (subCellsAt g j) (cellsOf (segmentsAbove (g .rows) (band .below) (band .rows))))) × (n ≤ mostRows) ⌝ }
 {
     let held = band_segments(g, r, band);
@@ -110,7 +110,7 @@ fn window_reported(words: &[u32], g: Settings, r: Reach, j: u32, band: Band, s: 
     requires { ⌜ Bounds g ⌝ }
     requires { ⌜ (needed g ≤ length (now words)) × (j < g .width) ⌝ }
     requires { ⌜ (band .rows ≤ g .rows) × (g .kind ≡ 0) ⌝ }
-    requires { ⌜ (r .cell ≡ r .bottom % g .rows) × (r .bottom ≤ band .below) ⌝ }
+    requires { ⌜ TellsCell (g .rows) (r .bottom) (r .cell) (band .below) ⌝ }
     ensures { λ n. ⌜ (n ≡ countItems (reported (g .kind) (s .0)) (cellItems (now (words .entry)) (subCellsAt g j) (cellsOf (segmentsAbove (g .rows) (band .below) (band .rows))))) × (n ≤ mostRows) ⌝ }
 {
     segments_reported(words, g, j, band_segments(g, r, band), 0, s)
