@@ -1,4 +1,6 @@
 // The bands of rows that a sub holds, and the straight runs of cells in which they lie.
+#![tactic(auto)]
+
 mod reach;
 mod segments;
 

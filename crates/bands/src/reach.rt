@@ -12,7 +12,7 @@ use rules::numbers::MOST_LIVE;
 use rules::{Settings, Size};
 
 // So many rows above `below`.
-#[derive(Drop)]
+#[derive(Clone, Copy)]
 pub struct Band {
     pub below: u32,
     pub rows: u32,
@@ -20,7 +20,7 @@ pub struct Band {
 
 // All live windows together: their lowest bottom, with the cell of the row above it, their highest top, and a number of subs that lie in each of them: all
 // where each window is as wide as the pool, else 0.
-#[derive(Drop)]
+#[derive(Clone, Copy)]
 pub struct Reach {
     pub bottom: u32,
     pub cell: u32,
@@ -29,7 +29,7 @@ pub struct Reach {
 }
 
 // Windows from one on that a sub lies in: the first behind them, and their highest top.
-#[derive(Drop)]
+#[derive(Clone, Copy)]
 pub struct Joined {
     pub end: u32,
     pub top: u32,

@@ -1,4 +1,6 @@
 // A move between an edition whose windows have their own sizes and one without: which pools move, and the words that it leaves behind the cells.
+#![tactic(auto)]
+
 mod behind;
 mod may;
 

@@ -10,7 +10,7 @@ use pieces::Stretch;
 use runfile::word::WORD_BYTES;
 
 // What a read leaves: where the input's bytes end, whether it failed, and how many reads there were.
-#[derive(Drop)]
+#[derive(Clone, Copy)]
 pub struct Input {
     pub end: usize,
     pub failed: bool,

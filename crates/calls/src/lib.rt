@@ -1,4 +1,6 @@
 // Begins and steps: what is asked of a worker, and the one function behind them all.
+#![tactic(auto)]
+
 mod begin;
 mod entry;
 

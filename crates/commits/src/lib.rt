@@ -1,4 +1,6 @@
 // What the rules read of a view, and the phase after a sub that was found: the commit.
+#![tactic(auto)]
+
 mod commit;
 pub mod views;
 

@@ -1,4 +1,6 @@
 // Turns for the workers: steps of the busy ones, round and round by number, up to the first final answer.
+#![tactic(auto)]
+
 ghost use Rattle.std.specs.Prelude.{◌≡◌, ◌<◌, ◌≤◌, length};
 ghost use Rattle.dispatcher.specs.Moved.{window_moved};
 ghost use Rattle.laws.specs.Choice.{cond};

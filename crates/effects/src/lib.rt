@@ -1,4 +1,6 @@
 // The ways in which a step can end: what it leaves of all that it read.
+#![tactic(auto)]
+
 ghost use Rattle.std.specs.Prelude.{◌≡◌, ◌<◌};
 ghost use Rattle.rules.specs.Commit.{lost_of, landed_of, removed_of};
 ghost use Rattle.rules.specs.Shift.{shifted_of};

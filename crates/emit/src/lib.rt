@@ -1,4 +1,6 @@
 // A piece of the input, printed.
+#![tactic(auto)]
+
 ghost use Rattle.std.specs.Prelude.{false, true, ◌≡◌, ◌≤◌, length};
 ghost use Rattle.pieces.specs.Stretch.{turn_bytes, turns_in, stretched, stretch_of};
 ghost use Rattle.buffers.specs.Kept.{Keeps, ReadsNothing, WritesNothing, Remembers};

@@ -1,4 +1,6 @@
 // Which words are a fit pool: the first unfit word ends the check.
+#![tactic(auto)]
+
 mod quick;
 mod refusals;
 

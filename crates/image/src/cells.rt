@@ -13,7 +13,7 @@ use rules::{Effect, Row, Settings, Stamp};
 // The stamp's place in a cell.
 const STAMP: usize = 1;
 
-#[derive(Drop)]
+#[derive(Clone, Copy)]
 pub struct Item {
     pub value: u32,
     pub stamp: Stamp,

@@ -1,5 +1,7 @@
 // Where a pool's words lie, and how those of the head, of a sub and of a cell are read and written; a worker's are in slots, those of a queue's windows in
 // queue_windows. Nothing outside this crate knows a place by its number.
+#![tactic(auto)]
+
 mod cells;
 mod head;
 mod pair;

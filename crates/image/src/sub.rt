@@ -8,7 +8,7 @@ use crate::places::sub_at;
 use rules::Effect;
 
 // Items put and items taken, or items held and version.
-#[derive(Drop)]
+#[derive(Clone, Copy)]
 pub struct Sub {
     pub first: u32,
     pub second: u32,

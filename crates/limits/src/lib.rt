@@ -1,4 +1,6 @@
 // The limits of the settings, and of a window's size.
+#![tactic(auto)]
+
 ghost use Rattle.std.specs.Prelude.{◌≡◌, ◌≤◌};
 ghost use Rattle.laws.specs.Choice.{all};
 ghost use Rattle.rules.specs.Limits.{queue_limits, settings_fit, size_fit};

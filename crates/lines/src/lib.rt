@@ -1,4 +1,6 @@
 // The lines that programs print, as text.
+#![tactic(auto)]
+
 mod filled;
 mod line;
 mod summary;

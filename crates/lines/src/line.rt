@@ -9,7 +9,7 @@ use rules::{Row, Stamp};
 pub const LINE_BYTES: usize = 96;
 
 // The eight numbers of a line. A run file's worker is below 64, so a byte holds it; with 32 bits a line could pass the area.
-#[derive(Drop)]
+#[derive(Clone, Copy)]
 pub struct Entry {
     pub position: u64,
     pub number: u32,

@@ -11,7 +11,7 @@ use rules::numbers::STEP_LIMIT;
 pub const SUMMARY_BYTES: usize = 512;
 
 // What a summary says. `fault` is the number of the fault that ended the file, 0 for a whole one, and `words` how many words are before it.
-#[derive(Drop)]
+#[derive(Clone, Copy)]
 pub struct Summary {
     pub fault: u32,
     pub words: u64,

@@ -1,4 +1,6 @@
 // The run lister: reads a run file from standard input, however long, and writes its listing to standard output.
+#![tactic(auto)]
+
 use program::{Mode, complain, print_file};
 
 fn main() {

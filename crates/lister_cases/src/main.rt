@@ -2,6 +2,8 @@
 // it takes four billion words (tests/spent_steps.py). Out of reach are 21 (the lister lends enough words), 23 (its pool is always fit) and 30 (no take
 // passes over more than the bound).
 // The files are those of examples/, packed.
+#![tactic(auto)]
+
 use libc::STDOUT_FILENO;
 use pieces::{begin, print_words};
 use printing::Mode;

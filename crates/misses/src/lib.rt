@@ -1,4 +1,6 @@
 // The phases after a pass that found no sub: the window is shifted, or the subs are confirmed, one by one.
+#![tactic(auto)]
+
 mod confirm;
 mod shift;
 

@@ -1,5 +1,7 @@
 // The mover: reads a saved pool from standard input, moves it from an edition to another and writes it to standard output.
 // Its arguments are the two editions, one of them next to the other. Where the move is refused it writes the refusal's number to standard error, and no byte to standard output.
+#![tactic(auto)]
+
 ghost use Rattle.std.specs.Prelude.{◌≤◌, length};
 
 use libc::{STDERR_FILENO, STDIN_FILENO, STDOUT_FILENO};
@@ -10,7 +12,7 @@ use saved::{MOST_BYTES, move_file};
 const NO_EDITION: u32 = 255;
 
 // What is read: where the input's bytes end, and whether a read failed.
-#[derive(Drop)]
+#[derive(Clone, Copy)]
 struct Input {
     end: usize,
     failed: bool,

@@ -1,4 +1,6 @@
 // A move of a pool from one edition to another, from a lent area into another, for all words of both. The source is lent for reading.
+#![tactic(auto)]
+
 ghost use Rattle.std.specs.Prelude.{◌≡◌, ◌+◌, ◌<◌, ◌≤◌, length, drop};
 ghost use Rattle.std.proofs.Math.Seq.{paste};
 ghost use Rattle.rules.specs.Answers.{out};

@@ -1,4 +1,6 @@
 // A file in pieces: what a program prints of each, as text in lent output.
+#![tactic(auto)]
+
 mod stretch;
 mod words;
 

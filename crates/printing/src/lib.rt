@@ -1,4 +1,6 @@
 // What the programs print of a run file's replay.
+#![tactic(auto)]
+
 mod end;
 mod lost;
 mod printed;

@@ -13,14 +13,14 @@ use rules::{Answer, Row, Stamp};
 use tally::Tally;
 
 // Which program prints: the lister, or the summary.
-#[derive(Drop)]
+#[derive(Clone, Copy)]
 pub enum Mode {
     Listing,
     Summing,
 }
 
 // What is printed of a word, or of the end of a file. `Last`, `Closing` and `Totals` are a program's last; `Closing` is "held" H "worst" D.
-#[derive(Drop)]
+#[derive(Clone, Copy)]
 pub enum Printed {
     Nothing,
     Line(Entry),
@@ -30,7 +30,7 @@ pub enum Printed {
 }
 
 // What is handed on of a word: the line of an event, or the fault that ends the file (0: none).
-#[derive(Drop)]
+#[derive(Clone, Copy)]
 pub enum Output {
     Quiet,
     Line(Entry),

@@ -1,4 +1,6 @@
 // The words of a queue's windows: what reads them, and what writes those of a window that moves on.
+#![tactic(auto)]
+
 mod pairs;
 mod windows;
 

@@ -153,7 +153,7 @@ answer_same : (g : Settings) (limits : settings_fit g ≡ true) (k : Kind g) {ws
     → (cs : List Call) (c : Call) → (call_of g.edition (words_after g.edition ws cs) c).answer ≡ (next_in g (after g s cs) c).answer
 unfolding words_after after
 answer_same g limits k r [] c = (next_related g limits k r c).answer
-answer_same g limits k r (d ∷ cs) c = answer_same g limits k (next_related g limits k r d).related cs c
+answer_same g limits k {ws = ws} r (d ∷ cs) c = answer_same g limits k {ws = (call_of g.edition ws d).words} (next_related g limits k r d).related cs c
 
 -- a stack's figure looks at no window's size
 exact_of_any : (g : Settings) → g.kind ≡ 1 → (size : Size) → bound_by g (exact_rows g) size ≡ exact_bound g

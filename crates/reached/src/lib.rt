@@ -1,1 +1,2 @@
 // A run that reaches the exact figure for a stack's take: see specs/Reached.antt.
+#![tactic(auto)]

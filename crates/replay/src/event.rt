@@ -4,7 +4,7 @@ use rules::{Answer, Settings};
 use runfile::item::Opening;
 
 // What a word after the first two says.
-#[derive(Drop)]
+#[derive(Clone, Copy)]
 pub enum Said {
     BeginPut { worker: u8, value: u32 },
     BeginTake { worker: u8 },
@@ -14,7 +14,7 @@ pub enum Said {
 }
 
 // What such a word did: its position, what it says, and the answer to the call that it makes, `Moving` where it makes none.
-#[derive(Drop)]
+#[derive(Clone, Copy)]
 pub struct Done {
     pub position: u64,
     pub said: Said,
@@ -22,7 +22,7 @@ pub struct Done {
 }
 
 // How a file goes on: its first word is read, the pool is made, a later word did what it says, or the file ends, by a fault of this number (0: none).
-#[derive(Drop)]
+#[derive(Clone, Copy)]
 pub enum Told {
     Opens(Opening),
     Makes(Settings),

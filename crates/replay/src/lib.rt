@@ -1,4 +1,6 @@
 // A run file replayed on a pool, one word at a time.
+#![tactic(auto)]
+
 mod event;
 mod word;
 

@@ -67,37 +67,37 @@ is_lost (Removed row) = false
 is_lost Empty = false
 is_lost Full = false
 
-abbrev Lost-if : Bool → Effect → Type 0
-Lost-if b e = is_lost e.outcome ≡ b
+abbrev LostIf : Bool → Effect → Type 0
+LostIf b e = is_lost e.outcome ≡ b
 
 commit_lost : (g : Settings) (v : View) (side : Side) (matches able : Bool) (done : Effect) → is_lost done.outcome ≡ false
-    → Lost-if (cond matches false true) (commit_by g v side matches able done)
+    → LostIf (cond matches false true) (commit_by g v side matches able done)
 unfolding commit_by cond
 commit_lost g v side true true done e = e
 commit_lost g v side true false done e = refl
 commit_lost g v side false able done e = refl
 
-rule_lost : (g : Settings) (v : View) (p : Phase) → Lost-if (finds v p) (rule_by g v p)
+rule_lost : (g : Settings) (v : View) (p : Phase) → LostIf (finds v p) (rule_by g v p)
 unfolding rule_by window_rule miss_of queue_put_read queue_take_read stack_read check_rule queue_commit queue_put_commit queue_take_commit stack_commit shift_by queue_shift stack_shift confirm_by confirmed_of queue_confirm stack_confirm
 rule_lost g v Idle = refl
-rule_lost g v (Window side) = cases (Lost-if false) _ _ _ (λ e. refl) (λ e. refl)
-rule_lost g v (QueuePutRead window scan) = cases (Lost-if false) _ _ _ (λ e. refl) (λ e. cases (Lost-if false) _ _ _ (λ f. refl) (λ f. refl))
+rule_lost g v (Window side) = cases (LostIf false) _ _ _ (λ e. refl) (λ e. refl)
+rule_lost g v (QueuePutRead window scan) = cases (LostIf false) _ _ _ (λ e. refl) (λ e. cases (LostIf false) _ _ _ (λ f. refl) (λ f. refl))
 rule_lost g v (QueueTakeRead window bare scan sum) =
-    cases (Lost-if false) _ _ _ (λ e. cases (Lost-if false) _ _ _ (λ f. refl) (λ f. refl))
-    (λ e. cases (Lost-if false) _ _ _ (λ f. cases (Lost-if false) _ _ _ (λ h. refl) (λ h. refl)) (λ f. refl))
-rule_lost g v (StackRead side window version scan sum) = cases (Lost-if false) _ _ _ (λ e. refl) (λ e. cases (Lost-if false) _ _ _ (λ f. refl) (λ f. refl))
-rule_lost g v (Check side version seen) = cases (Lost-if false) _ _ _ (λ e. refl) (λ e. refl)
+    cases (LostIf false) _ _ _ (λ e. cases (LostIf false) _ _ _ (λ f. refl) (λ f. refl))
+    (λ e. cases (LostIf false) _ _ _ (λ f. cases (LostIf false) _ _ _ (λ h. refl) (λ h. refl)) (λ f. refl))
+rule_lost g v (StackRead side window version scan sum) = cases (LostIf false) _ _ _ (λ e. refl) (λ e. cases (LostIf false) _ _ _ (λ f. refl) (λ f. refl))
+rule_lost g v (Check side version seen) = cases (LostIf false) _ _ _ (λ e. refl) (λ e. refl)
 rule_lost g v (QueueCommit Putting window seen) = commit_lost g v Putting _ _ _ refl
 rule_lost g v (QueueCommit Taking window seen) = commit_lost g v Taking _ _ _ refl
 rule_lost g v (StackCommit Putting seen) = commit_lost g v Putting _ _ _ refl
 rule_lost g v (StackCommit Taking seen) = commit_lost g v Taking _ _ _ refl
-rule_lost g v (QueueShift Putting window) = cases (Lost-if false) _ _ _ (λ e. cases (Lost-if false) _ _ _ (λ f. refl) (λ f. refl)) (λ e. refl)
-rule_lost g v (QueueShift Taking window) = cases (Lost-if false) _ _ _ (λ e. cases (Lost-if false) _ _ _ (λ f. refl) (λ f. refl)) (λ e. refl)
-rule_lost g v (StackShift Putting version scan sum) = cases (Lost-if false) _ _ _ (λ e. cases (Lost-if false) _ _ _ (λ f. refl) (λ f. refl)) (λ e. refl)
-rule_lost g v (StackShift Taking version scan sum) = cases (Lost-if false) _ _ _ (λ e. cases (Lost-if false) _ _ _ (λ f. refl) (λ f. refl)) (λ e. refl)
-rule_lost g v (QueueConfirm window scan sum) = cases (Lost-if false) _ _ _ (λ e. refl) (λ e. cases (Lost-if false) _ _ _ (λ f. refl) (λ f. refl))
-rule_lost g v (StackConfirm Putting scan sum) = cases (Lost-if false) _ _ _ (λ e. refl) (λ e. cases (Lost-if false) _ _ _ (λ f. refl) (λ f. refl))
-rule_lost g v (StackConfirm Taking scan sum) = cases (Lost-if false) _ _ _ (λ e. refl) (λ e. cases (Lost-if false) _ _ _ (λ f. refl) (λ f. refl))
+rule_lost g v (QueueShift Putting window) = cases (LostIf false) _ _ _ (λ e. cases (LostIf false) _ _ _ (λ f. refl) (λ f. refl)) (λ e. refl)
+rule_lost g v (QueueShift Taking window) = cases (LostIf false) _ _ _ (λ e. cases (LostIf false) _ _ _ (λ f. refl) (λ f. refl)) (λ e. refl)
+rule_lost g v (StackShift Putting version scan sum) = cases (LostIf false) _ _ _ (λ e. cases (LostIf false) _ _ _ (λ f. refl) (λ f. refl)) (λ e. refl)
+rule_lost g v (StackShift Taking version scan sum) = cases (LostIf false) _ _ _ (λ e. cases (LostIf false) _ _ _ (λ f. refl) (λ f. refl)) (λ e. refl)
+rule_lost g v (QueueConfirm window scan sum) = cases (LostIf false) _ _ _ (λ e. refl) (λ e. cases (LostIf false) _ _ _ (λ f. refl) (λ f. refl))
+rule_lost g v (StackConfirm Putting scan sum) = cases (LostIf false) _ _ _ (λ e. refl) (λ e. cases (LostIf false) _ _ _ (λ f. refl) (λ f. refl))
+rule_lost g v (StackConfirm Taking scan sum) = cases (LostIf false) _ _ _ (λ e. refl) (λ e. cases (LostIf false) _ _ _ (λ f. refl) (λ f. refl))
 
 -- ---- what a call leaves of worker i's card
 module _ (ws : List ℕ) (g : Settings) (pool : FitPool g ws) (cards : HasCards g) (i : ℕ) (li : i < g.workers) where
@@ -340,7 +340,7 @@ module _ (g : Settings) (limits : settings_fit g ≡ true) (k : Kind g) (cards :
   cards_after {ws} {s} r (c ∷ cs) few =
       let n = next_related g limits k r c in
       one_after _ _ _ _ s.steps (next_in g s c).state.steps (fails g ws i c) few r.whole.common.steps_few (one_more ws g c i (related_fit g limits k r) cards li)
-      (fails_counted r c) (steps_kept g s c) (λ l. cards_after n.related cs l)
+      (fails_counted r c) (steps_kept g s c) (λ l. cards_after {ws = (call_of g.edition ws c).words} n.related cs l)
 
 pub cards_true : CardsTrue
 cards_true ws g cs made cards i li =

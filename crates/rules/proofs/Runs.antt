@@ -94,7 +94,7 @@ module _ (g : Settings) (limits : settings_fit g ≡ true) (k : Kind g) where
       ≡ count_items p r.list.items + count_items p (items_in 1 (run g.edition ws cs))
   unfolding words_after run
   accounted r [] p = none_accounted r p
-  accounted r (c ∷ cs) p = one_accounted r c _ _ p (accounted (next_related g limits k r c).related cs p)
+  accounted {ws = ws} r (c ∷ cs) p = one_accounted r c _ _ p (accounted {ws = (call_of g.edition ws c).words} (next_related g limits k r c).related cs p)
 
   -- ---- both counts of a take are those of the pool just before
   taken_within : {ws : List ℕ} {s : State} (r : Rel ws s) (i : ℕ) → number_of (call_of g.edition ws (step i)).answer ≡ 2
@@ -141,7 +141,7 @@ module _ (g : Settings) (limits : settings_fit g ≡ true) (k : Kind g) where
   each_step P none here r (begin_take j ∷ cs) i zero e = let z : ◌≡◌ {A = ℕ} 0 1 = cc in absurd (omega arith)
   each_step P none here r (step j ∷ cs) i zero e = here _ _ r j
   each_step P none here r (set_size width depth ∷ cs) i zero e = let z : ◌≡◌ {A = ℕ} 0 1 = cc in absurd (omega arith)
-  each_step P none here r (c ∷ cs) i (suc f) e = each_step P none here (next_related g limits k r c).related cs i f e
+  each_step P none here {ws = ws} r (c ∷ cs) i (suc f) e = each_step P none here {ws = (call_of g.edition ws c).words} (next_related g limits k r c).related cs i f e
 
   abbrev OwnSize : Event → Type 0
   OwnSize e = has_windows g ≡ false → number_of e.answer ≡ 2 → e.measures.size ≡ size_of g
@@ -225,7 +225,7 @@ module _ (g : Settings) (limits : settings_fit g ≡ true) (k : Kind g) where
       → count_items is_spacer (held_items (words_after g.edition ws cs) g) ≡ 0
   unfolding words_after
   no_spacers_after r none [] all = held_listed r is_spacer ∙ none.listed
-  no_spacers_after r none (c ∷ cs) all = let n = next_related g limits k r c in no_spacers_after n.related (n.no_spacers all.0 none) cs all.1
+  no_spacers_after {ws = ws} r none (c ∷ cs) all = let n = next_related g limits k r c in no_spacers_after {ws = (call_of g.edition ws c).words} n.related (n.no_spacers all.0 none) cs all.1
 
   -- ---- a put hands out a stamp above all before
   pub stamped_once : {ws : List ℕ} {s : State} (r : Rel ws s) (cs : List Call) (stamp : ℕ)
@@ -235,7 +235,7 @@ module _ (g : Settings) (limits : settings_fit g ≡ true) (k : Kind g) where
   stamped_once {ws} r (c ∷ cs) stamp =
       let n = next_related g limits k r c in
       let a = (call_of g.edition ws c).answer in
-      let ih = stamped_once n.related cs stamp in
+      let ih = stamped_once {ws = (call_of g.edition ws c).words} n.related cs stamp in
       let both = count_append (has_stamp stamp) (item_in 1 a) (items_in 1 (run g.edition (call_of g.edition ws c).words cs)) in
       elim (ℕ_discrete (number_of a) 1) [
         | yes e ↦
@@ -320,4 +320,4 @@ module _ (g : Settings) (limits : settings_fit g ≡ true) (k : Kind g) where
   fine_at r [] f of = ((λ u. omega arith), (λ u. omega arith))
   fine_at {s = s} r (c ∷ cs) zero of =
       rw (next_related g limits k r c).answer (fine_call s r.list r.whole.common r.whole.inv c of)
-  fine_at r (c ∷ cs) (suc f) of = fine_at (next_related g limits k r c).related cs f of
+  fine_at {ws = ws} r (c ∷ cs) (suc f) of = fine_at {ws = (call_of g.edition ws c).words} (next_related g limits k r c).related cs f of

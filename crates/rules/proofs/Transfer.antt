@@ -150,14 +150,14 @@ module _ (g : Settings) (limits : settings_fit g ≡ true) (k : Kind g) where
       (k.counts s r.list r.whole.inv).sub
 
   -- the words after a call, with the list after it
-  pub record Next-related (ws : List ℕ) (s : State) (q : Contents) (c : Call) : Type 0 where
+  pub record NextRelated (ws : List ℕ) (s : State) (q : Contents) (c : Call) : Type 0 where
     pub answer : (call_of g.edition ws c).answer ≡ (next_in g s c).answer
     pub measures : measures_at ws c (call_of g.edition ws c).answer ≡ (next_in g s c).measures
     pub related : Related (call_of g.edition ws c).words (next_in g s c).state
     pub changed : Changed (bound_in (measures_at ws c (call_of g.edition ws c).answer)) g q (call_of g.edition ws c).answer related.list
     pub no_spacers : NoSpacer c → NoSpacers s q → NoSpacers (next_in g s c).state related.list
 
-  pub next_related : {ws : List ℕ} {s : State} (r : Related ws s) (c : Call) → Next-related ws s r.list c
+  pub next_related : {ws : List ℕ} {s : State} (r : Related ws s) (c : Call) → NextRelated ws s r.list c
   next_related {ws} {s} r c =
       let h = r.whole in
       let f : Follows g (call_of g.edition ws c) (next_in g s c) = follows g limits ws s r.says h.common (k.counts s r.list h.inv) c in
@@ -175,14 +175,14 @@ module _ (g : Settings) (limits : settings_fit g ≡ true) (k : Kind g) where
       }
 
   -- the words after a list of calls
-  pub record After-calls (ws : List ℕ) : Type 0 where
+  pub record AfterCalls (ws : List ℕ) : Type 0 where
     pub state : State
     pub related : Related ws state
 
-  pub related_after : {ws : List ℕ} {s : State} → Related ws s → (cs : List Call) → After-calls (words_after g.edition ws cs)
+  pub related_after : {ws : List ℕ} {s : State} → Related ws s → (cs : List Call) → AfterCalls (words_after g.edition ws cs)
   unfolding words_after
   related_after {s = s} r [] = record { state = s; related = r }
-  related_after r (c ∷ cs) = related_after (next_related r c).related cs
+  related_after {ws = ws} r (c ∷ cs) = related_after {ws = (call_of g.edition ws c).words} (next_related r c).related cs
 
   unfoldable pub made_related : (ws : List ℕ) → Accepted ws g → Related (make_of ws g).words (made_in g)
   made_related ws a =

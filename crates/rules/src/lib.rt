@@ -1,21 +1,23 @@
 // The declared types of the pool, and its numbers that have a meaning. The rules over them are in specs/, in paper 01's order.
+#![tactic(auto)]
+
 pub mod numbers;
 
 // A row of a sub, from 1.
-#[derive(Drop)]
+#[derive(Clone, Copy)]
 pub struct Row(pub u32);
 
 // The number of a put, from 1.
-#[derive(Drop)]
+#[derive(Clone, Copy)]
 pub struct Stamp(pub u32);
 
 // How often a stack's window, or a sub of it, has changed.
-#[derive(Drop)]
+#[derive(Clone, Copy)]
 pub struct Version(pub u32);
 
 // A pool's settings, words 0 to 5, 10 and 11. Kind 0 is a queue (paper 01's line), 1 a stack (its pile). The edition says how many words a
 // worker has, and whether a queue's windows have sizes of their own.
-#[derive(Drop)]
+#[derive(Clone, Copy)]
 pub struct Settings {
     pub kind: u32,
     pub width: u32,
@@ -28,28 +30,28 @@ pub struct Settings {
 }
 
 // So many of a sub's cells, one after the other, from its cell `start` on, counted from 0: paper 02's straight run.
-#[derive(Drop)]
+#[derive(Clone, Copy)]
 pub struct Segment {
     pub start: u32,
     pub count: u32,
 }
 
 // At most two of them, one after the other: up to the sub's last cell, and on from its first. One without cells is none.
-#[derive(Drop)]
+#[derive(Clone, Copy)]
 pub struct Segments {
     pub first: Segment,
     pub second: Segment,
 }
 
 // How large a queue's window is: so many subs wide, and so many rows deep.
-#[derive(Drop)]
+#[derive(Clone, Copy)]
 pub struct Size {
     pub width: u32,
     pub depth: u32,
 }
 
 // A queue's window as a worker sees it: the rows above `bottom` up to `top` of the subs below `width`.
-#[derive(Drop)]
+#[derive(Clone, Copy)]
 pub struct Span {
     pub top: u32,
     pub bottom: u32,
@@ -57,14 +59,14 @@ pub struct Span {
 }
 
 // What an operation was begun as.
-#[derive(Drop)]
+#[derive(Clone, Copy)]
 pub enum Side {
     Putting,
     Taking,
 }
 
 // A worker's phase, with just what that phase has seen.
-#[derive(Drop)]
+#[derive(Clone, Copy)]
 pub enum Phase {
     Idle,
     Window(Side),
@@ -131,7 +133,7 @@ pub enum Phase {
 }
 
 // A worker.
-#[derive(Drop)]
+#[derive(Clone, Copy)]
 pub struct Worker {
     pub value: u32,
     pub index: u32,
@@ -140,7 +142,7 @@ pub struct Worker {
 
 // A worker's words as they lie, but for its failed commits; `number` is the phase's. An edition that does not have the last two, of the
 // window seen, reads them as zero and drops them.
-#[derive(Drop)]
+#[derive(Clone, Copy)]
 pub struct Slot {
     pub number: u32,
     pub value: u32,
@@ -156,7 +158,7 @@ pub struct Slot {
 
 // How large a queue's windows are: the put window, the take window, the one after it, and the next put window; and how many are live, from
 // the take window to the put window.
-#[derive(Drop)]
+#[derive(Clone, Copy)]
 pub struct Sizes {
     pub put: Size,
     pub take: Size,
@@ -169,7 +171,7 @@ pub struct Sizes {
 // take window or the version of a stack's window. `first` and `second` are the two words of the sub at the worker's index:
 // items put and items taken, or items held and version. `worker` is what the worker's words hold; `kept` are those words
 // as they lie, for the ones that its next phase does not hold.
-#[derive(Drop)]
+#[derive(Clone, Copy)]
 pub struct View {
     pub top: u32,
     pub mark: u32,
@@ -183,7 +185,7 @@ pub struct View {
 
 // What a queue's rules read of a view: the two windows, how deep the next put window is and the window after the take window, how many
 // windows are live, and the last rows of the sub.
-#[derive(Drop)]
+#[derive(Clone, Copy)]
 pub struct QueueView {
     pub put: Span,
     pub take: Span,
@@ -195,7 +197,7 @@ pub struct QueueView {
 }
 
 // The shared words of a view, as a stack's rules read them.
-#[derive(Drop)]
+#[derive(Clone, Copy)]
 pub struct StackView {
     pub window: u32,
     pub version: Version,
@@ -206,7 +208,7 @@ pub struct StackView {
 // How a step ends, and so which words it writes: the worker's and the step count, where a commit failed (`Lost`) the worker's count of
 // those, where a stack's window moved (`Shifted`) its two words, where a queue's put window moved on (`Raised`) or its take window
 // (`Dropped`) that window's, where an item landed or was removed the two of its sub.
-#[derive(Drop)]
+#[derive(Clone, Copy)]
 pub enum Outcome {
     Refused(u32),
     Moving,
@@ -221,7 +223,7 @@ pub enum Outcome {
 }
 
 // What a step does: all that it read, as it is afterwards.
-#[derive(Drop)]
+#[derive(Clone, Copy)]
 pub struct Effect {
     pub outcome: Outcome,
     pub slot: Slot,
@@ -233,7 +235,7 @@ pub struct Effect {
 }
 
 // What a call answers. `Moving` is paper 01's 0: moving, made or begun.
-#[derive(Drop)]
+#[derive(Clone, Copy)]
 pub enum Answer {
     Moving,
     Put {
@@ -255,7 +257,7 @@ pub enum Answer {
 }
 
 // Whose turn it is: the worker's number.
-#[derive(Drop)]
+#[derive(Clone, Copy)]
 pub enum Turn {
     NoneBusy,
     Worker(u32),
@@ -263,7 +265,7 @@ pub enum Turn {
 
 // What a dispatcher comes to. `Finished` names the worker, with its final answer; where the count ran out, `next` is the
 // worker whose turn is next.
-#[derive(Drop)]
+#[derive(Clone, Copy)]
 pub enum Dispatched {
     Finished { worker: u32, answer: Answer },
     NoneBusy,

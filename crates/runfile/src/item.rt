@@ -51,7 +51,7 @@ const SIZE_SPARE_BIT: u32 = 1 << 12;
 pub const NO_FAULT: u32 = 0;
 
 // The settings that the first word holds; kind 1 is a stack (paper 01's pile).
-#[derive(Drop)]
+#[derive(Clone, Copy)]
 pub struct Opening {
     pub kind: u32,
     pub width: u32,
@@ -61,7 +61,7 @@ pub struct Opening {
 }
 
 // Where a word stands, with what was read before it that its meaning needs.
-#[derive(Drop)]
+#[derive(Clone, Copy)]
 pub enum Place {
     First,
     Second(Opening),
@@ -71,7 +71,7 @@ pub enum Place {
 }
 
 // What a word says. `Bad` is the refusal `BAD_WORD`: a kind out of place, a nonzero spare bit, bytes after the end.
-#[derive(Drop)]
+#[derive(Clone, Copy)]
 pub enum Item {
     Open(Opening),
     Make(Settings),

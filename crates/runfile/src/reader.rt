@@ -5,7 +5,7 @@ ghost use Rattle.runfile.specs.Words.{read_at};
 
 use crate::word::{Read, word_at};
 
-#[derive(Drop)]
+#[derive(Clone, Copy)]
 pub struct Reader<'a> {
     pub src: &'a [u8],
     pub at: usize,

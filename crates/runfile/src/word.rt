@@ -13,7 +13,7 @@ const BYTE_2_BIT: u32 = 1 << 16;
 const BYTE_3_BIT: u32 = 1 << 24;
 
 // What stands at a word position: a word, the first bytes of one that the file's end cuts off, or nothing.
-#[derive(Drop)]
+#[derive(Clone, Copy)]
 pub enum Read {
     Word(u32),
     Cut,

@@ -18,7 +18,7 @@ use step::answers::number;
 pub const MOST_BYTES: usize = WORD_BYTES * MOST_WORDS;
 
 // The number of a move, and how many bytes the moved pool has.
-#[derive(Drop)]
+#[derive(Clone, Copy)]
 pub struct Moved {
     pub number: u32,
     pub used: usize,

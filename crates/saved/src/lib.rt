@@ -1,4 +1,6 @@
 // A file with a saved pool: its words, low byte first, and its move from an edition to another.
+#![tactic(auto)]
+
 mod bytes;
 mod file;
 

@@ -1,4 +1,6 @@
 // A new pool on lent words, and the size of its windows from the next one on: for all words.
+#![tactic(auto)]
+
 mod new;
 mod size;
 

@@ -1,4 +1,6 @@
 // Whether what the workers share is fit: the windows, and the subs.
+#![tactic(auto)]
+
 mod shared;
 mod subs;
 mod windows;

@@ -25,7 +25,7 @@ use Rattle.rules.specs.Apply.{count_lost, put_worker, apply_by, apply_of}
 use Rattle.rules.specs.Step.{rule_by, rule_of, slot_step, fit_step, checked_step, step_of}
 use Rattle.rules.specs.Run.{Call, begin_put, begin_take, step, set_size, call_of, run}
 use Rattle.rules.specs.Consequences.{words_after}
-use Rattle.rules.specs.Collisions.{finds, finds_other, fails}
+use Rattle.rules.specs.Collisions.{finds, finds_other}
 use Rattle.sizes.specs.NextSize.{size_after, last_size, NextSizeIsLast, Rises, RaisedHasNext, HopsByPool}
 use Rattle.sizes.proofs.Types.{Settings, Size, Side, Putting, Taking, Phase, Idle, Window, QueuePutRead, QueueTakeRead, StackRead, Check, QueueCommit, StackCommit, QueueShift, StackShift, QueueConfirm, StackConfirm, View, Effect, Outcome}
 use Rattle.rules.specs.declared.Outcome.TheVariants.{Refused, Moving, Lost, Shifted, Raised, Dropped, Landed, Removed, Empty, Full}
@@ -88,7 +88,7 @@ module _ (g : Settings) (limits : settings_fit g ≡ true) (k : Kind g) (has : h
   next_after {ws} {s} r (c ∷ cs) =
       let n = next_related g limits k r c in
       let size = next_after_call g s c ∙ ap (λ a. size_after s.next c (number_of a)) (sym n.answer) in
-      next_after n.related cs ∙ ap (λ (z : Size). last_size z (run g.edition (call_of g.edition ws c).words cs)) size
+      next_after {ws = (call_of g.edition ws c).words} n.related cs ∙ ap (λ (z : Size). last_size z (run g.edition (call_of g.edition ws c).words cs)) size
 
   -- ---- the put window
   -- where its top has changed

@@ -1,1 +1,2 @@
 // How soon a worker by itself ends: see specs/Solo.antt.
+#![tactic(auto)]

@@ -1,1 +1,2 @@
 // Runs by hand with spacers: see specs/Spacers.antt.
+#![tactic(auto)]

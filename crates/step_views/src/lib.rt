@@ -1,4 +1,6 @@
 // What a step reads: its worker's words, its sub's, the windows' tops and the sizes that its phase asks for.
+#![tactic(auto)]
+
 mod sizes;
 mod worker_view;
 

@@ -27,7 +27,7 @@ use Rattle.rules.proofs.BothKinds.{kind_of, inv_of}
 use Rattle.rules.proofs.Course.{At, calls_course}
 use Rattle.rules.proofs.words.Made.{accepted}
 use Rattle.rules.proofs.words.Stores.{number_same}
-use Rattle.rules.proofs.Transfer.{Related, related_fit, Next-related, next_related}
+use Rattle.rules.proofs.Transfer.{Related, related_fit, NextRelated, next_related}
 use Rattle.rules.proofs.progress.Steps.{Result, finishes, goes}
 use Rattle.rules.proofs.progress.QueueLeft.{queue_left}
 use Rattle.stretch.proofs.Acts.{busy_step}
@@ -70,7 +70,7 @@ module _ (g : Settings) (good : Good g) (kind : g.kind ≡ 0) (limits : settings
   -- ---- one turn, from how the next ones go on
   module _ {ws : List ℕ} {s : State} (r : Rel ws s) (i j k m : ℕ) (turn : turn_from ws g i ≡ Worker j) (busy : HasTurn ws g j) (time : s.steps < step_limit)
       (rest : (next_in g s (step j)).state.steps ≡ suc s.steps → Busy g (step_of g.edition ws j).words → Comes (step_of g.edition ws j).words (worker_after g j) k m) where
-    abbrev x : Next-related g limits (kind_of g limits) ws s r.list (step j)
+    abbrev x : NextRelated g limits (kind_of g limits) ws s r.list (step j)
     x = next_related g limits (kind_of g limits) r (step j)
 
     answer : (step_of g.edition ws j).answer ≡ (next_in g s (step j)).answer

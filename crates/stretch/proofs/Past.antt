@@ -14,7 +14,7 @@ use native.Mathlib.Omega.{arith}
 use Rattle.rules.specs.Limits.{settings_fit}
 use Rattle.rules.specs.Make.{make_of, in_edition}
 use Rattle.rules.specs.Sequential.{Contents}
-use Rattle.rules.specs.Run.{Call}
+use Rattle.rules.specs.Run.{Call, call_of}
 use Rattle.rules.specs.Consequences.{words_after}
 use Rattle.stretch.proofs.Types.{Settings, Idle}
 use Rattle.rules.proofs.machine.Machine.{State, phase_in, with_size, next_in, made_in}
@@ -156,9 +156,9 @@ module _ (g : Settings) (kind : g.kind ≡ 0) where
     where
       go : {ws : List ℕ} → Reached limits ws → (cs : List Call) → Reached limits (words_after g.edition ws cs)
       go r [] = r
-      go r (c ∷ cs) =
+      go {ws = now} r (c ∷ cs) =
           let k = r.related in
-          go (record {
+          go {ws = (call_of g.edition now c).words} (record {
             state = (next_in g r.state c).state;
             related = (next_related g limits (kind_of g limits) k c).related;
             past = past_next g (good g limits) kind r.state k.list k.whole.common (inv_of g limits kind r.state k.list k.whole.inv) r.past c;

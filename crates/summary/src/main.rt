@@ -1,4 +1,6 @@
 // The summary: reads a run file from standard input, however long, and writes what it comes to, in seven lines, to standard output.
+#![tactic(auto)]
+
 use program::{Mode, complain, print_file};
 
 fn main() {

@@ -1,4 +1,6 @@
 // What is counted over the events of a file.
+#![tactic(auto)]
+
 ghost use Rattle.std.specs.Prelude.{◌≡◌, max};
 ghost use Rattle.rules.specs.Limits.{Bounds};
 ghost use Rattle.rules.specs.Run.{distance_in};
@@ -14,7 +16,7 @@ use rules::{Answer, Settings};
 use step::answers::number;
 
 // How many operations were put, taken, empty and full, how many calls were refused, the greatest distance, and the bound on one.
-#[derive(Drop)]
+#[derive(Clone, Copy)]
 pub struct Tally {
     pub puts: u64,
     pub takes: u64,

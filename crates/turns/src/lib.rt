@@ -1,4 +1,6 @@
 // One word of a run file, printed.
+#![tactic(auto)]
+
 ghost use Rattle.std.specs.Prelude.{◌≡◌, ℕ, ◌+◌, ◌%◌, ◌^◌, List};
 ghost use Rattle.runfile.specs.Words.{read_at};
 ghost use Rattle.replay.specs.Told.{next_told};
@@ -12,7 +14,7 @@ use runfile::item::Place;
 use tally::{Tally, bound_in, count, no_tally};
 
 // Where a program is in a file: the next word's place and position, and what is counted.
-#[derive(Drop)]
+#[derive(Clone, Copy)]
 pub struct Printer {
     pub place: Place,
     pub position: u64,
@@ -20,7 +22,7 @@ pub struct Printer {
 }
 
 // What one word does: what is handed on of it to be printed, and where the program is then.
-#[derive(Drop)]
+#[derive(Clone, Copy)]
 pub struct Turn {
     pub printer: Printer,
     pub output: Output,

@@ -1,1 +1,2 @@
 // No call touches a word beyond the needed ones: see specs/Untouched.antt.
+#![tactic(auto)]

@@ -1,4 +1,6 @@
 // A worker's words, and the worker that they hold.
+#![tactic(auto)]
+
 mod decode;
 mod encode;
 mod windows;

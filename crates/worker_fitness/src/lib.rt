@@ -1,4 +1,6 @@
 // The workers: worker by worker, their words.
+#![tactic(auto)]
+
 ghost use Rattle.std.specs.Prelude.{true, ◌≡◌, ◌+◌, ◌≤◌, eqb, length};
 ghost use Rattle.worker_fitness.specs.Words.{word_fit};
 ghost use Rattle.laws.specs.Choice.{cond, both, all_below};

@@ -192,13 +192,13 @@ pub record Kind (g : Settings) : Type 1 where
 
 -- ---- the law of one call
 module _ (g : Settings) (k : Kind g) where
-  abbrev Call-turn : State → Contents → Call → Next State → Type 0
-  Call-turn s q c o = Turned g k.Inv k.Snap s q c o
+  abbrev CallTurn : State → Contents → Call → Next State → Type 0
+  CallTurn s q c o = Turned g k.Inv k.Snap s q c o
 
-  turn_step : (s : State) (q : Contents) → Common g s → k.Inv s q → (i : ℕ) → Call-turn s q (step i) (step_in g s i)
+  turn_step : (s : State) (q : Contents) → Common g s → k.Inv s q → (i : ℕ) → CallTurn s q (step i) (step_in g s i)
   turn_step s q common inv i = by (step_called g s i)
     where
-      by : {o : Next State} → Called s (Steps g s i) (apply_in g s i (rule_of g (view_in g s i))) o → Call-turn s q (step i) o
+      by : {o : Next State} → Called s (Steps g s i) (apply_in g s i (rule_of g (view_in g s i))) o → CallTurn s q (step i) o
       by (refuses n l unable e) = rw e (refused (omega arith) refl)
       by (does able e) = rw e (k.steps s q common inv i able.worker able.time)
 
@@ -208,10 +208,10 @@ module _ (g : Settings) (k : Kind g) where
       rw (window_phase g side v x zero_slot, encode_value g (worker v x (Window side)) zero_slot) refl
 
   turn_begin : (s : State) (q : Contents) → Common g s → k.Inv s q → (i : ℕ) (side : Side) (v : ℕ) (c : Call) → c ≡ begin i (operation_of side v)
-      → Call-turn s q c (begin_in g s i side v)
+      → CallTurn s q c (begin_in g s i side v)
   turn_begin s q common inv i side v c u = by (begin_called g s i side v)
     where
-      opens : phase_in g s i ≡ Idle → Call-turn s q c (next Moving (begun g s i side v))
+      opens : phase_in g s i ≡ Idle → CallTurn s q c (next Moving (begun g s i side v))
       opens p =
           opened i (operation_of side v) u refl (ap (status_of (s.slot i).value) p)
           (status_here g s.slot i _ ∙ begun_status side v (sub_in s i))
@@ -221,11 +221,11 @@ module _ (g : Settings) (k : Kind g) where
           })
           (k.begins s q common inv i p side v)
 
-      by : {o : Next State} → Called s (Begins g s i) (next Moving (begun g s i side v)) o → Call-turn s q c o
+      by : {o : Next State} → Called s (Begins g s i) (next Moving (begun g s i side v)) o → CallTurn s q c o
       by (refuses n l unable e) = rw e (refused (omega arith) refl)
       by (does able e) = rw e (opens (idle_phase g (s.slot i) able.idle))
 
-  turn_size : (s : State) (q : Contents) → k.Inv s q → (width depth : ℕ) → Call-turn s q (set_size width depth) (set_size_in g s (record { width = width; depth = depth }))
+  turn_size : (s : State) (q : Contents) → k.Inv s q → (width depth : ℕ) → CallTurn s q (set_size width depth) (set_size_in g s (record { width = width; depth = depth }))
   unfolding set_size_in
   turn_size s q inv width depth =
       let size : Size = record { width = width; depth = depth } in
@@ -241,12 +241,12 @@ module _ (g : Settings) (k : Kind g) where
       (λ a. refused (omega arith) refl)
     where
       Of : Next State → Type 0
-      Of o = Call-turn s q (set_size width depth) o
+      Of o = CallTurn s q (set_size width depth) o
 
       no_step : (j width depth : ℕ) → set_size width depth ≡ step j → ⊥
       no_step j width depth e = let z : ◌≡◌ {A = ℕ} 0 1 = cc in omega arith
 
-  pub turn : (s : State) (q : Contents) → Common g s → k.Inv s q → (c : Call) → Call-turn s q c (next_in g s c)
+  pub turn : (s : State) (q : Contents) → Common g s → k.Inv s q → (c : Call) → CallTurn s q c (next_in g s c)
   unfolding next_in
   turn s q common inv (begin_put i v) = turn_begin s q common inv i Putting v (begin_put i v) refl
   turn s q common inv (begin_take i) = turn_begin s q common inv i Taking 0 (begin_take i) refl
@@ -257,7 +257,7 @@ module _ (g : Settings) (k : Kind g) where
   pub refused_same : (s : State) (q : Contents) → Common g s → k.Inv s q → (c : Call) → 4 < number_of (next_in g s c).answer → (next_in g s c).state ≡ s
   refused_same s q common inv c l = by (turn s q common inv c)
     where
-      by : Call-turn s q c (next_in g s c) → (next_in g s c).state ≡ s
+      by : CallTurn s q c (next_in g s c) → (next_in g s c).state ≡ s
       by (refused n e) = e
       by (passes no_step n same h) = absurd (omega arith)
       by (opened i op u n a b w h) = absurd (omega arith)
