@@ -12,18 +12,15 @@ store_first-requires c = let low = slot_within c.args.g.edition in search rules
 
 pub put_pair-requires : goal.put_pair-requires
 put_pair-requires c =
-    let asked = c in
-    let stored = asked in
-    let e = sym asked.is_windowed.ensures ∙ c.if-is_windowed.true in
-    let has = words_two _ (windowed_is stored.args.g e) in
-    rw stored.store_first.auto.0 (search rules)
+    let e = sym c.is_windowed.ensures ∙ c.if-is_windowed.true in
+    let has = words_two _ (windowed_is c.args.g e) in
+    rw c.store_first.auto.words (search rules)
 
 pub returns-then-is_windowed : goal.returns-then-is_windowed
 unfolding put_slot cond
 returns-then-is_windowed c =
-    let asked = c in
-    let e = sym asked.is_windowed.ensures ∙ c.if-is_windowed.true in
-    c.put_pair.ensures ∙ rw (asked.store_first.ensures, e) (simp (towards_suc, add-one))
+    let e = sym c.is_windowed.ensures ∙ c.if-is_windowed.true in
+    c.put_pair.ensures ∙ rw (c.store_first.ensures, e) (simp (towards_suc, add-one))
 
 pub returns-else-is_windowed : goal.returns-else-is_windowed
 unfolding put_slot cond

@@ -5,10 +5,9 @@ use Rattle.queue_windows.proofs.pairs.add_pair.Goals as goal
 pub returns : goal.returns
 unfolding pair_added
 returns c =
-    let placed = c in
     simp (
       c.put_pair.ensures,
-      placed.windows_at-at.ensures,
-      placed.next_size-next.ensures,
-      placed.live_of_lem.ensures,
+      c.windows_at-at.ensures,
+      c.next_size-next.ensures,
+      c.live_of-live.ensures,
     )

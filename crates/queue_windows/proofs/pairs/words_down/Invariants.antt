@@ -9,5 +9,5 @@ use Rattle.queue_windows.proofs.pairs.words_down.Given as goal
 abbrev pub invariant-loop-k : goal.invariant-loop-k
 invariant-loop-k l = (l.k ≤ l.count) × (length l.words ≡ length l.initial.words) × (l.words ≡ words_down l.initial.words l.at l.k)
 
-abbrev pub measure-loop-k : goal.measure-loop-k
-measure-loop-k l = l.count - l.k
+abbrev pub decreases-loop-k : goal.decreases-loop-k
+decreases-loop-k l = l.count - l.k

@@ -12,4 +12,4 @@ returns-then-g-ge-WINDOWED c = simp (le-leb _ _ c.if-g-ge-WINDOWED.true)
 
 pub returns : goal.returns
 unfolding seen_by windowed cond
-returns c = c.Span-of.ensures ∙ simp (c.size_of_law.ensures, lt-leb _ _ c.if-g-ge-WINDOWED.false)
+returns c = c.span_of.ensures ∙ simp (c.size_of.ensures, lt-leb _ _ c.if-g-ge-WINDOWED.false)
