@@ -1,0 +1,22 @@
+-- `worker_fitness::every_fit` meets its contract: the two loops' invariants are that every worker passed, and every word of this worker passed, is fit; the first word
+-- that is not decides the whole, and both loops are left.
+use Rattle.worker_fitness.specs.Words.{word_fit}
+use Rattle.worker_fitness.proofs.Places.{is_fit}
+use Rattle.laws.specs.Choice.{all_below}
+use lib.ListN.{get_or}
+use mathlib.Core.Bool.{true}
+use mathlib.Core.Path.{◌≡◌}
+use Prim.Native.Nat.{◌+◌, ◌-◌, ◌≤◌}
+use Rattle.worker_fitness.proofs.every_fit.Given as goal
+
+abbrev pub invariant-loop-k : goal.invariant-loop-k
+invariant-loop-k l = (l.k ≤ 11) × (l.fit ≡ true) × (all_below l.k (λ l.k. word_fit l.g l.width l.k (get_or l.words (l.at + l.k) 0)) ≡ true)
+
+abbrev pub decreases-loop-k : goal.decreases-loop-k
+decreases-loop-k l = 11 - l.k
+
+abbrev pub invariant-workers : goal.invariant-workers
+invariant-workers l = (l.i ≤ l.g.workers) × (l.fit ≡ true) × (all_below l.i (is_fit l.words l.g) ≡ true)
+
+abbrev pub decreases-workers : goal.decreases-workers
+decreases-workers l = l.g.workers - l.i
