@@ -8,7 +8,7 @@ use native.Mathlib.Omega.{arith}
 use lib.ListN.{get_or, length, length-append}
 use Rattle.laws.specs.Choice.{cond}
 use Rattle.bands.proofs.Bottoms.{next_bottom}
-use Rattle.bands.proofs.Joined.{lowest_in, joined_held, nothing_above}
+use Rattle.bands.proofs.JoinedBands.{lowest_in, joined_held, nothing_above}
 use Rattle.bands.proofs.Rows.{rows_items, rows_in_runs}
 use Rattle.bands.proofs.Walks.{Walked, between_walked, band_walked, walked_sub_law}
 use Rattle.bands.specs.Together.{Joins, band_within}

@@ -2,7 +2,7 @@
 pub mod Rows
 pub mod Bottoms
 pub mod Walks
-pub mod Joined
+pub mod JoinedBands
 pub mod Whole
 pub mod Widths
 pub mod Counts

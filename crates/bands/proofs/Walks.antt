@@ -2,8 +2,7 @@
 -- of a sub meets is what the sub holds.
 use Prim.Native.Nat.{ℕ, zero, suc, ◌+◌, ◌-◌, ◌^◌, ◌≤◌, ◌<◌}
 use mathlib.Core.List.{List, ◌++◌}
-use mathlib.Core.Path.{◌≡◌, refl, sym, ap, ap₂, ◌∙◌}
-use mathlib.Core.Logic.{◌≢◌}
+use mathlib.Core.Path.{◌≡◌, refl, ap₂}
 use mathlib.Core.Bool.{Bool, true, false}
 use native.Mathlib.Decide.{ℕ_discrete}
 use native.Mathlib.Omega.{arith}
@@ -11,7 +10,7 @@ use lib.Dec.{ltb, eqb}
 use lib.ListN.{get_or}
 use borrow.Author.Tests.{eqb-true}
 use Rattle.laws.specs.Choice.{cond, cases, both_true}
-use Rattle.rules.specs.Fit.{SubFits, FitPool}
+use Rattle.rules.specs.Fit.{FitPool}
 use Rattle.rules.specs.Held.{Band, band_between, sub_band, window_band, band_count, band_of, items_above, held_bands, held_sub}
 use Rattle.rules.specs.Layout.{top_at, first_at, second_at, first_of, second_of}
 use Rattle.rules.specs.Limits.{windowed}

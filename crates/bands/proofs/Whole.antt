@@ -1,5 +1,5 @@
 -- A sub that lies within all live windows holds one band of rows, from the lowest bottom up to the highest top.
-use Prim.Native.Nat.{ℕ, ◌+◌, ◌-◌, ◌^◌, ◌≤◌, ◌<◌}
+use Prim.Native.Nat.{ℕ, ◌-◌, ◌^◌, ◌≤◌, ◌<◌}
 use mathlib.Core.List.{List}
 use mathlib.Core.Path.{◌≡◌, refl, ap, ◌∙◌}
 use mathlib.Core.Bool.{Bool, true, false}
@@ -16,7 +16,7 @@ use Rattle.rules.specs.Limits.{windowed}
 use Rattle.rules.specs.Windows.{has_windows, live_of, nth_size, bottom_of, higher, lower}
 use Rattle.rules.specs.declared.Settings.{Settings}
 use Rattle.bands.specs.Together.{whole_band, Together}
-use Rattle.bands.proofs.Joined.{lowest_in, rows_up_to, joined_bands}
+use Rattle.bands.proofs.JoinedBands.{lowest_in, rows_up_to, joined_bands}
 use Rattle.bands.proofs.Walks.{Walked, between_walked, band_walked}
 
 -- the windows from the first on

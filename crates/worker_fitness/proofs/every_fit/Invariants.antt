@@ -10,7 +10,7 @@ use Prim.Native.Nat.{◌+◌, ◌-◌, ◌≤◌}
 use Rattle.worker_fitness.proofs.every_fit.Given as goal
 
 abbrev pub invariant-loop-k : goal.invariant-loop-k
-invariant-loop-k l = (l.k ≤ 11) × (l.fit ≡ true) × (all_below l.k (λ l.k. word_fit l.g l.width l.k (get_or l.words (l.at + l.k) 0)) ≡ true)
+invariant-loop-k l = (l.k ≤ 11) × (l.fit ≡ true) × (all_below l.k (λ k. word_fit l.g l.width k (get_or l.words (l.at + k) 0)) ≡ true)
 
 abbrev pub decreases-loop-k : goal.decreases-loop-k
 decreases-loop-k l = 11 - l.k

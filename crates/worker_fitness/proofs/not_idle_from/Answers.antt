@@ -2,8 +2,6 @@
 use Rattle.worker_fitness.proofs.Places.{is_fit}
 use Rattle.laws.specs.Choice.{all_below_more}
 use native.Mathlib.Omega.{arith}
-use mathlib.Core.Bool.{true}
-use Prim.Native.Nat.{◌-◌}
 use Rattle.worker_fitness.proofs.not_idle_from.Goals as goal
 
 pub loop-i-preserved : goal.loop-i-preserved

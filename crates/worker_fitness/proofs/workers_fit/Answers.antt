@@ -1,5 +1,5 @@
 -- `worker_fitness::workers_fit` meets its contract: every worker passed is fit, and the first that is not decides the whole.
-use Prim.Native.Nat.{◌+◌, ◌-◌}
+use Prim.Native.Nat.{◌+◌}
 use mathlib.Core.Bool.{true}
 use mathlib.Core.Path.{◌≡◌, sym, ◌∙◌}
 use native.Mathlib.Omega.{arith}
@@ -9,7 +9,7 @@ use Rattle.worker_fitness.proofs.Places.{is_fit, here}
 use Rattle.worker_fitness.proofs.workers_fit.Goals as goal
 
 -- the worker that is looked at is fit too
-more : (c : goal.After-not_idle_from-i-then-worker_fit invariant-loop decreases-loop)
+more : (c : goal.After-not_idle_from-i-then-worker_fit)
     → let a = c.args in
     all_below (c.loop-i.i + 1) (is_fit a.words.now a.g) ≡ true
 more c =

@@ -16,7 +16,7 @@ use Rattle.rules.specs.declared.Size.{Size}
 use Rattle.bands.proofs.Bottoms.{bottoms_up, bottom_after, top_small, pairs_there}
 use Rattle.bands.proofs.Whole.{lowest_is}
 use Rattle.bands.proofs.Counts.{joined_few, joined_counted, live_counted, none_counted, rest_counted}
-use Rattle.bands.proofs.Joined.{lowest_in, outside_none}
+use Rattle.bands.proofs.JoinedBands.{lowest_in, outside_none}
 use Rattle.held.proofs.reported.windows_reported.Statement.{statement}
 use Rattle.held.proofs.reported.windows_reported.Tie as tie
 

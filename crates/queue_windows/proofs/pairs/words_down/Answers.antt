@@ -1,6 +1,6 @@
 -- `queue_windows::pairs::words_down` meets its contract: the loop's invariant is that the words passed are each the one a pair behind it. What is read next has
 -- not been written yet.
-use Prim.Native.Nat.{ℕ, zero, suc, ◌+◌, ◌-◌, ◌≤◌}
+use Prim.Native.Nat.{ℕ, zero, suc, ◌+◌, ◌≤◌}
 use mathlib.Core.List.{List}
 use mathlib.Core.Path.{◌≡◌, refl, sym, ◌∙◌}
 use native.Mathlib.Numerals.{add-one}
