@@ -1,5 +1,5 @@
 -- `lines::filled::put_filled` meets its contract. From byte i and number k on the filled template stands before `end`. Assumes nothing.
-use Prim.Native.Nat.{◌+◌, ◌-◌, ◌≤◌}
+use Prim.Native.Nat.{◌+◌, ◌≤◌}
 use mathlib.Core.Path.{◌≡◌}
 use lib.ListN.{length, drop}
 use Rattle.lines.specs.Area.{written, put_before}

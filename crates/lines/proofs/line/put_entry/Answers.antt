@@ -14,9 +14,8 @@ returns-then-end-lt-LINE_BYTES c = simp (lt-ltb _ _ c.if-end-lt-LINE_BYTES.true)
 pub put_line-requires : goal.put_line-requires
 put_line-requires c =
     let e = c.args.e in
-    let known = c.struct_known-1.given in
-    let fits = entry_fits e (omega (arith, known)) in
-    omega (arith, fits, c.if-end-lt-LINE_BYTES.false)
+    let fits = entry_fits e (omega arith) in
+    omega arith
 
 pub returns : goal.returns
 unfolding put_last cond

@@ -16,13 +16,13 @@ unfolding line_of
 loop-i-init c =
     let a = c.args in
     let none = drop-length a.numbers.now in
-    (search rules, search rules, rw none, rw none (put_none a.area-1.now (length a.area-1.now)))
+    (search rules, search rules, rw none, rw none (put_none a.area.now (length a.area.now)))
 
 pub put_number-at-requires : goal.put_number-at-requires
 put_number-at-requires c =
     let l = c.loop-i in
     let a = c.args in
-    let room = line_room a.area-1.now a.numbers.now l.area-1 l.at l.i c.loop-i-test.true l.invariant.0 c.requires l.invariant.3 in
+    let room = line_room a.area.now a.numbers.now l.area l.at l.i c.loop-i-test.true l.invariant.0 c.requires l.invariant.3 in
     (room.0, omega arith)
 
 pub loop-i-preserved : goal.loop-i-preserved
@@ -35,10 +35,10 @@ loop-i-preserved c =
     let from = line_from a.numbers.now l.i low l.invariant.0 in
     let piece = decimal (get_or a.numbers.now (l.i - 1) 0) ++ (l.after ∷ []) in
     let whole : piece ++ before ≡ line_of (drop (l.i - 1) a.numbers.now) = simp (append_assoc, l.invariant.2, from) in
-    let fits : length piece + length before ≤ length a.area-1.now =
+    let fits : length piece + length before ≤ length a.area.now =
     omega (arith, sym (length-append piece before) ∙ ap length whole, line_part a.numbers.now (l.i - 1), c.requires) in (
       search rules,
-      call.auto.words ∙ l.invariant.1,
+      call.auto.area ∙ l.invariant.1,
       sym (after_more a.numbers.now (l.i - 1) (omega arith)),
-      call.ensures ∙ (put_on a.area-1.now (length a.area-1.now) before l.area-1 l.at piece l.invariant.3 fits (omega arith) ∙ rw whole),
+      call.ensures ∙ (put_on a.area.now (length a.area.now) before l.area l.at piece l.invariant.3 fits (omega arith) ∙ rw whole),
     )

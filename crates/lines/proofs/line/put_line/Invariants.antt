@@ -1,5 +1,5 @@
 -- `lines::line::put_line` meets its contract. From number i on the line stands at the end of the area, and the byte that follows number i - 1 is known. Assumes nothing.
-use Prim.Native.Nat.{◌-◌, ◌≤◌}
+use Prim.Native.Nat.{◌≤◌}
 use mathlib.Core.Path.{◌≡◌}
 use lib.ListN.{length, drop}
 use Rattle.lines.specs.Lines.{after_of, line_of}

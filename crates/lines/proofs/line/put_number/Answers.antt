@@ -8,4 +8,4 @@ use Rattle.lines.proofs.line.put_number.Goals as goal
 pub returns : goal.returns
 returns c =
     let a = c.args in
-    c.put_digits.ensures ∙ sym (put_snoc a.area-1.now a.end (decimal a.x) a.after (omega arith) (omega arith))
+    c.put_digits.ensures ∙ sym (put_snoc a.area.now a.end (decimal a.x) a.after (omega arith) (omega arith))

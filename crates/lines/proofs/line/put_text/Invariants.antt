@@ -1,5 +1,5 @@
 -- `lines::line::put_text` meets its contract. What is left of the text, put before what is there, is always the whole text put before `end`. Assumes nothing.
-use Prim.Native.Nat.{◌-◌, ◌≤◌}
+use Prim.Native.Nat.{◌≤◌}
 use mathlib.Core.Path.{◌≡◌}
 use lib.ListN.{length, take}
 use Rattle.lines.specs.Area.{put_before}

@@ -10,7 +10,7 @@ put_filled-requires-clause-template_value c = counts_marks
 
 pub put_filled-requires-clause-numbers_len_bound : goal.put_filled-requires-clause-numbers_len_bound
 unfolding counts_lines
-put_filled-requires-clause-numbers_len_bound c = omega (arith, counts_most c.args.s (omega (arith, c.well-formed)), c.requires)
+put_filled-requires-clause-numbers_len_bound c = omega (arith, counts_most c.args.s (omega (arith, c.well_formed)), c.requires)
 
 pub returns : goal.returns
 unfolding counts_lines

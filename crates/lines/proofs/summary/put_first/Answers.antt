@@ -15,7 +15,7 @@ pub put_filled-requires-clause-template_value : goal.put_filled-requires-clause-
 put_filled-requires-clause-template_value c = faulty_marks
 
 pub put_filled-requires-clause-numbers_len_bound : goal.put_filled-requires-clause-numbers_len_bound
-put_filled-requires-clause-numbers_len_bound c = omega (arith, faulty_most c.args.s (omega (arith, c.well-formed)), c.requires)
+put_filled-requires-clause-numbers_len_bound c = omega (arith, faulty_most c.args.s (omega (arith, c.well_formed)), c.requires)
 
 pub returns : goal.returns
 unfolding first_line cond

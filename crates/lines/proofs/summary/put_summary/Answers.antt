@@ -18,16 +18,16 @@ pub put_first-requires : goal.put_first-requires
 put_first-requires c =
     let a = c.args in
     let p = c.put_counts-at in
-    let start = put_start a.area-1.now (length a.area-1.now) (counts_lines a.s) p.new.0 p.result p.ensures in
-    omega (arith, counts_most a.s (omega (arith, c.well-formed)), c.if-end-lt-SUMMARY_BYTES.false, p.auto.words)
+    let start = put_start a.area.now (length a.area.now) (counts_lines a.s) p.new.area p.result p.ensures in
+    omega (arith, counts_most a.s (omega (arith, c.well_formed)), c.if-end-lt-SUMMARY_BYTES.false, p.auto.area)
 
 pub returns : goal.returns
 unfolding put_last summary_text cond
 returns c =
     let a = c.args in
     let p = c.put_counts-at in
-    let counts = counts_most a.s (omega (arith, c.well-formed)) in
-    let first = first_most a.s (omega (arith, c.well-formed)) in
+    let counts = counts_most a.s (omega (arith, c.well_formed)) in
+    let first = first_most a.s (omega (arith, c.well_formed)) in
     c.put_first.ensures
-    ∙ (put_on a.area-1.now (length a.area-1.now) (counts_lines a.s) p.new.0 p.result (first_line a.s) p.ensures (omega (arith, c.if-end-lt-SUMMARY_BYTES.false)) (omega arith)
+    ∙ (put_on a.area.now (length a.area.now) (counts_lines a.s) p.new.area p.result (first_line a.s) p.ensures (omega (arith, c.if-end-lt-SUMMARY_BYTES.false)) (omega arith)
     ∙ simp (le-ltb _ _ c.if-end-lt-SUMMARY_BYTES.false))
