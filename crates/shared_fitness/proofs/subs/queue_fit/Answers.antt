@@ -3,11 +3,10 @@
 use Rattle.rules.specs.declared.Settings.{Settings}
 use Rattle.rules.specs.Windows.{level_of}
 use Rattle.rules.specs.Fit.{above_by, queue_sub_fit}
-use Rattle.std.proofs.Common.{◌≡◌, ℕ, ◌+◌, ◌-◌, ◌%◌, ◌^◌, ◌<◌, ◌≤◌, Bool, true, false, ◌||◌, eqb, ltb, leb, refl, ap, ◌∙◌, arith, rules, ltb-false, ltb-true, le-ltb, lt-ltb, leb-false, leb-true}
+use Rattle.std.proofs.Common.{◌≡◌, ℕ, ◌+◌, ◌-◌, ◌%◌, ◌^◌, ◌<◌, Bool, true, false, ◌||◌, eqb, ltb, leb, refl, ap, ◌∙◌, arith, rules, ltb-false, ltb-true, le-ltb, lt-ltb, leb-false, leb-true}
 use Rattle.rules.specs.Fit.{above_by}
 use Rattle.laws.specs.Choice.{cond, both}
-use Rattle.shared_fitness.proofs.subs.queue_fit.Statement.{statement}
-use Rattle.shared_fitness.proofs.subs.queue_fit.Tie as tie
+use Rattle.shared_fitness.proofs.subs.queue_fit.Goals as goal
 
 queue_by : (g : Settings) (bottom put taken above : ℕ) {level : ℕ} → level ≡ level_of g taken bottom → ltb above g.rows ≡ above_by g.rows put level
     → (eqb put taken || ltb above g.rows) ≡ queue_sub_fit g bottom put taken
@@ -30,33 +29,7 @@ wraps_above rows put level above a b c d e = go (ltb level put) refl
     go true h = within (ltb-true level put h) (leb (put - level) rows) refl
     go false h = le-ltb above rows (omega (arith, ltb-false level put h))
 
-level-of-requires : tie.Need-level-of-requires
-level-of-requires c κs = search rules
-
-cast-wrapping-sub-u64 : tie.Need-overflow-cast-wrapping-sub-u64
-cast-wrapping-sub-u64 c = search rules
-
-add-wrapping-sub-u64 : tie.Need-overflow-add-wrapping-sub-u64
-add-wrapping-sub-u64 c = search rules
-
-wrapping-sub-u64-requires : tie.Need-wrapping-sub-u64-requires
-wrapping-sub-u64-requires c κs = search rules
-
-cast-result : tie.Need-overflow-cast-result
-cast-result c = search rules
-
-returns : tie.Need-returns
+pub returns : goal.returns
 returns c =
-    let a = c.before.before.before.args in
-    queue_by a.g a.bottom a.put a.taken c.before.wrapping-sub-u64.result c.before.before.level-of.ensures (search (wraps_above, rules))
-
-pub queue-fit-spec : {M : Type 1} → statement M
-queue-fit-spec =
-    tie.close
-    (tie.spec
-    level-of-requires
-    cast-wrapping-sub-u64
-    add-wrapping-sub-u64
-    wrapping-sub-u64-requires
-    cast-result
-    returns)
+    let a = c.args in
+    queue_by a.g a.bottom a.put a.taken c.wrapping_sub_u64-above.result c.level_of-level.ensures (search (wraps_above, rules))
