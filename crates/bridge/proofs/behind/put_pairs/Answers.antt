@@ -1,0 +1,27 @@
+-- `bridge::behind::put_pairs` meets its contract: the loop's invariant is that the first k live windows have the pool's size.
+use Prim.Native.Nat.{ℕ, ◌+◌, ◌-◌, ◌*◌}
+use mathlib.Core.List.{List}
+use mathlib.Core.Path.{◌≡◌, refl, ◌∙◌}
+use native.Mathlib.Numerals.{add-one}
+use native.Mathlib.Omega.{arith}
+use borrow.Author.Rules.{rules}
+use lib.ListN.{set}
+use Rattle.rules.specs.Layout.{pairs_at, pair_words}
+use Rattle.turnaround.specs.Move.{own_pairs}
+use Rattle.rules.specs.declared.Settings.{Settings}
+use Rattle.bridge.proofs.behind.put_pairs.Goals as goal
+
+-- one pair more
+more : (ws : List ℕ) (h : Settings) (k at : ℕ) → at ≡ pairs_at h → set (set (own_pairs ws h k) (at + pair_words * k) h.width) (at + pair_words * k + 1) h.depth ≡ own_pairs ws h (k + 1)
+unfolding own_pairs
+more ws h k at e = rw (e, add-one k, add-one (pairs_at h + pair_words * k)) refl
+
+pub loop-k-init : goal.loop-k-init
+unfolding own_pairs
+loop-k-init c = (search rules, omega (arith, c.windows_at-at.ensures), search rules, refl)
+
+pub loop-k-preserved : goal.loop-k-preserved
+loop-k-preserved c =
+    let l = c.loop-k in
+    let a = c.args in
+    (search rules, l.invariant.1, search rules, c.put_pair.ensures ∙ (rw l.invariant.3 (more a.to-1.now a.h l.k _ l.invariant.1)))

@@ -1,0 +1,24 @@
+-- `held::reported::cells_reported` meets its contract: the loop's invariant is the count over the cells gone through.
+use Prim.Native.Nat.{◌-◌}
+use mathlib.Core.Logic.{⊎_elim}
+use mathlib.Core.Path.{sym, ◌∙◌}
+use native.Mathlib.Omega.{arith}
+use borrow.Author.Rules.{rules}
+use Rattle.laws.specs.Choice.{cond_true, cond_false}
+use Rattle.ring.proofs.Walk.{cells_none, cells_more}
+use Rattle.rules.specs.Held.{reported}
+use Rattle.held.proofs.reported.cells_reported.Goals as goal
+
+pub loop-k-init : goal.loop-k-init
+loop-k-init c = (search rules, search rules, sym (cells_none _ c.args.cells.now 0 0))
+
+pub loop-k-preserved : goal.loop-k-preserved
+loop-k-preserved c =
+    let it = c.cell_item-it.ensures in
+    let a = c.args in
+    let one = cells_more (reported a.kind a.s.0) a.cells.now c.loop-k.k in
+    let test = rw (it.0, it.1) at (sym c.is_reported.ensures) in
+    ⊎_elim
+    (λ w. omega (arith, simp (test ∙ w.0.taken, cond_true) at one))
+    (λ w. omega (arith, simp (test ∙ w.0.left, cond_false) at one))
+    c.if-is_reported.branch
