@@ -3,7 +3,7 @@
 
     bench/programs.py BEFORE AFTER [--words N] [--runs N]
 
-BEFORE and AFTER are programs as `rt check lister` leaves them, target/bin/lister of two revisions. The files, one of a queue and one of a stack, are
+BEFORE and AFTER are programs as `tools/build lister` leaves them, target/bin/lister of two revisions. The files, one of a queue and one of a stack, are
 made up from a fixed seed: begins and steps of four workers, with refused calls among them, 10,000,000 words unless told otherwise. For each file and
 program: the least and the median of the processor seconds of so many runs (21) and, from a run of its own, the most memory; then the ratios of the two.
 What the two print is compared, and a difference is told.

@@ -1,6 +1,6 @@
 #!/usr/bin/env bash
 # Builds each C program of examples/ against the compiled library and compares what it prints with its .out file.
-# The header is for C99, and for C++11 too, where there is a compiler for it.
+# The header is for C99, and for C++11 too, where there is a compiler for it. The library must have been built: `tools/build pool`.
 set -euo pipefail
 cd "$(dirname "$0")/.."
 work=$(mktemp -d)

@@ -1,13 +1,13 @@
 #!/bin/sh
 # tests/examples.sh: packs each text of examples/ and examples/runs/ into a run file, prints it with target/bin/lister and target/bin/summary, from a file and
 # in pieces of a few bytes, and compares with the stored listing and with the summary, where one is stored. Then long files, in pieces of all sizes.
-# The programs must have been built: `rt check lister` and `rt check summary`.
+# The programs must have been built: `tools/build lister summary`.
 cd "$(dirname "$0")/.." || exit 2
 lister=target/bin/lister
 summary=target/bin/summary
 missing=
 for program in "$lister" "$summary"; do
-    [ -x "$program" ] || { echo "examples: no $program: run 'rt check ${program##*/}' first" >&2; missing=1; }
+    [ -x "$program" ] || { echo "examples: no $program: run 'tools/build ${program##*/}' first" >&2; missing=1; }
 done
 [ -z "$missing" ] || exit 2
 # Looked for once: where python3 is a wrapper, finding the interpreter takes longer than a listing.

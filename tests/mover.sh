@@ -1,11 +1,11 @@
 #!/usr/bin/env bash
 # Moves saved pools with target/bin/mover, there and back, and compares byte by byte: the pool of crates/mover, a largest one of each kind, wrong, cut and
 # damaged ones, each from a file and in pieces of a few bytes. Then wrong arguments, and what can't be read or written.
-# The mover must have been built: `rt check mover`.
+# The mover must have been built: `tools/build mover`.
 set -uo pipefail
 cd "$(dirname "$0")/.." || exit 2
 mover=target/bin/mover
-[ -x "$mover" ] || { echo "mover: no $mover: run 'rt check mover' first" >&2; exit 2; }
+[ -x "$mover" ] || { echo "mover: no $mover: run 'tools/build mover' first" >&2; exit 2; }
 # Looked for once: where python3 is a wrapper, finding the interpreter takes longer than a move.
 python=$(python3 -c 'import sys; print(sys.executable)') || exit 2
 work=$(mktemp -d) || exit 2

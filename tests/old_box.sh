@@ -1,6 +1,7 @@
 #!/usr/bin/env bash
 # A pool moved from an old box goes on as it would have there: old_box.sh OLD.a ONE.a [SEED [SECONDS]]
-# OLD.a is an archive of the library from before editions, ONE.a one of edition 1. old_box.c is built against both, the functions of each under names of
+# OLD.a is an archive of the library from before editions, ONE.a one of edition 1: both are of revisions in an older Rattle, which only the kit of their
+# time builds (tests/README.md). old_box.c is built against both, the functions of each under names of
 # their own, and against target/staticlib/libpool.a, or the archive that POOL_ARCHIVE names, for the moves between the two.
 set -euo pipefail
 [ $# -ge 2 ] && [ $# -le 4 ] || { echo "old_box: call it as old_box.sh OLD.a ONE.a [SEED [SECONDS]]" >&2; exit 2; }

@@ -19,7 +19,7 @@ fn main() {
     let out = PathBuf::from(env::var_os("OUT_DIR").expect("cargo sets it"));
     if let Err(error) = fs::copy(&archive, out.join("libpool.a")) {
         panic!(
-            "no archive of the compiled library at {}: {error}. Make it with `rt staticlib pool` \
+            "no archive of the compiled library at {}: {error}. Make it with `tools/build pool` \
              in the repository's root, or name another one in {OVERRIDE}",
             archive.display()
         );

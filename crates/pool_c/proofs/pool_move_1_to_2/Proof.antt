@@ -1,9 +1,9 @@
--- `pool::export::pool_move_1_to_0` meets its contract: the calls' promises put together are the definition.
+-- `pool_c::pool_move_1_to_2` meets its contract: the calls' promises put together are the definition.
 use mathlib.Core.Path.{ap}
 use borrow.Author.Rules.{rules}
 use Rattle.rules.specs.Answers.{returned_alone}
-use Rattle.pool.proofs.export.pool_move_1_to_0.Statement.{statement}
-use Rattle.pool.proofs.export.pool_move_1_to_0.Tie as tie
+use Rattle.pool_c.proofs.pool_move_1_to_2.Statement.{statement}
+use Rattle.pool_c.proofs.pool_move_1_to_2.Tie as tie
 
 move-pool-requires : tie.Need-move-pool-requires
 move-pool-requires c κs = search rules
@@ -17,5 +17,5 @@ same_length c = search rules
 returns : tie.Need-returns
 returns c = rw c.number.ensures (ap returned_alone c.before.before.before.move-pool.ensures)
 
-pub pool-move-1-to-0-spec : {M : Type 1} → statement M
-pool-move-1-to-0-spec = tie.close (tie.spec move-pool-requires number-requires same_length returns)
+pub pool-move-1-to-2-spec : {M : Type 1} → statement M
+pool-move-1-to-2-spec = tie.close (tie.spec move-pool-requires number-requires same_length returns)

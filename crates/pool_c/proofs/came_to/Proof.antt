@@ -1,10 +1,10 @@
--- `pool::export::came_to` meets its contract: at each return the case that led there picks the same clause of `result_number` and `result_fields`.
+-- `pool_c::came_to` meets its contract: at each return the case that led there picks the same clause of `result_number` and `result_fields`.
 use mathlib.Core.Path.{ap, sym, ◌∙◌}
 use borrow.Author.Rules.{rules}
 use Rattle.rounds.specs.Dispatch.{result_fields, result_number}
 use Rattle.rounds.proofs.Loop.{six_fields}
-use Rattle.pool.proofs.export.came_to.Statement.{statement}
-use Rattle.pool.proofs.export.came_to.Tie as tie
+use Rattle.pool_c.proofs.came_to.Statement.{statement}
+use Rattle.pool_c.proofs.came_to.Tie as tie
 
 enum-known-r : tie.Need-enum-known-r
 enum-known-r c = search rules

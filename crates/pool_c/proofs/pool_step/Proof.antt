@@ -1,10 +1,10 @@
--- `pool::export::pool_begin_put` meets its contract: begin put is what is asked of the worker.
+-- `pool_c::pool_step` meets its contract: a step is what is asked of the worker.
 use native.Mathlib.Omega.{arith}
 use Rattle.laws.specs.Choice.{cond}
 use Rattle.calls.specs.Called.{called}
 use borrow.Author.Rules.{rules}
-use Rattle.pool.proofs.export.pool_begin_put.Statement.{statement}
-use Rattle.pool.proofs.export.pool_begin_put.Tie as tie
+use Rattle.pool_c.proofs.pool_step.Statement.{statement}
+use Rattle.pool_c.proofs.pool_step.Tie as tie
 
 call-requires : tie.Need-call-requires
 call-requires c κs = λ e. absurd (omega arith)
@@ -16,5 +16,5 @@ returns : tie.Need-returns
 unfolding called cond
 returns c = c.before.before.call.ensures
 
-pub pool-begin-put-spec : {M : Type 1} → statement M
-pool-begin-put-spec = tie.close (tie.spec call-requires same_length returns)
+pub pool-step-spec : {M : Type 1} → statement M
+pool-step-spec = tie.close (tie.spec call-requires same_length returns)

@@ -1,9 +1,9 @@
--- `pool::export::pool_make` meets its contract: the calls' promises put together are the definition.
+-- `pool_c::pool_make` meets its contract: the calls' promises put together are the definition.
 use mathlib.Core.Path.{ap}
 use borrow.Author.Rules.{rules}
 use Rattle.rules.specs.Answers.{returned_of}
-use Rattle.pool.proofs.export.pool_make.Statement.{statement}
-use Rattle.pool.proofs.export.pool_make.Tie as tie
+use Rattle.pool_c.proofs.pool_make.Statement.{statement}
+use Rattle.pool_c.proofs.pool_make.Tie as tie
 
 make-requires : tie.Need-make-requires
 make-requires c κs = search rules

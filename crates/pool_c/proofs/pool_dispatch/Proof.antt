@@ -1,9 +1,9 @@
--- `pool::export::pool_dispatch` meets its contract: the calls' promises put together are the definition.
+-- `pool_c::pool_dispatch` meets its contract: the calls' promises put together are the definition.
 use mathlib.Core.Path.{ap}
 use borrow.Author.Rules.{rules}
 use Rattle.rounds.specs.Dispatch.{dispatch_returned}
-use Rattle.pool.proofs.export.pool_dispatch.Statement.{statement}
-use Rattle.pool.proofs.export.pool_dispatch.Tie as tie
+use Rattle.pool_c.proofs.pool_dispatch.Statement.{statement}
+use Rattle.pool_c.proofs.pool_dispatch.Tie as tie
 
 dispatch-requires : tie.Need-dispatch-requires
 dispatch-requires c κs = search rules

@@ -1,9 +1,9 @@
--- `pool::export::pool_set_size` meets its contract: the calls' promises put together are the definition.
+-- `pool_c::pool_set_size` meets its contract: the calls' promises put together are the definition.
 use mathlib.Core.Path.{ap}
 use borrow.Author.Rules.{rules}
 use Rattle.rules.specs.Answers.{returned_alone}
-use Rattle.pool.proofs.export.pool_set_size.Statement.{statement}
-use Rattle.pool.proofs.export.pool_set_size.Tie as tie
+use Rattle.pool_c.proofs.pool_set_size.Statement.{statement}
+use Rattle.pool_c.proofs.pool_set_size.Tie as tie
 
 set-size-requires : tie.Need-set-size-requires
 set-size-requires c κs = search rules

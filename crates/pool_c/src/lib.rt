@@ -1,4 +1,6 @@
 // The functions that C calls: the answer's number is returned, and its five fields are written; of a dispatcher's result six, and a size call and a move have none.
+#![tactic(auto)]
+
 ghost use Rattle.std.specs.Prelude.{◌≡◌, []};
 ghost use Rattle.rules.specs.Answers.{returned, returned_of, returned_alone};
 ghost use Rattle.rules.specs.Begin.{begin_put_of, begin_take_of};
@@ -9,10 +11,8 @@ ghost use Rattle.rules.specs.Resize.{set_size_of};
 ghost use Rattle.rules.specs.Step.{step_of};
 
 use calls::{PUT, STEP, TAKE, call};
-use dispatcher::dispatch;
-use moves::move_pool;
+use pool::{dispatch, make, move_pool, set_size};
 use rules::Dispatched;
-use setup::{make, set_size};
 use step::answers::{answered, fields, number};
 
 #[unsafe(no_mangle)]

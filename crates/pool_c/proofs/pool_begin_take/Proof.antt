@@ -1,10 +1,10 @@
--- `pool::export::pool_begin_take` meets its contract: begin take is what is asked of the worker.
+-- `pool_c::pool_begin_take` meets its contract: begin take is what is asked of the worker.
 use native.Mathlib.Omega.{arith}
 use Rattle.laws.specs.Choice.{cond}
 use Rattle.calls.specs.Called.{called}
 use borrow.Author.Rules.{rules}
-use Rattle.pool.proofs.export.pool_begin_take.Statement.{statement}
-use Rattle.pool.proofs.export.pool_begin_take.Tie as tie
+use Rattle.pool_c.proofs.pool_begin_take.Statement.{statement}
+use Rattle.pool_c.proofs.pool_begin_take.Tie as tie
 
 call-requires : tie.Need-call-requires
 call-requires c κs = λ e. absurd (omega arith)

@@ -1,9 +1,9 @@
--- `pool::export::pool_move_2_to_1` meets its contract: the calls' promises put together are the definition.
+-- `pool_c::pool_move_2_to_1` meets its contract: the calls' promises put together are the definition.
 use mathlib.Core.Path.{ap}
 use borrow.Author.Rules.{rules}
 use Rattle.rules.specs.Answers.{returned_alone}
-use Rattle.pool.proofs.export.pool_move_2_to_1.Statement.{statement}
-use Rattle.pool.proofs.export.pool_move_2_to_1.Tie as tie
+use Rattle.pool_c.proofs.pool_move_2_to_1.Statement.{statement}
+use Rattle.pool_c.proofs.pool_move_2_to_1.Tie as tie
 
 move-pool-requires : tie.Need-move-pool-requires
 move-pool-requires c κs = search rules
