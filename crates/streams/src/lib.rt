@@ -49,3 +49,99 @@ pub fn write_all<W: Write>(to: &mut W, bytes: &[u8]) -> bool
     }
     true
 }
+
+#[cfg(test)]
+mod tests {
+    use super::*;
+    use std::io;
+    use std::test::Fail;
+
+    // Gives and takes a byte at a time, so many of them, and fails from then on.
+    #[derive(Drop)]
+    struct Slow {
+        held: Vec<u8>,
+        left: usize,
+    }
+
+    impl Read for Slow {
+        fn read(&mut self, buf: &mut [u8]) -> io::Result<usize> {
+            if self.left == 0 {
+                return Err(io::Error::from(io::ErrorKind::TimedOut));
+            }
+            self.left -= 1;
+            if buf.is_empty() {
+                return Ok(0);
+            }
+            buf[0] = b'x';
+            Ok(1)
+        }
+    }
+
+    impl Write for Slow {
+        fn write(&mut self, buf: &[u8]) -> io::Result<usize> {
+            if self.left == 0 {
+                return Err(io::Error::from(io::ErrorKind::StorageFull));
+            }
+            self.left -= 1;
+            if buf.is_empty() {
+                return Ok(0);
+            }
+            self.held.push(buf[0])?;
+            Ok(1)
+        }
+
+        fn flush(&mut self) -> io::Result<()> {
+            Ok(())
+        }
+    }
+
+    #[test]
+    fn short_writes_are_continued(rt: HostRuntime) -> Result<(), Fail> {
+        let mut to = Slow {
+            held: Vec::new(rt.alloc()),
+            left: 5,
+        };
+        assert!(rt; write_all(&mut to, b"hello"));
+        assert!(rt; write_all(&mut to, b""));
+        assert!(rt; !write_all(&mut to, b"!"));
+        assert_eq!(rt; to.held.as_slice(), b"hello".as_slice());
+        Ok(())
+    }
+
+    #[test]
+    fn a_write_that_fails_stops(rt: HostRuntime) -> Result<(), Fail> {
+        let mut to = Slow {
+            held: Vec::new(rt.alloc()),
+            left: 3,
+        };
+        assert!(rt; !write_all(&mut to, b"hello"));
+        assert_eq!(rt; to.held.as_slice(), b"hel".as_slice());
+        Ok(())
+    }
+
+    #[test]
+    fn a_read_that_fails_brings_nothing(rt: HostRuntime) {
+        let mut from = Slow {
+            held: Vec::new(rt.alloc()),
+            left: 1,
+        };
+        let mut area = *b"abc";
+        let got = read_behind(&mut from, &mut area, 2);
+        assert!(rt; got.end == 3 && !got.failed);
+        assert_eq!(rt; area, *b"abx");
+        let got = read_behind(&mut from, &mut area, 1);
+        assert!(rt; got.end == 1 && got.failed);
+        assert_eq!(rt; area, *b"abx");
+    }
+
+    #[test]
+    fn memory_is_read_to_its_end(rt: HostRuntime) {
+        let mut from = b"de".as_slice();
+        let mut area = *b"abcabc";
+        let got = read_behind(&mut from, &mut area, 3);
+        assert!(rt; got.end == 5 && !got.failed);
+        assert_eq!(rt; area, *b"abcdec");
+        let got = read_behind(&mut from, &mut area, 5);
+        assert!(rt; got.end == 5 && !got.failed);
+    }
+}
