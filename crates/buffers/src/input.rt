@@ -2,12 +2,14 @@
 ghost use Rattle.std.specs.Prelude.{◌≡◌, ◌+◌, ◌-◌, ◌%◌, ◌<◌, ◌≤◌, true, length, take, drop};
 ghost use Rattle.std.proofs.Math.Seq.{paste};
 ghost use Rattle.runfile.specs.Words.{word_bytes};
+ghost use Rattle.streams.specs.Behind.{ReadBehind};
 ghost use Rattle.buffers.specs.Kept.{ReadsNothing, WritesNothing, at_start, most_reads, Fed, Unfed};
 
 use crate::run::Run;
-use libc::STDIN_FILENO;
 use pieces::Stretch;
 use runfile::word::WORD_BYTES;
+use std::io::Read;
+use streams::read_behind;
 
 // What a read leaves: where the input's bytes end, whether it failed, and how many reads there were.
 #[derive(Clone, Copy)]
@@ -17,17 +19,17 @@ pub struct Input {
     pub reads: u64,
 }
 
-// Reads on after the bytes that are carried over, and counts the read.
-pub fn read_on(src: &mut [u8], carried: usize, reads: u64) -> Input
+// Reads on after the bytes that are carried over, in one read, and counts it. A read that fails brings no byte.
+pub fn read_on<R: Read>(from: &mut R, src: &mut [u8], carried: usize, reads: u64) -> Input
     requires { (carried ≤ length src.old) × (reads < most_reads) }
     ensures behind { (carried ≤ result.end) × (result.end ≤ length src.old) × (take carried src.new ≡ take carried src.old) × (result.reads ≡ reads + 1) }
     ensures nothing { result.failed ≡ true → result.end ≡ carried }
+    ensures bytes { ReadBehind (R.remaining from.old) (R.remaining from.new) carried (record { end = result.end; failed = result.failed }) src.new }
 {
-    let got = libc::read(STDIN_FILENO, &mut src[carried..]);
-    let n = io::count(got, &src[carried..]);
+    let got = read_behind(from, src, carried);
     Input {
-        end: carried + n,
-        failed: got < 0,
+        end: got.end,
+        failed: got.failed,
         reads: reads + 1,
     }
 }

@@ -1,23 +1,26 @@
 // The output, written.
-ghost use Rattle.std.specs.Prelude.{◌≡◌, ℕ, ◌+◌, ◌≤◌, List, length};
+ghost use Rattle.std.specs.Prelude.{◌≡◌, ℕ, ◌+◌, ◌≤◌, false, List, length, take};
+ghost use Rattle.std.specs.Io.KnownBytes.{Appends};
 ghost use Rattle.pieces.specs.Stretch.{turn_bytes};
 ghost use Rattle.printing.specs.declared.printed.Mode.{Mode as Mode-as-Mode};
 ghost use Rattle.buffers.specs.Kept.{Keeps, ReadsNothing, Remembers, FlushedTo};
 
 use crate::run::Run;
-use libc::STDOUT_FILENO;
 use pieces::{Stretch, TURN_BYTES};
+use std::io::Write;
+use streams::write_all;
 
 // Hands what is used of the output to be written, and uses it anew.
-pub fn flush(out: &[u8], run: Run) -> Run
+pub fn flush<W: Write>(to: &mut W, out: &[u8], run: Run) -> Run
     requires { run.stretch.used ≤ length out.now }
-    ensures { FlushedTo run result }
+    ensures run { FlushedTo run result }
+    ensures bytes { result.unwritten ≡ false → Appends (W.contents to.old) (W.contents to.new) (take run.stretch.used out.now) }
 {
     let s = run.stretch;
     let used = s.used;
     let printer = s.printer;
     let mut unwritten = run.unwritten;
-    if !io::write_all(STDOUT_FILENO, &out[..used]) {
+    if !write_all(to, &out[..used]) {
         unwritten = true;
     }
     let stretch = Stretch {
@@ -39,7 +42,7 @@ pub fn flush(out: &[u8], run: Run) -> Run
 }
 
 // With room for a turn in the output.
-pub fn with_room(out: &[u8], run: Run) -> Run
+pub fn with_room<W: Write>(to: &mut W, out: &[u8], run: Run) -> Run
     requires { (turn_bytes ≤ length out.now) × (run.stretch.used ≤ length out.now) }
     ensures room { result.stretch.used + turn_bytes ≤ length out.now }
     ensures same { (result.stretch.at ≡ run.stretch.at) × (result.stretch.complete ≡ run.stretch.complete) × ReadsNothing run result × Remembers run result }
@@ -49,5 +52,5 @@ pub fn with_room(out: &[u8], run: Run) -> Run
     if TURN_BYTES <= out.len() - s.used {
         return run;
     }
-    flush(out, run)
+    flush(to, out, run)
 }

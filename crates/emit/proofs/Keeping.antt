@@ -3,7 +3,7 @@
 use Prim.Native.Nat.{ℕ, ◌+◌, ◌-◌, ◌/◌, ◌<◌, ◌≤◌}
 use mathlib.Core.Bool.{Bool, true, false, false≢true}
 use mathlib.Core.List.{List}
-use mathlib.Core.Path.{◌≡◌, ap}
+use mathlib.Core.Path.{◌≡◌, ap, ◌∙◌}
 use native.Mathlib.Omega.{arith}
 use lib.ListN.{length}
 use Rattle.laws.specs.Choice.{cond}
@@ -41,3 +41,18 @@ print_last m src false turns s next t e more at-end = absurd (false≢true at-en
 print_last m src true turns s next t e more at-end =
     let n = length src / 4 + 1 - s.stretch.at in
     rw (t, e) (last_completes m n src s (omega arith) (λ at. absurd (omega arith)))
+
+-- a stretch over what is left of a piece, with room for a turn: it comes further, and not past the piece's turns; the last of the file completes it
+pub further : (m : Mode) (src ws out ws' out' : List ℕ) (turns : ℕ) (from run roomy next : Run) → turns ≡ turns_in src from.ended
+    → ReadsNothing from run → ReadsNothing run roomy → roomy.stretch.at ≡ run.stretch.at → roomy.stretch.complete ≡ run.stretch.complete
+    → run.stretch.complete ≡ false → run.stretch.at < turns → roomy.stretch.used + turn_bytes ≤ length out
+    → stretched next.stretch ws' out' ≡ stretch_of m src roomy.ended (stretched roomy.stretch ws out)
+    → (run.stretch.at < next.stretch.at) × (next.stretch.at ≤ turns) × (from.ended ≡ true → next.stretch.at ≡ turns → next.stretch.complete ≡ true)
+further m src ws out ws' out' turns from run roomy next t r r' at c going more room e =
+    let ended : roomy.ended ≡ from.ended = r'.ended ∙ r.ended in
+    let t' : turns ≡ turns_in src roomy.ended = rw ended t in
+    let s = stretched roomy.stretch ws out in
+    let n = stretched next.stretch ws' out' in
+    let less : s.stretch.at < turns = omega arith in
+    let on = print_on m src roomy.ended turns s n t' e less (c ∙ going) room in
+    (omega (arith, on.0), on.1, λ last. print_last m src roomy.ended turns s n t' e less (ended ∙ last))

@@ -8,6 +8,7 @@ ghost use Rattle.buffers.specs.Kept.{Keeps, ReadsNothing, WritesNothing, Remembe
 use buffers::{Run, with_room};
 use pieces::{print_words, turns_in};
 use printing::Mode;
+use std::io::Write;
 
 // Prints on in a piece, while the output has room.
 fn print_on(words: &mut [u32], mode: Mode, run: Run, src: &[u8], out: &mut [u8]) -> Run
@@ -31,7 +32,14 @@ fn print_on(words: &mut [u32], mode: Mode, run: Run, src: &[u8], out: &mut [u8])
 }
 
 // Prints a piece, all of it: the output is written wherever it may lack room for a turn.
-pub fn print_piece(words: &mut [u32], mode: Mode, from: Run, src: &[u8], out: &mut [u8]) -> Run
+pub fn print_piece<W: Write>(
+    to: &mut W,
+    words: &mut [u32],
+    mode: Mode,
+    from: Run,
+    src: &[u8],
+    out: &mut [u8],
+) -> Run
     requires { (turn_bytes ≤ length out.old) × (from.stretch.used ≤ length out.old) × (from.stretch.at ≡ 0) }
     ensures inside { result.stretch.used ≤ length out.old }
     ensures all { (result.stretch.complete ≡ false → result.stretch.at ≡ turns_in src.now from.ended) × (from.ended ≡ true → result.stretch.complete ≡ true) }
@@ -48,7 +56,7 @@ pub fn print_piece(words: &mut [u32], mode: Mode, from: Run, src: &[u8], out: &m
         if turns <= s.at {
             break;
         }
-        let roomy = with_room(out, run);
+        let roomy = with_room(to, out, run);
         run = print_on(words, mode, roomy, src, out);
     }
     run

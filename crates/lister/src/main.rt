@@ -3,6 +3,7 @@
 
 use program::{Mode, complain, print_file};
 
-fn main() {
-    complain(print_file(Mode::Listing), b"lister");
+fn main(rt: HostRuntime) {
+    let run = print_file(&mut rt.stdin(), &mut rt.stdout(), Mode::Listing);
+    complain(&mut rt.stderr(), run, b"lister");
 }

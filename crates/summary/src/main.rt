@@ -3,6 +3,7 @@
 
 use program::{Mode, complain, print_file};
 
-fn main() {
-    complain(print_file(Mode::Summing), b"summary");
+fn main(rt: HostRuntime) {
+    let run = print_file(&mut rt.stdin(), &mut rt.stdout(), Mode::Summing);
+    complain(&mut rt.stderr(), run, b"summary");
 }

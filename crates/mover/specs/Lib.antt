@@ -1,0 +1,2 @@
+-- What the mover writes of what it read.
+pub mod MovesInput
