@@ -21,7 +21,6 @@ use Rattle.rules.specs.Make.{shipped, in_edition}
 use Rattle.rules.specs.Limits.{settings_fit}
 use Rattle.rules.specs.Step.{checked_step, step_of}
 use Rattle.rules.specs.declared.Settings.{Settings}
-use Rattle.rules.specs.declared.Answer.TheVariants.{Refused as Refuses}
 use Rattle.rules.specs.declared.Dispatched.TheVariants.{Refused}
 use Rattle.rules.specs.declared.Turn.TheVariants.{Worker}
 

@@ -93,7 +93,7 @@ loop-left-preserved c =
     let step = c.next_answer-n in (
       step.auto.words ∙ l.invariant.0,
       mod-lt _ (omega (arith, l.invariant.1)),
-      fit_again l.words step.new.0 g c.requires.edition_value (left_settings l.words g l.invariant.2 l.i _ l.left some turn step.ensures zero)
+      fit_again l.words step.new.words g c.requires.edition_value (left_settings l.words g l.invariant.2 l.i _ l.left some turn step.ensures zero)
           (λ same. stays_fit l.words g l.invariant.2 l.i _ l.left some turn step.ensures zero (λ has. same (has_queue g has))) (sym c.refusal_after-m.ensures ∙ c.if-m-ne0.false),
       turns_left l.words g l.invariant.2 l.i _ l.left some turn step.ensures zero ∙ l.invariant.3,
     )
