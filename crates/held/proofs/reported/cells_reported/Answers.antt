@@ -1,6 +1,4 @@
 -- `held::reported::cells_reported` meets its contract: the loop's invariant is the count over the cells gone through.
-use Prim.Native.Nat.{◌-◌}
-use mathlib.Core.Logic.{⊎_elim}
 use mathlib.Core.Path.{sym, ◌∙◌}
 use native.Mathlib.Omega.{arith}
 use borrow.Author.Rules.{rules}
@@ -8,6 +6,7 @@ use Rattle.laws.specs.Choice.{cond_true, cond_false}
 use Rattle.ring.proofs.Walk.{cells_none, cells_more}
 use Rattle.rules.specs.Held.{reported}
 use Rattle.held.proofs.reported.cells_reported.Goals as goal
+use Rattle.held.proofs.reported.cells_reported.Goals.{then-is_reported, else-is_reported}
 
 pub loop-k-init : goal.loop-k-init
 loop-k-init c = (search rules, search rules, sym (cells_none _ c.args.cells.now 0 0))
@@ -18,7 +17,7 @@ loop-k-preserved c =
     let a = c.args in
     let one = cells_more (reported a.kind a.s.0) a.cells.now c.loop-k.k in
     let test = rw (it.0, it.1) at (sym c.is_reported.ensures) in
-    ⊎_elim
-    (λ w. omega (arith, simp (test ∙ w.0.taken, cond_true) at one))
-    (λ w. omega (arith, simp (test ∙ w.0.left, cond_false) at one))
-    c.if-is_reported.branch
+    elim c.if-is_reported.branch [
+      | then-is_reported w ↦ omega (arith, simp (test ∙ w.if-is_reported.true, cond_true) at one)
+      | else-is_reported w ↦ omega (arith, simp (test ∙ w.if-is_reported.false, cond_false) at one)
+    ]

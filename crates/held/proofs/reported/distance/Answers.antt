@@ -5,7 +5,6 @@ use Rattle.ring.proofs.Walk.{subs_more, subs_none}
 use borrow.Author.Rules.{rules}
 use native.Mathlib.Omega.{arith}
 use mathlib.Core.Path.{sym, ◌≡◌}
-use Prim.Native.Nat.{◌-◌}
 use Rattle.held.proofs.reported.distance.Goals as goal
 
 pub loop-j-init : goal.loop-j-init
