@@ -1,5 +1,4 @@
 -- `bridge::behind::clear` meets its contract: the loop's invariant is that the first k words are zero and the others are as lent.
-use Prim.Native.Nat.{◌-◌}
 use mathlib.Core.Path.{refl}
 use native.Mathlib.Numerals.{add-one}
 use borrow.Author.Rules.{rules}

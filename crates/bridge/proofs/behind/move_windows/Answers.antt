@@ -40,12 +40,12 @@ put_windows-requires-clause-most_live_in_bounds c =
 pub returns-then-has_windows : goal.returns-then-has_windows
 returns-then-has_windows c =
     let a = c.args in
-    let cleared-is = clears a.to-1.now _ a.h _ _ c.windows_at.ensures c.windows_words.ensures c.clear.ensures in
+    let cleared-is = clears a.to.now _ a.h _ _ c.windows_at.ensures c.windows_words.ensures c.clear.ensures in
     c.put_windows.ensures
-    ∙ (rw (cleared-is, c.own_live.ensures) (some_is a.from.now a.to-1.now a.h (sym c.has_windows.ensures ∙ c.if-has_windows.true)))
+    ∙ (rw (cleared-is, c.own_live.ensures) (some_is a.from.now a.to.now a.h (sym c.has_windows.ensures ∙ c.if-has_windows.true)))
 
 pub returns-else-has_windows : goal.returns-else-has_windows
 returns-else-has_windows c =
     let a = c.args in
-    clears a.to-1.now _ a.h _ _ c.windows_at.ensures c.windows_words.ensures c.clear.ensures
-    ∙ none_is a.from.now a.to-1.now a.h (sym c.has_windows.ensures ∙ c.if-has_windows.false)
+    clears a.to.now _ a.h _ _ c.windows_at.ensures c.windows_words.ensures c.clear.ensures
+    ∙ none_is a.from.now a.to.now a.h (sym c.has_windows.ensures ∙ c.if-has_windows.false)

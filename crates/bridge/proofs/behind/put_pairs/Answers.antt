@@ -1,5 +1,5 @@
 -- `bridge::behind::put_pairs` meets its contract: the loop's invariant is that the first k live windows have the pool's size.
-use Prim.Native.Nat.{ℕ, ◌+◌, ◌-◌, ◌*◌}
+use Prim.Native.Nat.{ℕ, ◌+◌, ◌*◌}
 use mathlib.Core.List.{List}
 use mathlib.Core.Path.{◌≡◌, refl, ◌∙◌}
 use native.Mathlib.Numerals.{add-one}
@@ -24,4 +24,4 @@ pub loop-k-preserved : goal.loop-k-preserved
 loop-k-preserved c =
     let l = c.loop-k in
     let a = c.args in
-    (search rules, l.invariant.1, search rules, c.put_pair.ensures ∙ (rw l.invariant.3 (more a.to-1.now a.h l.k _ l.invariant.1)))
+    (search rules, l.invariant.1, search rules, c.put_pair.ensures ∙ (rw l.invariant.3 (more a.to.now a.h l.k _ l.invariant.1)))

@@ -1,5 +1,5 @@
 -- `bridge::may::may_back` meets its contract: its tests are those of the list, in their order.
-use Prim.Native.Nat.{ℕ, ◌-◌, ◌%◌, ◌≤◌}
+use Prim.Native.Nat.{ℕ, ◌%◌, ◌≤◌}
 use mathlib.Core.List.{List}
 use mathlib.Core.Bool.{Bool, true}
 use mathlib.Core.Path.{◌≡◌, refl, sym, ap, ◌∙◌}
@@ -53,7 +53,7 @@ returns-then-slots_move c =
     let a = c.args in
     let ws = a.from.now in
     rw (
-      rest ws a.g a.h (sym c.size_set.ensures ∙ c.if-size_set-ne0.false) c.if-g-ne0.false,
+      rest ws a.g a.h (omega arith) c.if-g-ne0.false,
       next_own ws a.g c.next_size.ensures c.own_size.ensures ∙ c.if-own_size.true,
       all_own ws a.g c.live_of.ensures c.live_own.ensures ∙ c.if-live_own.true,
       sym c.slots_move.ensures ∙ c.if-slots_move.true,
@@ -66,7 +66,7 @@ returns-else-slots_move c =
     let a = c.args in
     let ws = a.from.now in
     rw (
-      rest ws a.g a.h (sym c.size_set.ensures ∙ c.if-size_set-ne0.false) c.if-g-ne0.false,
+      rest ws a.g a.h (omega arith) c.if-g-ne0.false,
       next_own ws a.g c.next_size.ensures c.own_size.ensures ∙ c.if-own_size.true,
       all_own ws a.g c.live_of.ensures c.live_own.ensures ∙ c.if-live_own.true,
       sym c.slots_move.ensures ∙ c.if-slots_move.false,

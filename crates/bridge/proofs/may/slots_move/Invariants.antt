@@ -11,11 +11,11 @@ use Rattle.rules.specs.declared.Settings.{Settings}
 use Rattle.rules.specs.declared.Slot.{Slot}
 use Rattle.bridge.proofs.may.slots_move.Given as goal
 
-abbrev is_fit : List ℕ → Settings → Bool → ℕ → Bool
-is_fit ws g on i = moves g on (slot_at g ws (worker_at g i))
-
 abbrev moves : Settings → Bool → Slot → Bool
 moves g on s = cond on (seen_on g s) (seen_back g s)
+
+abbrev is_fit : List ℕ → Settings → Bool → ℕ → Bool
+is_fit ws g on i = moves g on (slot_at g ws (worker_at g i))
 
 abbrev pub invariant-loop-i : goal.invariant-loop-i
 invariant-loop-i l = (l.i ≤ l.g.workers) × (all_below l.i (is_fit l.from l.g l.on) ≡ true)

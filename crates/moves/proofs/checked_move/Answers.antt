@@ -3,7 +3,6 @@ use mathlib.Core.Path.{◌≡◌, ap, sym, ◌∙◌}
 use mathlib.Core.List.{List}
 use Prim.Native.Nat.{ℕ}
 use native.Mathlib.Omega.{arith}
-use borrow.Author.Rules.{rules}
 use Rattle.rules.specs.Answers.{refuse, not_fit, wrong_edition}
 use Rattle.rules.specs.Fit.{Checked, Fit, source_checked, refusal_of, FitPool}
 use Rattle.rules.specs.Layout.{settings_of}
@@ -11,8 +10,7 @@ use Rattle.rules.specs.Make.{in_edition}
 use Rattle.turnaround.specs.Move.{fit_move, checked_move}
 use Rattle.rules.specs.declared.Settings.{Settings}
 use Rattle.rules.proofs.Fitness.{refusal_none_by, refusal_some_by, fit_with_other, fit_pool}
-use Rattle.moves.proofs.checked_move.Statement.{statement}
-use Rattle.moves.proofs.checked_move.Tie as tie
+use Rattle.moves.proofs.checked_move.Goals as goal
 
 -- a source that is not refused is a fit pool
 source_none : (e : ℕ) (from : List ℕ) → refusal_of (source_checked e from) ≡ 0 → source_checked e from ≡ Fit (settings_of from)
@@ -27,41 +25,24 @@ unfolding checked_move
 source_some e b n from to is not =
     ap (λ (m : ℕ). refuse m to) is ∙ ap (λ (k : Checked). checked_move b from k to) (sym (refusal_some_by (source_checked e from) (λ z. not (is ∙ z))))
 
-source-refusal-requires : tie.Need-source-refusal-requires
-source-refusal-requires c κs = search rules
+pub returns-then-n-ne0 : goal.returns-then-n-ne0
+returns-then-n-ne0 c = source_some _ _ _ _ _ c.source_refusal-n.ensures c.if-n-ne0.true
 
-returns : tie.Need-returns
-returns c = source_some _ _ _ _ _ c.before.source-refusal.ensures c.if1.true
+pub settings-g-requires : goal.settings-g-requires
+settings-g-requires c =
+    let a = c.args in
+    omega (arith, (source_fit a.old a.from.now (sym c.source_refusal-n.ensures ∙ c.if-n-ne0.false)).enough)
 
-settings-requires : tie.Need-settings-requires
-settings-requires c κs =
-    let a = c.before.before.before.before.args in
-    omega (arith, (source_fit a.old a.from.now (sym c.before.source-refusal.ensures ∙ c.if1.false)).enough)
+pub fit_move-requires : goal.fit_move-requires
+fit_move-requires c =
+    let a = c.args in
+    rw c.settings-g.ensures (source_fit a.old a.from.now (sym c.source_refusal-n.ensures ∙ c.if-n-ne0.false))
 
-fit-move-requires : tie.Need-fit-move-requires
-fit-move-requires c κs =
-    let a = c.before.before.before.before.before.before.args in
-    rw c.before.settings.ensures (source_fit a.old a.from.now (sym c.before.before.before.source-refusal.ensures ∙ c.before.before.if1.false))
-
-same_length : tie.Need-same-length
-same_length c = search rules
-
-returns-2 : tie.Need-returns-2
+pub returns : goal.returns
 unfolding checked_move
-returns-2 c =
-    let a = c.before.before.before.before.before.before.before.before.before.args in
-    let fit = source_none a.old a.from.now (sym c.before.before.before.before.before.before.source-refusal.ensures ∙ c.before.before.before.before.before.if1.false) in
-    c.before.before.fit-move.ensures
-    ∙ ap (λ (g : Settings). fit_move a.from.now g a.to.now (in_edition a.new g)) c.before.before.before.before.settings.ensures
+returns c =
+    let a = c.args in
+    let fit = source_none a.old a.from.now (sym c.source_refusal-n.ensures ∙ c.if-n-ne0.false) in
+    c.fit_move.ensures
+    ∙ ap (λ (g : Settings). fit_move a.from.now g a.to.now (in_edition a.new g)) c.settings-g.ensures
     ∙ ap (λ (k : Checked). checked_move a.new a.from.now k a.to.now) (sym fit)
-
-pub checked-move-spec : {M : Type 1} → statement M
-checked-move-spec =
-    tie.close
-    (tie.spec
-    source-refusal-requires
-    returns
-    settings-requires
-    fit-move-requires
-    same_length
-    returns-2)
