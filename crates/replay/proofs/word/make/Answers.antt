@@ -10,25 +10,7 @@ use Rattle.rules.specs.declared.Settings.{Settings}
 use Rattle.rules.specs.declared.Answer.TheVariants.{Moving}
 use borrow.Author.Tests.{ne_eqb}
 use Rattle.replay.specs.Replay.{out_of, item_next}
-use borrow.Author.Rules.{rules}
-use Rattle.replay.proofs.word.make.Statement.{statement}
-use Rattle.replay.proofs.word.make.Tie as tie
-
-make-requires : tie.Need-make-requires
-make-requires c κs = search rules
-
-number-requires : tie.Need-number-requires
-number-requires c κs = search rules
-
-same_length : tie.Need-same-length
-same_length c = search rules
-
-returns : tie.Need-returns
-unfolding item_next out_of cond
-returns c position = simp (← c.before.before.before.before.make.ensures, ← c.before.number.ensures, ne_eqb _ _ c.if1.true)
-
-same-length-2 : tie.Need-same-length-2
-same-length-2 c = search rules
+use Rattle.replay.proofs.word.make.Goals as goal
 
 -- the answer of a pool that is made is 0
 made_moving : (ws : List ℕ) (g : Settings) (o : Out) → o ≡ make_of ws g → number_of o.answer ≡ 0 → o.answer ≡ Moving
@@ -38,10 +20,10 @@ made_moving ws g o e = rw e (cases Made _ _ _ (λ _. cases Made _ _ _ (λ _ z. a
     Made : Out → Type 0
     Made x = number_of x.answer ≡ 0 → x.answer ≡ Moving
 
-returns-2 : tie.Need-returns-2
+pub returns-then-n-ne0 : goal.returns-then-n-ne0
 unfolding item_next out_of cond
-returns-2 c position = simp (← c.before.before.before.before.make.ensures, made_moving _ _ _ c.before.before.before.before.make.ensures (sym c.before.number.ensures ∙ c.if1.false))
+returns-then-n-ne0 c position = simp (← c.make-a.ensures, ← c.number-n.ensures, ne_eqb _ _ c.if-n-ne0.true)
 
-pub make_spec : {M : Type 1} → statement M
-make_spec =
-    tie.close (tie.spec make-requires number-requires same_length returns same-length-2 returns-2)
+pub returns : goal.returns
+unfolding item_next out_of cond
+returns c position = simp (← c.make-a.ensures, made_moving _ _ _ c.make-a.ensures (sym c.number-n.ensures ∙ c.if-n-ne0.false))
