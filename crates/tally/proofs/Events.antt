@@ -3,7 +3,7 @@
 -- there. So the tally's bound is the pool's from that word on, or that of the greatest size set since; and what is no call is answered 0, so it has no distance and no
 -- item. A take is within the bound by the size of its window, which is the pool's or one that the run has set (`sizes_known`). That holds of each front part of a
 -- file, so a take is within the bound that the tally has just then (`within_fronts`).
-use Rattle.std.proofs.Common.{◌≡◌, ℕ, zero, suc, ◌+◌, ◌≤◌, max, Bool, true, false, eqb, leb, ◌≢◌, List, [], ◌∷◌, ◌++◌, length, sym, refl, ap, ◌∙◌, subst, append-nil, arith, eq-eqb, le-leb, leb-true}
+use Rattle.std.proofs.Common.{◌≡◌, ℕ, zero, suc, ◌+◌, ◌≤◌, max, Bool, true, eqb, leb, ◌≢◌, List, [], ◌∷◌, ◌++◌, length, sym, refl, ap, ◌∙◌, subst, append-nil, arith, eq-eqb, le-leb, leb-true}
 use mathlib.Core.Option.{Option, none, some}
 use native.Mathlib.Decide.{ℕ_discrete}
 use Rattle.laws.specs.Choice.{cond, cases, cond_both, cond_true}
@@ -39,7 +39,7 @@ use Rattle.runfile.specs.declared.item.Place.TheVariants.{First, Second, Later, 
 use Rattle.runfile.specs.declared.item.Item.{Item as Saying}
 use Rattle.runfile.specs.declared.item.Item.TheVariants.{Open, Make, BeginPut, BeginTake, Step, End, SetSize, Bad}
 use Rattle.runfile.specs.declared.item.Place.{Place}
-use Rattle.replay.specs.Replay.{Asked, nothing, making, calling, asked_of, out_of, item_next, next_of, Happened, goes_on, next_place, replay_from, replay_of, lent, fault_in, Next}
+use Rattle.replay.specs.Replay.{Asked, nothing, making, calling, asked_of, out_of, item_next, next_of, Happened, goes_on, next_place, place_after, replay_from, replay_of, lent, fault_in, Next}
 use Rattle.replay.specs.Files.{pool_in, with_call, events_in, calls_in, words_in, RunsOn, RunsOnPool, FrontOf}
 use Rattle.replay.proofs.Files.{files_are_runs}
 use Rattle.tally.specs.Tally.{no_tally, bound_in, passed_in, bound_after, tally_after}
@@ -337,7 +337,7 @@ module _ (x y : Happened) (xs : List Happened) (opens : Opens x) (makes : Makes 
         );
         taken = λ p. omega (arith, account p);
         once = λ stamp. rw runs.answers (stamps_once lent g (calls_in whole) runs.made stamp);
-        close = rw whole_bound whole_close;
+        close = subst (λ (n : ℕ). Close n whole) (sym whole_bound) whole_close;
         pool = λ h e.
             let same : g ≡ h = cc (pool_is x y xs opens makes) in
             subst (λ (k : Settings). (tally_over no_tally whole).bound ≡ bound_of k whole) same whole_bound;
@@ -401,4 +401,4 @@ faults place position ws (NoMore ∷ reads) = fault_of_law place NoMore
 faults place position ws (Word word ∷ reads) =
     let o = out_of ws (asked_of (item_of place word)) in
     cases (λ (n : Next). (goes_on position n o.words (replay_from (next_place n) (position + 1) o.words reads)).end.fault ≤ bad_word) _ _ _
-    (λ _. faults _ (position + 1) o.words reads) (λ _. fault_in_law ws (item_of place word))
+    (λ _. faults (place_after (item_of place word) o.answer) (position + 1) o.words reads) (λ _. fault_in_law ws (item_of place word))
