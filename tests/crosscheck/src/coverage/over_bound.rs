@@ -1,4 +1,4 @@
-//! The lister's stop with 30, which the second implementation keeps (K9): how many of its
+//! The lister's stop with 30, by the second implementation (K9): how many of its
 //! listings took it, and how many of their takes came nearest to it.
 
 use super::counts::Counts;

@@ -1,6 +1,6 @@
-//! The run lister: a line for each answer 1 to 4 and each refusal. It keeps the stop
-//! with 30, which K9 takes out of the lister under test: "Show that no run file reaches
-//! it". So what it comes to can be watched.
+//! The run lister: a line for each answer 1 to 4 and each refusal. It has paper 01's stop
+//! with 30, as the lister under test has, which no run file reaches. What it comes to can
+//! be watched.
 
 use super::replay::{Called, Replay};
 use super::{Fault, Stop, ABOVE_BOUND};

@@ -14,7 +14,7 @@ pub use summary::{summarize, Summary};
 pub const CUT: u32 = 28;
 /// A kind out of place, a nonzero spare bit, bytes after the end.
 pub const OUT_OF_PLACE: u32 = 29;
-/// A take's distance above demand 3's bound: the stop that K9 takes out.
+/// A take's distance above demand 3's bound: the stop that no run file reaches.
 pub const ABOVE_BOUND: u32 = 30;
 
 /// A refusal of the file, 22, 28 or 29, and the position that is printed with it.
