@@ -1,7 +1,7 @@
--- `pool_c::pool_begin_take` meets its contract: begin take is what is asked of the worker.
+-- `pool::export::pool_step` meets its contract: a step is what is asked of the worker.
 use Rattle.laws.specs.Choice.{cond}
 use Rattle.calls.specs.Called.{called}
-use Rattle.pool_c.proofs.pool_begin_take.Goals as goal
+use Rattle.pool.proofs.export.pool_step.Goals as goal
 
 pub returns : goal.returns
 unfolding called cond
