@@ -4,20 +4,20 @@
 pub mod numbers;
 
 // A row of a sub, from 1.
-#[derive(Clone, Copy)]
+#[derive(Clone, Copy, Debug, Default, PartialEq, Eq, PartialOrd, Ord)]
 pub struct Row(pub u32);
 
 // The number of a put, from 1.
-#[derive(Clone, Copy)]
+#[derive(Clone, Copy, Debug, Default, PartialEq, Eq, PartialOrd, Ord)]
 pub struct Stamp(pub u32);
 
 // How often a stack's window, or a sub of it, has changed.
-#[derive(Clone, Copy)]
+#[derive(Clone, Copy, Debug, Default, PartialEq, Eq, PartialOrd, Ord)]
 pub struct Version(pub u32);
 
 // A pool's settings, words 0 to 5, 10 and 11. Kind 0 is a queue (paper 01's line), 1 a stack (its pile). The edition says how many words a
 // worker has, and whether a queue's windows have sizes of their own.
-#[derive(Clone, Copy)]
+#[derive(Clone, Copy, Debug, PartialEq, Eq)]
 pub struct Settings {
     pub kind: u32,
     pub width: u32,
@@ -30,28 +30,28 @@ pub struct Settings {
 }
 
 // So many of a sub's cells, one after the other, from its cell `start` on, counted from 0: paper 02's straight run.
-#[derive(Clone, Copy)]
+#[derive(Clone, Copy, Debug, Default, PartialEq, Eq)]
 pub struct Segment {
     pub start: u32,
     pub count: u32,
 }
 
 // At most two of them, one after the other: up to the sub's last cell, and on from its first. One without cells is none.
-#[derive(Clone, Copy)]
+#[derive(Clone, Copy, Debug, Default, PartialEq, Eq)]
 pub struct Segments {
     pub first: Segment,
     pub second: Segment,
 }
 
 // How large a queue's window is: so many subs wide, and so many rows deep.
-#[derive(Clone, Copy)]
+#[derive(Clone, Copy, Debug, Default, PartialEq, Eq)]
 pub struct Size {
     pub width: u32,
     pub depth: u32,
 }
 
 // A queue's window as a worker sees it: the rows above `bottom` up to `top` of the subs below `width`.
-#[derive(Clone, Copy)]
+#[derive(Clone, Copy, Debug, PartialEq, Eq)]
 pub struct Span {
     pub top: u32,
     pub bottom: u32,
@@ -59,7 +59,7 @@ pub struct Span {
 }
 
 // What an operation was begun as.
-#[derive(Clone, Copy)]
+#[derive(Clone, Copy, Debug, PartialEq, Eq)]
 pub enum Side {
     Putting,
     Taking,
@@ -142,7 +142,7 @@ pub struct Worker {
 
 // A worker's words as they lie, but for its failed commits; `number` is the phase's. An edition that does not have the last two, of the
 // window seen, reads them as zero and drops them.
-#[derive(Clone, Copy)]
+#[derive(Clone, Copy, Debug, Default, PartialEq, Eq)]
 pub struct Slot {
     pub number: u32,
     pub value: u32,
@@ -158,7 +158,7 @@ pub struct Slot {
 
 // How large a queue's windows are: the put window, the take window, the one after it, and the next put window; and how many are live, from
 // the take window to the put window.
-#[derive(Clone, Copy)]
+#[derive(Clone, Copy, Debug, Default, PartialEq, Eq)]
 pub struct Sizes {
     pub put: Size,
     pub take: Size,
