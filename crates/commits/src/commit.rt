@@ -6,8 +6,7 @@ ghost use Rattle.rules.specs.Limits.{Bounds};
 use crate::views::{queue_view, stack_view};
 use effects::{landed, lost, refused, removed};
 use laws::num::{minus, plus};
-use rules::numbers::NOT_FIT;
-use rules::{Effect, Row, Settings, Side, Span, Version, View};
+use rules::{Effect, Refusal, Row, Settings, Side, Span, Version, View};
 use worker::level_of;
 
 // What a commit does that matches, if it is able to, and one that does not.
@@ -20,7 +19,7 @@ fn commit_by(g: Settings, v: View, side: Side, matches: bool, able: bool, done: 
         if able {
             return done;
         }
-        return refused(v, NOT_FIT);
+        return refused(v, Refusal::NotFit);
     }
     lost(g, v, side)
 }

@@ -21,8 +21,7 @@ use Rattle.rules.specs.Make.{shipped, in_edition}
 use Rattle.rules.specs.Limits.{settings_fit}
 use Rattle.rules.specs.Step.{checked_step, step_of}
 use Rattle.rules.specs.declared.Settings.{Settings}
-use Rattle.rules.specs.declared.Dispatched.TheVariants.{Refused}
-use Rattle.rules.specs.declared.Turn.TheVariants.{Worker}
+use Rattle.std.specs.Prelude.{Err, Some}
 
 -- a refusal's number is above those of the answers
 Above : Checked → Type 0
@@ -47,8 +46,8 @@ unfolding Above
 refused_above ed ws n e = subst Above e (checked_above ed ws)
 
 -- so the turns end with it
-pub turns_refused : (ws : List ℕ) (g : Settings) (i j k n : ℕ) → checked_of g.edition ws ≡ Unfit n → 0 < k → turn_from ws g i ≡ Worker j
-    → dispatched (Refused n) ws ≡ turns_of ws g i k
+pub turns_refused : (ws : List ℕ) (g : Settings) (i j k n : ℕ) → checked_of g.edition ws ≡ Unfit n → 0 < k → turn_from ws g i ≡ Some j
+    → dispatched (Err n) ws ≡ turns_of ws g i k
 unfolding step_of checked_step ended_by cond
 turns_refused ws g i j k n unfit some turn =
     let high = refused_above g.edition ws n unfit in

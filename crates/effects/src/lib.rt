@@ -10,7 +10,7 @@ ghost use Rattle.rules.specs.Worker.{zero_slot};
 ghost use Rattle.rules.specs.Effects.{next_of, hop_of, keep_of, refused_of, moved_of, restart_of, finished_of, nothing_for, with_pass};
 
 use laws::num::plus;
-use rules::{Effect, Outcome, Phase, Row, Settings, Side, Slot, Span, Stamp, View, Worker};
+use rules::{Effect, Outcome, Phase, Refusal, Row, Settings, Side, Slot, Span, Stamp, View, Worker};
 use worker::{fresh_slot, seen_slot, slot_of};
 
 // The index after `x`, of so many.
@@ -48,11 +48,11 @@ fn keep(v: View, outcome: Outcome, slot: Slot) -> Effect
     }
 }
 
-pub fn refused(v: View, n: u32) -> Effect
-    ensures { result ≡ refused_of v n }
+pub fn refused(v: View, refusal: Refusal) -> Effect
+    ensures { result ≡ refused_of v refusal }
 {
     let slot = v.kept;
-    keep(v, Outcome::Refused(n), slot)
+    keep(v, Outcome::Refused(refusal), slot)
 }
 
 // The worker goes on with these words.

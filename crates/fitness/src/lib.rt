@@ -4,4 +4,4 @@
 mod quick;
 mod refusals;
 
-pub use refusals::{quick_refusal, refusal, source_refusal};
+pub use refusals::{check, check_source, fit_settings, quick_check};

@@ -1,81 +1,88 @@
 // The order of the refusals before a call, and of a move's source.
 ghost use Rattle.std.specs.Prelude.{◌≡◌, ◌≤◌, length};
-ghost use Rattle.rules.specs.Fit.{body_checked, head_checked, checked_by, checked_of, source_checked, refusal_of};
+ghost use Rattle.rules.specs.Fit.{body_checked, head_checked, checked_by, checked_of, source_checked, fitness_of, settings_found};
 ghost use Rattle.rules.specs.Layout.{head_words, settings_of};
 ghost use Rattle.rules.specs.Limits.{Bounds};
+ghost use Rattle.rules.specs.Make.{shipped};
 
-use crate::quick::quick_head;
-use image::{HEAD_WORDS, in_edition, settings, words_needed};
+use crate::quick::check_shipped;
+use image::{HEAD_WORDS, in_edition, settings, shipped_settings, words_needed};
 use limits::settings_fit;
-use rules::Settings;
-use rules::numbers::{NOT_FIT, SHIPPED, TOO_FEW_WORDS, WRONG_EDITION};
+use rules::numbers::SHIPPED;
+use rules::{Refusal, Settings};
 use shared_fitness::shared_fit;
 use worker_fitness::workers_fit;
 
 // The words needed, then what the workers share, then the workers.
-pub fn body_refusal(words: &[u32]) -> u32
+pub fn check_body(words: &[u32]) -> Result<(), Refusal>
     requires { (head_words ≤ length words.now) × Bounds (settings_of words.now) }
-    ensures { result ≡ refusal_of (body_checked words.now (settings_of words.now)) }
+    ensures { result ≡ fitness_of (body_checked words.now (settings_of words.now)) }
 {
     let g = settings(words);
     if words.len() < words_needed(g) {
-        return TOO_FEW_WORDS;
+        return Err(Refusal::TooFewWords);
     }
-    if shared_fit(words, g) {
-        if workers_fit(words, g) {
-            return 0;
-        }
+    if shared_fit(words, g) && workers_fit(words, g) {
+        return Ok(());
     }
-    NOT_FIT
+    Err(Refusal::NotFit)
 }
 
-// The settings by the edition asked for, then the edition, which has a number of its own to refuse another, then the above.
-fn head_refusal(words: &[u32], g: Settings, edition: u32, other: u32) -> u32
+// The settings by the edition asked for, then the edition, which has a refusal of its own to tell another, then the above.
+fn check_head(words: &[u32], g: Settings, edition: u32, other: Refusal) -> Result<(), Refusal>
     requires { (head_words ≤ length words.now) × (g ≡ settings_of words.now) }
-    ensures { result ≡ refusal_of (head_checked other edition words.now g) }
+    ensures { result ≡ fitness_of (head_checked other edition words.now g) }
 {
-    if settings_fit(in_edition(g, edition)) {
-        if g.edition == edition {
-            return body_refusal(words);
-        }
-        return other;
+    if !settings_fit(in_edition(g, edition)) {
+        return Err(Refusal::NotFit);
     }
-    NOT_FIT
+    if g.edition != edition {
+        return Err(other);
+    }
+    check_body(words)
 }
 
-fn refusal_by(words: &[u32], edition: u32, other: u32) -> u32
-    ensures { result ≡ refusal_of (checked_by other edition words.now) }
+fn check_by(words: &[u32], edition: u32, other: Refusal) -> Result<(), Refusal>
+    ensures { result ≡ fitness_of (checked_by other edition words.now) }
 {
     if words.len() < HEAD_WORDS {
-        return TOO_FEW_WORDS;
+        return Err(Refusal::TooFewWords);
     }
-    head_refusal(words, settings(words), edition, other)
+    check_head(words, settings(words), edition, other)
 }
 
-// The number of the refusal where the words are no fit pool of an edition, else 0. A number and not the settings: a struct would go through memory at every call.
-pub fn refusal(words: &[u32], edition: u32) -> u32
-    ensures { result ≡ refusal_of (checked_of edition words.now) }
+// Why the words are no fit pool of an edition, if they are none. It hands on no settings: a struct would go through memory at every call.
+pub fn check(words: &[u32], edition: u32) -> Result<(), Refusal>
+    ensures { result ≡ fitness_of (checked_of edition words.now) }
 {
-    refusal_by(words, edition, NOT_FIT)
+    check_by(words, edition, Refusal::NotFit)
 }
 
 // The same by quick looks, and by all of the above where they do not tell. It is for the one function behind all begins and steps, which it becomes a part of:
 // called from a second place it would be a part of neither.
-pub fn quick_refusal(words: &[u32], edition: u32) -> u32
-    ensures { result ≡ refusal_of (checked_of edition words.now) }
+pub fn quick_check(words: &[u32], edition: u32) -> Result<(), Refusal>
+    ensures { result ≡ fitness_of (checked_of edition words.now) }
 {
     if words.len() < HEAD_WORDS {
-        return TOO_FEW_WORDS;
+        return Err(Refusal::TooFewWords);
     }
     if edition == SHIPPED {
-        return quick_head(words, settings(words));
+        return check_shipped(words, settings(words));
     }
-    refusal(words, edition)
+    check(words, edition)
 }
 
 // The same of the source of a move from an edition, in full.
-pub fn source_refusal(words: &[u32], edition: u32) -> u32
-    ensures { result ≡ refusal_of (source_checked edition words.now) }
+pub fn check_source(words: &[u32], edition: u32) -> Result<(), Refusal>
+    ensures { result ≡ fitness_of (source_checked edition words.now) }
 {
-    refusal_by(words, edition, WRONG_EDITION)
+    check_by(words, edition, Refusal::WrongEdition)
+}
+
+// The settings of a fit pool of the shipped edition.
+pub fn fit_settings(words: &[u32]) -> Result<Settings, Refusal>
+    ensures { result ≡ settings_found (checked_of shipped words.now) }
+{
+    check(words, SHIPPED)?;
+    Ok(shipped_settings(words))
 }

@@ -8,8 +8,7 @@ ghost use Rattle.phases.specs.Late.{Late};
 use crate::check::check;
 use effects::refused;
 use misses::{queue_confirm, queue_shift, stack_confirm, stack_shift};
-use rules::numbers::WORKER_IDLE;
-use rules::{Effect, Phase, Settings, View};
+use rules::{Effect, Phase, Refusal, Settings, View};
 
 pub fn rule(g: Settings, v: View) -> Effect
     requires bounds { Bounds g }
@@ -21,7 +20,7 @@ pub fn rule(g: Settings, v: View) -> Effect
     let worker = v.worker;
     let phase = worker.phase;
     match phase {
-        Phase::Idle => refused(v, WORKER_IDLE),
+        Phase::Idle => refused(v, Refusal::WorkerIdle),
         Phase::Check {
             side,
             version,
@@ -37,26 +36,26 @@ pub fn rule(g: Settings, v: View) -> Effect
         Phase::QueueConfirm { window, scan, sum } => queue_confirm(g, v, window, scan, sum),
         Phase::StackConfirm { side, scan, sum } => stack_confirm(g, v, side, scan, sum),
         // Not late: no caller has these.
-        Phase::Window(_) => refused(v, WORKER_IDLE),
-        Phase::QueuePutRead { window: _, scan: _ } => refused(v, WORKER_IDLE),
+        Phase::Window(_) => refused(v, Refusal::WorkerIdle),
+        Phase::QueuePutRead { window: _, scan: _ } => refused(v, Refusal::WorkerIdle),
         Phase::QueueTakeRead {
             window: _,
             bare: _,
             scan: _,
             sum: _,
-        } => refused(v, WORKER_IDLE),
+        } => refused(v, Refusal::WorkerIdle),
         Phase::StackRead {
             side: _,
             window: _,
             version: _,
             scan: _,
             sum: _,
-        } => refused(v, WORKER_IDLE),
+        } => refused(v, Refusal::WorkerIdle),
         Phase::QueueCommit {
             side: _,
             window: _,
             seen: _,
-        } => refused(v, WORKER_IDLE),
-        Phase::StackCommit { side: _, seen: _ } => refused(v, WORKER_IDLE),
+        } => refused(v, Refusal::WorkerIdle),
+        Phase::StackCommit { side: _, seen: _ } => refused(v, Refusal::WorkerIdle),
     }
 }

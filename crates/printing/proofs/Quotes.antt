@@ -18,8 +18,8 @@ use Rattle.rules.specs.Statement.{All}
 use Rattle.rules.specs.Consequences.{items_in}
 use Rattle.rules.specs.Held.{Item, held_of}
 use Rattle.rules.specs.Run.{Event, value_in, stamp_in, distance_in}
-use Rattle.rules.specs.declared.Answer.{Answer}
-use Rattle.rules.specs.declared.Answer.TheVariants.{Moving, Put, Taken, Empty, Full, Refused}
+use Rattle.rules.specs.Answers.{Answered}
+use Rattle.rules.specs.declared.Answer.TheVariants.{Moving, Put, Taken, Empty, Full}
 use Rattle.runfile.specs.Words.{reads_of}
 use Rattle.runfile.specs.declared.item.Place.TheVariants.{First}
 use Rattle.replay.specs.Replay.{Asked, nothing, making, calling, asked_of, Happened, replay_of, lent, Ending, Event as Happening}
@@ -36,9 +36,10 @@ use Rattle.printing.specs.declared.printed.Mode.TheVariants.{Listing, Summing}
 use Rattle.printing.specs.declared.printed.Printed.{Printed}
 use Rattle.printing.specs.declared.printed.Printed.TheVariants.{Nothing, Closing}
 use Rattle.tally.proofs.Events.{Quiet, AllQuiet, no_distance, Close, Within, known_file, all_within, faults}
+use Rattle.std.specs.Prelude.{Ok, Err}
 
 -- ---- the line of an answer
-abbrev entry_of : ℕ → ℕ → Answer → Entry
+abbrev entry_of : ℕ → ℕ → Answered → Entry
 entry_of position worker a =
     record {
       position = position;
@@ -52,24 +53,24 @@ entry_of position worker a =
     }
 
 -- every answer but 0 has one, with its number
-one_line : (among : ℕ → Bool) (position worker : ℕ) (a : Answer) → among 0 ≡ false
+one_line : (among : ℕ → Bool) (position worker : ℕ) (a : Answered) → among 0 ≡ false
     → line_if among (answer_printed position worker a) ≡ cond (among (number_of a)) (entry_of position worker a ∷ []) []
 unfolding answer_printed cond
-one_line among position worker Moving none = rw none
-one_line among position worker (Put value sub row stamp) none = refl
-one_line among position worker (Taken value sub row stamp distance) none = refl
-one_line among position worker Empty none = refl
-one_line among position worker Full none = refl
-one_line among position worker (Refused k) none = refl
+one_line among position worker (Ok Moving) none = rw none
+one_line among position worker (Ok (Put value sub row stamp)) none = refl
+one_line among position worker (Ok (Taken value sub row stamp distance)) none = refl
+one_line among position worker (Ok Empty) none = refl
+one_line among position worker (Ok Full) none = refl
+one_line among position worker (Err k) none = refl
 
-answer_goes : (position worker : ℕ) (a : Answer) → ends_with (answer_printed position worker a) ≡ false
+answer_goes : (position worker : ℕ) (a : Answered) → ends_with (answer_printed position worker a) ≡ false
 unfolding answer_printed
-answer_goes position worker Moving = refl
-answer_goes position worker (Put value sub row stamp) = refl
-answer_goes position worker (Taken value sub row stamp distance) = refl
-answer_goes position worker Empty = refl
-answer_goes position worker Full = refl
-answer_goes position worker (Refused k) = refl
+answer_goes position worker (Ok Moving) = refl
+answer_goes position worker (Ok (Put value sub row stamp)) = refl
+answer_goes position worker (Ok (Taken value sub row stamp distance)) = refl
+answer_goes position worker (Ok Empty) = refl
+answer_goes position worker (Ok Full) = refl
+answer_goes position worker (Err k) = refl
 
 -- ---- the lines of events
 abbrev lines_of : (ℕ → Bool) → List Happened → List Entry
@@ -166,7 +167,7 @@ unfolding end_printed listed_end
 end_no_line among t position fault ws = cases (λ (x : Printed). line_if among x ≡ []) (eqb fault 0) _ _ (λ _. refl) (λ _. refl)
 
 -- so the lines have the items of the calls' answers
-items_more : (n position worker : ℕ) (ws : List ℕ) (a : Answer) (q : Asked) (es : List Entry) (rest : List Event) → 1 ≤ n → Quiet q a → map item_on es ≡ items_in n rest
+items_more : (n position worker : ℕ) (ws : List ℕ) (a : Answered) (q : Asked) (es : List Entry) (rest : List Event) → 1 ≤ n → Quiet q a → map item_on es ≡ items_in n rest
     → map item_on (cond (eqb (number_of a) n) (entry_of position worker a ∷ es) es) ≡ items_in n (with_call ws q a rest)
 unfolding items_in
 items_more n position worker ws a nothing es rest l h e = rw (ne_eqb (number_of a) n (λ u. omega arith), cond_false (entry_of position worker a ∷ es) es) e

@@ -1,5 +1,5 @@
 -- THE PRINTINGS of a replay: what each program prints of an event, and of the end of the file. A new program is a case of `Mode` with its lines here.
-use Rattle.std.specs.Prelude.{ℕ, Bool, true, false, List, [], eqb, ltb, get_or}
+use Rattle.std.specs.Prelude.{ℕ, Bool, true, false, List, [], eqb, ltb, get_or, Ok, Err}
 use Rattle.laws.specs.Choice.{cond}
 use Rattle.rules.specs.Answers.{over_bound}
 use Rattle.rules.specs.Held.{held_of}
@@ -8,8 +8,8 @@ use Rattle.rules.specs.Make.{shipped}
 use Rattle.rules.specs.Run.{distance_in}
 use Rattle.rules.specs.declared.Row.{Row}
 use Rattle.rules.specs.declared.Stamp.{Stamp}
-use Rattle.rules.specs.declared.Answer.{Answer}
-use Rattle.rules.specs.declared.Answer.TheVariants.{Moving, Put, Taken, Empty, Full, Refused}
+use Rattle.rules.specs.Answers.{Answered}
+use Rattle.rules.specs.declared.Answer.TheVariants.{Moving, Put, Taken, Empty, Full}
 use Rattle.runfile.specs.declared.item.Item.{Item}
 use Rattle.runfile.specs.declared.item.Item.TheVariants.{Open, Make, BeginPut, BeginTake, Step, End, SetSize, Bad}
 use Rattle.replay.specs.Replay.{Event}
@@ -45,13 +45,13 @@ abbrev pub plain : ℕ → ℕ → ℕ → Entry
 plain position number worker = item_entry position number worker 0 0 (record { 0 = 0 }) (record { 0 = 0 }) 0
 
 -- the answer 0 has no line
-unfoldable pub answer_printed : ℕ → ℕ → Answer → Printed
-answer_printed position worker Moving = Nothing
-answer_printed position worker (Put value sub row stamp) = Line (item_entry position 1 worker value sub row stamp 0)
-answer_printed position worker (Taken value sub row stamp distance) = Line (item_entry position 2 worker value sub row stamp distance)
-answer_printed position worker Empty = Line (plain position 3 worker)
-answer_printed position worker Full = Line (plain position 4 worker)
-answer_printed position worker (Refused n) = Line (plain position n worker)
+unfoldable pub answer_printed : ℕ → ℕ → Answered → Printed
+answer_printed position worker (Ok Moving) = Nothing
+answer_printed position worker (Ok (Put value sub row stamp)) = Line (item_entry position 1 worker value sub row stamp 0)
+answer_printed position worker (Ok (Taken value sub row stamp distance)) = Line (item_entry position 2 worker value sub row stamp distance)
+answer_printed position worker (Ok Empty) = Line (plain position 3 worker)
+answer_printed position worker (Ok Full) = Line (plain position 4 worker)
+answer_printed position worker (Err n) = Line (plain position n worker)
 
 -- "A 30 is printed in place of that take's answer, its last five fields 0", and the lister stops after it
 unfoldable pub listed_of : ℕ → Event → Printed

@@ -19,6 +19,7 @@ use Rattle.rules.proofs.machine.Phases.{worker, stack_phase_law, encode_index}
 use Rattle.reached.proofs.Run.{Got, got_call}
 use Rattle.reached.proofs.Rules.{step_is, shift_rule}
 use Rattle.reached.proofs.Commits.{Later, later_same}
+use Rattle.std.specs.Prelude.{Ok}
 
 module _ (g : Settings) (limits : settings_fit g ≡ true) (kind : g.kind ≡ 1) where
   pub record Raised (s : State) (i : ℕ) : Type 0 where
@@ -41,7 +42,7 @@ module _ (g : Settings) (limits : settings_fit g ≡ true) (kind : g.kind ≡ 1)
         to = turned_in s i (add32 s.top g.shift) (add32 s.mark 1) s.frame x;
         later =
             later_same g limits kind
-            (got_call g limits kind got (step i) tt (next Moving (turned_in s i (add32 s.top g.shift) (add32 s.mark 1) s.frame x))
+            (got_call g limits kind got (step i) tt (next (Ok Moving) (turned_in s i (add32 s.top g.shift) (add32 s.mark 1) s.frame x))
             (step_is g s i l time _ e tt
             ∙ ap (apply_in g s i)
             (shift_rule g s i (record { 0 = s.mark }) scan sum (eq-eqb s.mark s.mark refl) (le-leb (add32 s.top g.shift) g.rows (omega arith)))

@@ -25,6 +25,7 @@ use Rattle.rules.specs.declared.Outcome.TheVariants.{Shifted}
 use Rattle.rules.proofs.machine.Machine.{State, next, sub_in, view_in, phase_in, apply_in, next_in}
 use Rattle.rules.proofs.machine.Calls.{able_does, step_called, begun, begin_called}
 use Rattle.rules.proofs.machine.Phases.{idle_phase}
+use Rattle.std.specs.Prelude.{Ok}
 
 -- ---- a step of a busy worker is its phase's rule, applied
 abbrev pub Busy : Phase → Type 0
@@ -68,7 +69,7 @@ module _ (g : Settings) (s : State) (i : ℕ) where
 
   -- ---- a begin
   pub begin_is : (side : Side) → i < g.workers → s.steps < step_limit → (s.slot i).number ≡ 0
-      → next_in g s (begins i side) ≡ next Moving (begun g s i side (value_begun side))
+      → next_in g s (begins i side) ≡ next (Ok Moving) (begun g s i side (value_begun side))
   unfolding next_in
   begin_is Putting l time z = able_does (record { worker = l; idle = z; time = time }) (begin_called g s i Putting 1)
   begin_is Taking l time z = able_does (record { worker = l; idle = z; time = time }) (begin_called g s i Taking 0)

@@ -7,5 +7,5 @@ pub use Rattle.rules.specs.declared.Phase.TheVariants.{Idle, Window, QueuePutRea
 pub use Rattle.rules.specs.declared.Version.{Version}
 pub use Rattle.rules.specs.declared.Worker.{Worker}
 pub use Rattle.rules.specs.declared.Slot.{Slot}
-pub use Rattle.rules.specs.declared.Answer.{Answer}
+pub use Rattle.rules.specs.Answers.{Answered}
 pub use Rattle.rules.specs.declared.Size.{Size}

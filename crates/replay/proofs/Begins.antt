@@ -8,7 +8,7 @@ use Rattle.laws.specs.Choice.{cond, cases}
 use Rattle.rules.specs.Answers.{number_of}
 use Rattle.rules.specs.Statement.{All}
 use Rattle.rules.specs.declared.Settings.{Settings}
-use Rattle.rules.specs.declared.Answer.{Answer}
+use Rattle.rules.specs.Answers.{Answered}
 use Rattle.runfile.specs.Words.{reads_of}
 use Rattle.runfile.specs.Items.{first_of, second_of, size_item, later_of, item_of}
 use Rattle.runfile.specs.declared.word.Read.{Read}
@@ -21,7 +21,7 @@ use Rattle.replay.specs.Replay.{Asked, nothing, making, calling, asked_of, out_o
 use Rattle.replay.specs.Files.{FrontOf}
 
 -- after the pool is made: a call, or a word that asks for nothing, which is answered 0
-abbrev pub Late : Asked → Answer → Type 0
+abbrev pub Late : Asked → Answered → Type 0
 Late nothing a = number_of a ≡ 0
 Late (making g) a = ⊥
 Late (calling c) a = Unit {0}

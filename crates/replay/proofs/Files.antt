@@ -19,7 +19,7 @@ use Rattle.rules.specs.Make.{shipped, shipped_from, make_of}
 use Rattle.rules.specs.Run.{Event, event_of, call_of, run}
 use Rattle.rules.specs.Statement.{All}
 use Rattle.rules.specs.declared.Settings.{Settings}
-use Rattle.rules.specs.declared.Answer.{Answer}
+use Rattle.rules.specs.Answers.{Answered}
 use Rattle.runfile.specs.Words.{reads_of}
 use Rattle.runfile.specs.Items.{item_of}
 use Rattle.runfile.specs.declared.word.Read.{Read}
@@ -77,7 +77,7 @@ Makeless xs = All (λ (x : Happened). NoMake (asked_of x.event.item)) xs
 abbrev Runs : List ℕ → List ℕ → List Event → Type 0
 Runs ws after es = (es ≡ run shipped ws (map (λ (e : Event). e.call) es)) × (after ≡ words_after shipped ws (map (λ (e : Event). e.call) es))
 
-run_on : (a : Asked) (ws : List ℕ) (answer : Answer) (ws' after : List ℕ) (es : List Event) → answer ≡ (out_of ws a).answer → ws' ≡ (out_of ws a).words → NoMake a
+run_on : (a : Asked) (ws : List ℕ) (answer : Answered) (ws' after : List ℕ) (es : List Event) → answer ≡ (out_of ws a).answer → ws' ≡ (out_of ws a).words → NoMake a
     → Runs ws' after es → Runs ws after (with_call ws a answer es)
 unfolding out_of run words_after
 run_on nothing ws answer ws' after es e w less h = rw w at h
@@ -216,7 +216,7 @@ fault_kept ws End e = refl
 fault_kept ws (SetSize width depth) e = absurd (false≢true (sym e))
 fault_kept ws Bad e = refl
 
-ending_on : (b : Bool) (at : ℕ) (ws : List ℕ) (item : Item) (a : Answer) (ws' : List ℕ) (rest : Replay) → (b ≡ false → ws' ≡ ws) → EndsAt (at + 1) ws' rest
+ending_on : (b : Bool) (at : ℕ) (ws : List ℕ) (item : Item) (a : Answered) (ws' : List ℕ) (rest : Replay) → (b ≡ false → ws' ≡ ws) → EndsAt (at + 1) ws' rest
     → EndsAt at ws (goes_on at (cond b (goes (event at item a)) (ends (fault_in item a))) ws' rest)
 unfolding cond words_in
 ending_on true at ws item a ws' rest kept h = let p = h.after in record { after = omega arith; last = h.last }

@@ -7,7 +7,7 @@ use Rattle.rules.specs.Consequences.{words_after, OfEveryRun}
 use Rattle.rules.specs.Make.{make_of}
 use Rattle.rules.specs.Run.{Call, Event, event_of, run}
 use Rattle.rules.specs.declared.Settings.{Settings}
-use Rattle.rules.specs.declared.Answer.{Answer}
+use Rattle.rules.specs.Answers.{Answered}
 use Rattle.replay.specs.Replay.{Asked, nothing, making, calling, asked_of, Happened, replay_of, lent}
 
 -- ---- what a file's words ask for
@@ -25,7 +25,7 @@ pool_in [] = none
 pool_in (x ∷ xs) = settings_or (pool_in xs) (asked x)
 
 -- the calls, each with its answer, on the words just before it
-abbrev pub with_call : List ℕ → Asked → Answer → List Event → List Event
+abbrev pub with_call : List ℕ → Asked → Answered → List Event → List Event
 with_call ws nothing a rest = rest
 with_call ws (making g) a rest = rest
 with_call ws (calling c) a rest = event_of ws c a ∷ rest

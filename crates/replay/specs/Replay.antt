@@ -1,14 +1,14 @@
 -- THE REPLAY of a run file, from its bytes to its events: for each word its position, what it says, the call that it makes and the answer; the
 -- pool's words after it; and the fault that ends the file.
 -- What the programs print are printings of it.
-use Rattle.std.specs.Prelude.{ℕ, ◌+◌, List, [], ◌∷◌, eqb, replicate}
+use Rattle.std.specs.Prelude.{ℕ, ◌+◌, List, [], ◌∷◌, eqb, replicate, Ok}
 use Rattle.laws.specs.Choice.{cond}
 use Rattle.rules.specs.Answers.{Out, out, bad_word, number_of}
 use Rattle.rules.specs.Layout.{most_words}
 use Rattle.rules.specs.Make.{shipped, shipped_from, make_of}
 use Rattle.rules.specs.Run.{Call, begin_put, begin_take, step, set_size, call_of}
 use Rattle.rules.specs.declared.Settings.{Settings}
-use Rattle.rules.specs.declared.Answer.{Answer}
+use Rattle.rules.specs.Answers.{Answered}
 use Rattle.rules.specs.declared.Answer.TheVariants.{Moving}
 use Rattle.runfile.specs.Words.{reads_of}
 use Rattle.runfile.specs.Items.{item_of}
@@ -39,13 +39,13 @@ asked_of Bad = nothing
 
 -- what is answered, and the pool's words afterwards
 unfoldable pub out_of : List ℕ → Asked → Out
-out_of ws nothing = out Moving ws
+out_of ws nothing = out (Ok Moving) ws
 out_of ws (making g) = make_of ws g
 out_of ws (calling c) = call_of shipped ws c
 
 -- ---- what a word is followed by
 -- the place of the next word. It may hang on the answer: a word may stand only after a call that was not refused
-abbrev pub place_after : Item → Answer → Place
+abbrev pub place_after : Item → Answered → Place
 place_after (Open opening) a = Second opening
 place_after (Make g) a = Later
 place_after (BeginPut worker value) a = Later
@@ -57,7 +57,7 @@ place_after Bad a = Past
 
 -- the fault that a word is: "a kind out of place, a nonzero spare bit, bytes after the end", or a pool that is not made, since
 -- "the lister stops after 22"
-abbrev pub fault_in : Item → Answer → ℕ
+abbrev pub fault_in : Item → Answered → ℕ
 fault_in (Open opening) a = no_fault
 fault_in (Make g) a = number_of a
 fault_in (BeginPut worker value) a = no_fault
@@ -72,7 +72,7 @@ fault_in Bad a = bad_word
 pub record Event : Type 0 where
   pub position : ℕ
   pub item : Item
-  pub answer : Answer
+  pub answer : Answered
 
 -- how the file goes on: with an event, or it ends, by a fault of this number (0: none)
 pub data Next : Type 0 where
@@ -87,11 +87,11 @@ pub record Replayed : Type 0 where
 abbrev pub replayed : Next → List ℕ → Replayed
 replayed n ws = record { next = n; words = ws }
 
-abbrev pub event : ℕ → Item → Answer → Event
+abbrev pub event : ℕ → Item → Answered → Event
 event position item a = record { position = position; item = item; answer = a }
 
 -- an item that was answered
-abbrev pub answered : ℕ → Item → Answer → Next
+abbrev pub answered : ℕ → Item → Answered → Next
 answered position item a = cond (eqb (fault_in item a) no_fault) (goes (event position item a)) (ends (fault_in item a))
 
 unfoldable pub item_next : List ℕ → ℕ → Item → Replayed

@@ -1,5 +1,5 @@
 -- The events that the code's words stand for: what it hands on of a word is small, and the settings of the first two words have cases of their own.
-use Rattle.std.specs.Prelude.{ℕ}
+use Rattle.std.specs.Prelude.{ℕ, Ok}
 use Rattle.rules.specs.declared.Answer.TheVariants.{Moving}
 use Rattle.runfile.specs.declared.item.Item.{Item}
 use Rattle.runfile.specs.declared.item.Item.TheVariants.{Open, Make, BeginPut, BeginTake, Step, End, SetSize}
@@ -22,7 +22,7 @@ event_done d = event d.position (item_said d.said) d.answer
 
 -- the first two words are answered 0, or the file ends
 abbrev pub next_told : ℕ → Told → Next
-next_told position (Opens opening) = goes (event position (Open opening) Moving)
-next_told position (Makes g) = goes (event position (Make g) Moving)
+next_told position (Opens opening) = goes (event position (Open opening) (Ok Moving))
+next_told position (Makes g) = goes (event position (Make g) (Ok Moving))
 next_told position (Does d) = goes (event_done d)
 next_told position (Ends fault) = ends fault

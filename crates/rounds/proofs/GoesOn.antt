@@ -21,23 +21,22 @@ use Rattle.rounds.specs.Dispatch.{DispatchOut, dispatched, worker_after, turn_fr
 use Rattle.rounds.specs.DispatchSteps.{DispatchGoesOn}
 use Rattle.rules.proofs.Fitness.{fit_pool, fit_head, fit_own}
 use Rattle.rules.specs.declared.Settings.{Settings}
-use Rattle.rules.specs.declared.Answer.{Answer}
-use Rattle.rules.specs.declared.Turn.{Turn}
-use Rattle.rules.specs.declared.Turn.TheVariants.{NoneBusy as Nobody, Worker}
-use Rattle.rules.specs.declared.Dispatched.{Dispatched}
-use Rattle.rules.specs.declared.Dispatched.TheVariants.{RanOut, Refused}
+use Rattle.rules.specs.Answers.{Answered}
+use Rattle.rounds.specs.Dispatch.{DispatchResult}
+use Rattle.rules.specs.declared.Dispatched.TheVariants.{RanOut}
 use Rattle.rounds.proofs.Turns.{Found, turns_none, turns_out, turns_on, turns_end, turns_refused, turn_settings, fit_turns}
+use Rattle.rules.specs.declared.Refusal.TheVariants.{NoSuchWorker}
+use Rattle.std.specs.Prelude.{Err, None, Option, Some, Ok}
+use Rattle.rules.specs.declared.Refusal.{Refusal}
 
 -- a result that is not "the count ran out"
-abbrev Other : Dispatched → Type 0
-Other r = (next : ℕ) → r ≢ RanOut next
+abbrev Other : DispatchResult → Type 0
+Other r = (next : ℕ) → r ≢ Ok (RanOut next)
 
-ended_other : (j : ℕ) (a : Answer) → Other (ended_by j a)
+ended_other : (j : ℕ) (a : Answered) → Other (ended_by j a)
 unfolding ended_by
-ended_other j a =
-    cases Other (leb (number_of a) 4) _ _
-    (λ l next e. let z : ◌≡◌ {A = ℕ} 0 1 = cc in omega arith)
-    (λ l next e. let z : ◌≡◌ {A = ℕ} 0 1 = cc in omega arith)
+ended_other j (Ok a) next e = let z : ◌≡◌ {A = ℕ} 0 1 = cc in omega arith
+ended_other j (Err n) next e = let z : ◌≡◌ {A = ℕ} 0 1 = cc in omega arith
 
 module _ (g : Settings) where
   -- so far: the settings are the same, the worker is one of the pool's, it is someone's turn, and from there it goes on
@@ -48,7 +47,7 @@ module _ (g : Settings) where
     more : (b : ℕ) → turns_of ws g i (k + b) ≡ turns_of vs g next b
 
   -- one turn more before it
-  on_more : (ws : List ℕ) (i j k : ℕ) → turn_from ws g i ≡ Worker j → number_of (step_of g.edition ws j).answer ≡ 0 → (vs : List ℕ) (next : ℕ)
+  on_more : (ws : List ℕ) (i j k : ℕ) → turn_from ws g i ≡ Some j → number_of (step_of g.edition ws j).answer ≡ 0 → (vs : List ℕ) (next : ℕ)
       → On (step_of g.edition ws j).words (worker_after g j) k vs next → On ws i (suc k) vs next
   on_more ws i j k turn z vs next x =
       record {
@@ -61,16 +60,16 @@ module _ (g : Settings) where
             rw first ((rw less at (turns_on ws g i j (suc (k + b)) (omega arith) turn (step_of g.edition ws j) refl z)) ∙ x.more b);
       }
 
-  turns_go_on : (k : ℕ) (ws : List ℕ) (i next : ℕ) → settings_of ws ≡ g → i < g.workers → (turns_of ws g i k).result ≡ RanOut next
+  turns_go_on : (k : ℕ) (ws : List ℕ) (i next : ℕ) → settings_of ws ≡ g → i < g.workers → (turns_of ws g i k).result ≡ Ok (RanOut next)
       → On ws i k (turns_of ws g i k).words next
   turns_go_on zero ws i next own l e = by (turn_from ws g i) refl
     where
-      by : (t : Turn) → turn_from ws g i ≡ t → On ws i 0 (turns_of ws g i 0).words next
-      by Nobody u =
+      by : (t : Option ℕ) → turn_from ws g i ≡ t → On ws i 0 (turns_of ws g i 0).words next
+      by None u =
           let none = ap (λ (o : DispatchOut). o.result) (turns_none ws g i 0 u) in
           let z : ◌≡◌ {A = ℕ} 0 1 = cc in
           absurd (omega arith)
-      by (Worker j) u =
+      by (Some j) u =
           let out = turns_out ws g i j 0 refl u in
           let result = ap (λ (o : DispatchOut). o.result) out in
           let same : i ≡ next = cc in
@@ -80,15 +79,15 @@ module _ (g : Settings) where
     where
       Rest : Type 0
       Rest =
-          (j : ℕ) → number_of (step_of g.edition ws j).answer ≡ 0 → (turns_of (step_of g.edition ws j).words g (worker_after g j) k).result ≡ RanOut next
+          (j : ℕ) → number_of (step_of g.edition ws j).answer ≡ 0 → (turns_of (step_of g.edition ws j).words g (worker_after g j) k).result ≡ Ok (RanOut next)
           → On (step_of g.edition ws j).words (worker_after g j) k (turns_of (step_of g.edition ws j).words g (worker_after g j) k).words next
 
-      by : (t : Turn) → turn_from ws g i ≡ t → Rest → On ws i (suc k) (turns_of ws g i (suc k)).words next
-      by Nobody u rest =
+      by : (t : Option ℕ) → turn_from ws g i ≡ t → Rest → On ws i (suc k) (turns_of ws g i (suc k)).words next
+      by None u rest =
           let none = ap (λ (o : DispatchOut). o.result) (turns_none ws g i (suc k) u) in
           let z : ◌≡◌ {A = ℕ} 0 1 = cc in
           absurd (omega arith)
-      by (Worker j) u rest = elim (ℕ_discrete (number_of (step_of g.edition ws j).answer) 0) [
+      by (Some j) u rest = elim (ℕ_discrete (number_of (step_of g.edition ws j).answer) 0) [
         | yes z ↦
             let less : suc k - 1 ≡ k = omega arith in
             let come : turns_of ws g i (suc k) ≡ turns_of (step_of g.edition ws j).words g (worker_after g j) k =
@@ -101,25 +100,25 @@ module _ (g : Settings) where
 
 -- ---- the call
 -- a fit pool and a worker of its, or refused at once
-module _ (ed : ℕ) (ws : List ℕ) (i steps next : ℕ) (e : (dispatch_of ed ws i steps).result ≡ RanOut next) where
+module _ (ed : ℕ) (ws : List ℕ) (i steps next : ℕ) (e : (dispatch_of ed ws i steps).result ≡ Ok (RanOut next)) where
   pub record Begins : Type 0 where
     pub settings : Settings
     pub fit : checked_of settings.edition ws ≡ Fit settings
     pub edition : settings.edition ≡ ed
     pub among : i < settings.workers
 
-  not_refused : (n : ℕ) → Refused n ≢ RanOut next
+  not_refused : (n : Refusal) → ◌≢◌ {A = DispatchResult} (Err n) (Ok (RanOut next))
   not_refused n u = let z : ◌≡◌ {A = ℕ} 0 1 = cc in omega arith
 
   begins : Begins
   unfolding dispatch_of checked_dispatch fit_dispatch cond
   begins = by (checked_of ed ws) refl e
     where
-      by : (c : Checked) → checked_of ed ws ≡ c → (checked_dispatch ws c i steps).result ≡ RanOut next → Begins
+      by : (c : Checked) → checked_of ed ws ≡ c → (checked_dispatch ws c i steps).result ≡ Ok (RanOut next) → Begins
       by (Unfit n) fit u = absurd (not_refused n u)
       by (Fit g) fit u = elim (dec_lt i g.workers) [
         | yes l ↦ record { settings = g; fit = fit_own ed ws g fit; edition = (fit_head ed ws g fit).1; among = l }
-        | no l ↦ absurd (not_refused no_such_worker ((ap (λ (b : Bool). (cond b (dispatched (Refused no_such_worker) ws) (turns_of ws g i steps)).result) (sym (le-leb g.workers i (omega arith)))) ∙ u))
+        | no l ↦ absurd (not_refused NoSuchWorker ((ap (λ (b : Bool). (cond b (dispatched (Err NoSuchWorker) ws) (turns_of ws g i steps)).result) (sym (le-leb g.workers i (omega arith)))) ∙ u))
       ]
 
 -- turns of a pool of its edition are a dispatch's, or both are refused
@@ -136,7 +135,7 @@ pub dispatch_goes_on : DispatchGoesOn
 dispatch_goes_on ed ws i steps more next some e =
     let b = begins ed ws i steps next e in
     let g : Settings = b.settings in
-    let e' : (dispatch_of g.edition ws i steps).result ≡ RanOut next = rw b.edition e in
+    let e' : (dispatch_of g.edition ws i steps).result ≡ Ok (RanOut next) = rw b.edition e in
     let here = fit_turns ws g b.fit i in
     let on = turns_go_on g steps ws i next (fit_pool g.edition ws g b.fit).settings b.among (sym (ap (λ (o : DispatchOut). o.result) (here steps b.among)) ∙ e') in
     rw (sym b.edition, here (steps + more) b.among, here steps b.among)

@@ -16,31 +16,28 @@ use Rattle.rounds.specs.Dispatch.{DispatchOut, Busy, worker_after, turn_from, en
 use Rattle.rounds.specs.DispatchSteps.{DispatchNobody}
 use Rattle.rules.proofs.Fitness.{fit_pool}
 use Rattle.rules.specs.declared.Settings.{Settings}
-use Rattle.rules.specs.declared.Answer.{Answer}
-use Rattle.rules.specs.declared.Turn.{Turn}
-use Rattle.rules.specs.declared.Turn.TheVariants.{NoneBusy as Nobody, Worker}
-use Rattle.rules.specs.declared.Dispatched.{Dispatched}
+use Rattle.rules.specs.Answers.{Answered}
+use Rattle.rounds.specs.Dispatch.{DispatchResult}
 use Rattle.rules.specs.declared.Dispatched.TheVariants.{NoneBusy}
 use Rattle.rounds.proofs.Turns.{has_turn, busy_found, turns_none, turns_out, turns_on, turns_end, turn_busy, turn_settings, fit_turns}
+use Rattle.std.specs.Prelude.{None, Ok, Option, Some, Err}
 
-ended_some : (j : ℕ) (a : Answer) → ended_by j a ≢ NoneBusy
+ended_some : (j : ℕ) (a : Answered) → ended_by j a ≢ (Ok NoneBusy)
 unfolding ended_by
-ended_some j a =
-    cases (λ (r : Dispatched). r ≢ NoneBusy) (leb (number_of a) 4) _ _
-    (λ l e. let z : ◌≡◌ {A = ℕ} 0 1 = cc in omega arith)
-    (λ l e. let z : ◌≡◌ {A = ℕ} 0 1 = cc in omega arith)
+ended_some j (Ok a) e = let z : ◌≡◌ {A = ℕ} 0 1 = cc in omega arith
+ended_some j (Err n) e = let z : ◌≡◌ {A = ℕ} 0 1 = cc in omega arith
 
 module _ (g : Settings) where
   -- nobody is found where none is busy
-  none_found : (ws : List ℕ) (i : ℕ) → i < g.workers → ¬ (Busy g ws) → turn_from ws g i ≡ Nobody
+  none_found : (ws : List ℕ) (i : ℕ) → i < g.workers → ¬ (Busy g ws) → turn_from ws g i ≡ None
   none_found ws i l none = by (turn_from ws g i) refl
     where
-      by : (t : Turn) → turn_from ws g i ≡ t → t ≡ Nobody
-      by Nobody e = refl
-      by (Worker j) e = let x = has_turn ws g i j l e in absurd (none (j, x.among, x.busy))
+      by : (t : Option ℕ) → turn_from ws g i ≡ t → t ≡ None
+      by None e = refl
+      by (Some j) e = let x = has_turn ws g i j l e in absurd (none (j, x.among, x.busy))
 
   -- some worker is busy at every turn
-  turns_some : (k : ℕ) (ws : List ℕ) (i : ℕ) → settings_of ws ≡ g → i < g.workers → Busy g ws → (turns_of ws g i k).result ≢ NoneBusy
+  turns_some : (k : ℕ) (ws : List ℕ) (i : ℕ) → settings_of ws ≡ g → i < g.workers → Busy g ws → (turns_of ws g i k).result ≢ (Ok NoneBusy)
   turns_some zero ws i own l busy e =
       let f = busy_found ws g i busy.0 l busy.1 busy.2 in
       let out = ap (λ (o : DispatchOut). o.result) (turns_out ws g i f.0 0 refl f.1) in

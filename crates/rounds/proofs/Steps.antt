@@ -24,10 +24,11 @@ use Rattle.rules.specs.declared.Settings.{Settings}
 use Rattle.rules.specs.declared.Effect.{Effect}
 use Rattle.rules.specs.declared.Outcome.{Outcome}
 use Rattle.rules.specs.declared.Outcome.TheVariants.{Refused as Stopped, Moving, Lost, Shifted, Raised, Dropped, Landed, Removed, Empty, Full}
-use Rattle.rules.specs.declared.Turn.{Turn}
-use Rattle.rules.specs.declared.Turn.TheVariants.{NoneBusy as Nobody, Worker}
-use Rattle.rules.specs.declared.Dispatched.{Dispatched}
-use Rattle.rules.specs.declared.Dispatched.TheVariants.{Finished, RanOut, Refused}
+use Rattle.rounds.specs.Dispatch.{DispatchResult}
+use Rattle.rules.specs.declared.Dispatched.TheVariants.{Finished, RanOut}
+use Rattle.std.specs.Prelude.{Err, None, Ok, Option, Some}
+use Rattle.rules.specs.Answers.{Answered, refusal_number}
+use Rattle.rules.proofs.Numbered.{answer_low, number_high}
 
 -- ---- a refused step
 module _ (ws : List ℕ) where
@@ -75,34 +76,35 @@ none_made m = record { calls = []; made = m; few = omega arith }
 step_made : (ed : ℕ) (ws : List ℕ) (j k : ℕ) (rest : DispatchOut) → Makes ed (step_of ed ws j).words k rest → Makes ed ws (suc k) (after_step j (step_of ed ws j) rest)
 unfolding after_step ended_by
 step_made ed ws j k rest x =
-    cases (Makes ed ws (suc k)) (eqb number 0) _ _
+    cases (Makes ed ws (suc k)) (eqb (number_of (step_of ed ws j).answer) 0) _ _
     (λ z. record { calls = step j ∷ x.calls; made = moved (eqb-true _ _ z) x.made; few = omega (arith, x.few) })
-    (λ z.
-    let some : number ≢ 0 = eqb-false _ _ z in
-    cases (λ (r : Dispatched). Makes ed ws (suc k) (dispatched r (step_of ed ws j).words)) (leb number 4) (Finished j (step_of ed ws j).answer) (Refused number)
-    (λ l. record {
-      calls = step j ∷ [];
-      made = finished (record { low = omega arith; high = leb-true _ _ l });
-      few = omega arith;
-    })
-    (λ l. rw (refused_kept ws ed j (leb-false _ _ l)) (none_made refused)))
+    (λ z. by (step_of ed ws j).answer refl (eqb-false _ _ z))
   where
-    number : ℕ
-    number = number_of (step_of ed ws j).answer
+    by : (a : Answered) → (step_of ed ws j).answer ≡ a → number_of (step_of ed ws j).answer ≢ 0 → Makes ed ws (suc k) (dispatched (ended_by j a) (step_of ed ws j).words)
+    by (Ok a) is some =
+        let number : number_of (step_of ed ws j).answer ≡ number_of (Ok a) = ap number_of is in
+        record {
+          calls = step j ∷ [];
+          made = finished is (record { low = omega arith; high = answer_low a });
+          few = omega arith;
+        }
+    by (Err n) is some =
+        let number : number_of (step_of ed ws j).answer ≡ refusal_number n = ap number_of is in
+        rw (refused_kept ws ed j (omega (arith, number_high n))) (none_made refused)
 
 turns_made : (g : Settings) (ws : List ℕ) (i k : ℕ) → Makes g.edition ws k (turns_of ws g i k)
 unfolding turns_of
 turns_made g ws i zero = by (turn_from ws g i)
   where
-    by : (t : Turn) → Makes g.edition ws 0 (if_busy ws t (λ j. dispatched (RanOut i) ws))
-    by Nobody = none_made nobody
-    by (Worker j) = none_made ran_out
+    by : (t : Option ℕ) → Makes g.edition ws 0 (if_busy ws t (λ j. dispatched (Ok (RanOut i)) ws))
+    by None = none_made nobody
+    by (Some j) = none_made ran_out
 turns_made g ws i (suc k) = by (turn_from ws g i) (λ j. turns_made g (step_of g.edition ws j).words (worker_after g j) k)
   where
-    by : (t : Turn) → ((j : ℕ) → Makes g.edition (step_of g.edition ws j).words k (turns_of (step_of g.edition ws j).words g (worker_after g j) k))
+    by : (t : Option ℕ) → ((j : ℕ) → Makes g.edition (step_of g.edition ws j).words k (turns_of (step_of g.edition ws j).words g (worker_after g j) k))
         → Makes g.edition ws (suc k) (if_busy ws t (λ j. after_step j (step_of g.edition ws j) (turns_of (step_of g.edition ws j).words g (worker_after g j) k)))
-    by Nobody rest = none_made nobody
-    by (Worker j) rest = step_made g.edition ws j k _ (rest j)
+    by None rest = none_made nobody
+    by (Some j) rest = step_made g.edition ws j k _ (rest j)
 
 dispatch_made : (ed : ℕ) (ws : List ℕ) (i steps : ℕ) → Makes ed ws steps (dispatch_of ed ws i steps)
 unfolding dispatch_of checked_dispatch fit_dispatch
@@ -120,7 +122,7 @@ unfolding words_after call_of
 made_words nobody = refl
 made_words ran_out = refl
 made_words refused = refl
-made_words (finished f) = refl
+made_words (finished is f) = refl
 made_words (moved z m) = made_words m
 
 pub dispatch_by_steps : DispatchBySteps

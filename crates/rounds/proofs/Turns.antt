@@ -11,7 +11,7 @@ use lib.ListN.{length, get_or}
 use lib.Dec.{ltb, eqb}
 use borrow.Author.Tests.{lt-leb, eq-eqb, ne_eqb, eqb-true, eqb-false}
 use Rattle.laws.specs.Choice.{cond, cases, all}
-use Rattle.rules.specs.Answers.{Out, refuse, number_of}
+use Rattle.rules.specs.Answers.{Out, refuse, number_of, refusal_number}
 use Rattle.rules.specs.Layout.{head_words, worker_at, needed, settings_of}
 use Rattle.rules.specs.Make.{in_edition}
 use Rattle.rules.specs.Limits.{settings_fit}
@@ -20,36 +20,18 @@ use Rattle.rules.specs.Step.{fit_step, checked_step, step_of}
 use Rattle.rounds.specs.Dispatch.{dispatched, worker_after, busy_from, turn_from, ended_by, after_step, turns_of, fit_dispatch, checked_dispatch, dispatch_of}
 use Rattle.rounds.specs.DispatchSteps.{NamedFirst}
 use Rattle.rules.specs.declared.Settings.{Settings}
-use Rattle.rules.specs.declared.Turn.{Turn}
-use Rattle.rules.specs.declared.Turn.TheVariants.{NoneBusy as Nobody, Worker}
-use Rattle.rules.specs.declared.Dispatched.TheVariants.{NoneBusy, RanOut, Refused}
+use Rattle.rules.specs.declared.Dispatched.TheVariants.{NoneBusy, RanOut}
 use Rattle.rules.proofs.Fitness.{fit_pool}
+use Rattle.rules.proofs.Numbered.{number_high}
 use Rattle.rules.proofs.words.Stays.{Standing, step_stays, step_busy, step_settings}
-
--- ---- the number of an unfit pool is none of an answer's
-High : Checked → Type 0
-High (Unfit n) = 4 < n
-High (Fit g) = Unit {0}
-
-high : (ed : ℕ) (ws : List ℕ) → High (checked_of ed ws)
-unfolding High checked_by head_checked body_checked
-high ed ws =
-    cases High (ltb (length ws) head_words) _ _ (λ e. omega arith)
-    (λ e. cases High (settings_fit (in_edition ed (settings_of ws))) _ _
-    (λ f. cases High (eqb (settings_of ws).edition ed) _ _
-    (λ h. cases High (ltb (length ws) (needed (settings_of ws))) _ _ (λ a. omega arith) (λ a. cases High (all (body_fit ws (settings_of ws))) _ _ (λ b. tt) (λ b. omega arith)))
-    (λ h. omega arith))
-    (λ f. omega arith))
-
-pub unfit_high : (ed : ℕ) (ws : List ℕ) (n : ℕ) → checked_of ed ws ≡ Unfit n → 4 < n
-unfolding High
-unfit_high ed ws n e = subst High e (high ed ws)
+use Rattle.std.specs.Prelude.{Err, None, Ok, Option, Some}
+use Rattle.rules.specs.declared.Refusal.{Refusal}
 
 -- ---- whose turn it is
 abbrev phase : List ℕ → Settings → ℕ → ℕ
 phase ws g i = get_or ws (worker_at g i) 0
 
-pub busy_here : (ws : List ℕ) (g : Settings) (i m : ℕ) → 0 < m → phase ws g i ≢ 0 → busy_from ws g i m ≡ Worker i
+pub busy_here : (ws : List ℕ) (g : Settings) (i m : ℕ) → 0 < m → phase ws g i ≢ 0 → busy_from ws g i m ≡ Some i
 unfolding busy_from cond
 busy_here ws g i zero l n = absurd (omega arith)
 busy_here ws g i (suc m) l n = rw (ne_eqb (phase ws g i) 0 n) refl
@@ -63,7 +45,7 @@ module _ (ws : List ℕ) (g : Settings) where
   busy_next i zero l e = absurd (omega arith)
   busy_next i (suc m) l e = let less : suc m - 1 ≡ m = omega arith in rw (less, eq-eqb (phase ws g i) 0 e) refl
 
-  pub busy_none : (i m : ℕ) → m ≡ 0 → busy_from ws g i m ≡ Nobody
+  pub busy_none : (i m : ℕ) → m ≡ 0 → busy_from ws g i m ≡ None
   unfolding busy_from
   busy_none i zero e = refl
   busy_none i (suc m) e = absurd (omega arith)
@@ -73,24 +55,24 @@ module _ (ws : List ℕ) (g : Settings) where
     pub among : j < g.workers
     pub busy : phase ws g j ≢ 0
 
-  abbrev pub Found : Turn → Type 0
-  Found t = (j : ℕ) × (t ≡ Worker j)
+  abbrev pub Found : Option ℕ → Type 0
+  Found t = (j : ℕ) × (t ≡ Some j)
 
-  worker_same : (i j : ℕ) → Worker i ≡ Worker j → i ≡ j
+  worker_same : (i j : ℕ) → Some i ≡ Some j → i ≡ j
   worker_same i j e = cc
 
-  nobody : (j : ℕ) → Nobody ≡ Worker j → ⊥
+  nobody : (j : ℕ) → None ≡ Some j → ⊥
   nobody j e = let z : ◌≡◌ {A = ℕ} 0 1 = cc in omega arith
 
-  has_turn_by : (m i j : ℕ) → i < g.workers → busy_from ws g i m ≡ Worker j → HasTurn j
+  has_turn_by : (m i j : ℕ) → i < g.workers → busy_from ws g i m ≡ Some j → HasTurn j
   unfolding busy_from
   has_turn_by zero i j l e = absurd (nobody j e)
   has_turn_by (suc m) i j l e =
-      cases (λ (t : Turn). t ≡ Worker j → HasTurn j) (eqb (phase ws g i) 0) _ _
+      cases (λ (t : Option ℕ). t ≡ Some j → HasTurn j) (eqb (phase ws g i) 0) _ _
       (λ b f. has_turn_by m (worker_after g i) j (mod-lt _ (omega arith)) f)
       (λ b f. subst HasTurn (worker_same i j f) (record { among = l; busy = eqb-false _ _ b })) e
 
-  pub has_turn : (i j : ℕ) → i < g.workers → turn_from ws g i ≡ Worker j → HasTurn j
+  pub has_turn : (i j : ℕ) → i < g.workers → turn_from ws g i ≡ Some j → HasTurn j
   has_turn i j l e = has_turn_by g.workers i j l e
 
   -- worker b is d workers on from i: at i + d, or there once the numbers have begun anew
@@ -133,18 +115,18 @@ module _ (ws : List ℕ) (g : Settings) where
   ]
 
   -- ---- one turn
-  pub turns_none : (i k : ℕ) → turn_from ws g i ≡ Nobody → turns_of ws g i k ≡ dispatched NoneBusy ws
+  pub turns_none : (i k : ℕ) → turn_from ws g i ≡ None → turns_of ws g i k ≡ dispatched (Ok NoneBusy) ws
   unfolding turns_of
   turns_none i zero e = rw e refl
   turns_none i (suc k) e = rw e refl
 
-  pub turns_out : (i j k : ℕ) → k ≡ 0 → turn_from ws g i ≡ Worker j → turns_of ws g i k ≡ dispatched (RanOut i) ws
+  pub turns_out : (i j k : ℕ) → k ≡ 0 → turn_from ws g i ≡ Some j → turns_of ws g i k ≡ dispatched (Ok (RanOut i)) ws
   unfolding turns_of
   turns_out i j zero z e = rw e refl
   turns_out i j (suc k) z e = absurd (omega arith)
 
   -- a step that answers 0: the turns go on from the words that it leaves
-  pub turns_on : (i j k : ℕ) → 0 < k → turn_from ws g i ≡ Worker j → (o : Out) → step_of g.edition ws j ≡ o → number_of o.answer ≡ 0
+  pub turns_on : (i j k : ℕ) → 0 < k → turn_from ws g i ≡ Some j → (o : Out) → step_of g.edition ws j ≡ o → number_of o.answer ≡ 0
       → turns_of ws g i k ≡ turns_of o.words g (worker_after g j) (k - 1)
   unfolding turns_of after_step cond
   turns_on i j zero l e o step z = absurd (omega arith)
@@ -153,7 +135,7 @@ module _ (ws : List ℕ) (g : Settings) where
       rw (less, e, step, eq-eqb (number_of o.answer) 0 z) refl
 
   -- any other ends them, and names its worker
-  pub turns_end : (i j k : ℕ) → 0 < k → turn_from ws g i ≡ Worker j → (o : Out) → step_of g.edition ws j ≡ o → number_of o.answer ≢ 0
+  pub turns_end : (i j k : ℕ) → 0 < k → turn_from ws g i ≡ Some j → (o : Out) → step_of g.edition ws j ≡ o → number_of o.answer ≢ 0
       → turns_of ws g i k ≡ dispatched (ended_by j o.answer) o.words
   unfolding turns_of after_step cond
   turns_end i j zero l e o step n = absurd (omega arith)
@@ -169,15 +151,13 @@ module _ (ws : List ℕ) (g : Settings) where
   turn_stays e j = rw (fit_step_law e j) (step_stays ws g e j)
 
   -- on an unfit one: it is refused
-  pub unfit_step : (n j : ℕ) → checked_of g.edition ws ≡ Unfit n → step_of g.edition ws j ≡ refuse n ws
+  pub unfit_step : (n : Refusal) (j : ℕ) → checked_of g.edition ws ≡ Unfit n → step_of g.edition ws j ≡ refuse n ws
   unfolding step_of checked_step
   unfit_step n j e = rw e refl
 
-  pub turns_refused : (i j k n : ℕ) → 0 < k → turn_from ws g i ≡ Worker j → checked_of g.edition ws ≡ Unfit n → turns_of ws g i k ≡ dispatched (Refused n) ws
-  unfolding ended_by cond
-  turns_refused i j k n some turn e =
-      let high = unfit_high g.edition ws n e in
-      turns_end i j k some turn (refuse n ws) (unfit_step n j e) (λ z. omega arith) ∙ (rw (lt-leb n 4 high) refl)
+  pub turns_refused : (i j k : ℕ) (n : Refusal) → 0 < k → turn_from ws g i ≡ Some j → checked_of g.edition ws ≡ Unfit n → turns_of ws g i k ≡ dispatched (Err n) ws
+  unfolding ended_by
+  turns_refused i j k n some turn e = turns_end i j k some turn (refuse n ws) (unfit_step n j e) (λ z. omega (arith, number_high n))
 
   -- a step that answered 0 was on a fit one
   pub moved_fit : (j : ℕ) → settings_of ws ≡ g → number_of (step_of g.edition ws j).answer ≡ 0 → checked_of g.edition ws ≡ Fit g
@@ -185,8 +165,8 @@ module _ (ws : List ℕ) (g : Settings) where
     where
       by : (c : Checked) → checked_of g.edition ws ≡ c → checked_of g.edition ws ≡ Fit g
       by (Unfit n) e =
-          let number : n ≡ 0 = sym (ap (λ (o : Out). number_of o.answer) (unfit_step n j e)) ∙ z in
-          absurd (omega (arith, unfit_high g.edition ws n e))
+          let number : refusal_number n ≡ 0 = sym (ap (λ (o : Out). number_of o.answer) (unfit_step n j e)) ∙ z in
+          absurd (omega (arith, number_high n))
       by (Fit h) e = e ∙ ap Fit (sym (fit_pool g.edition ws h e).settings ∙ own)
 
   -- and leaves its worker busy and the settings as they were, fit or not

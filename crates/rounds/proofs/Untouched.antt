@@ -14,12 +14,11 @@ use Rattle.rounds.specs.Dispatch.{DispatchOut, dispatched, worker_after, turn_fr
 use Rattle.untouched.specs.Untouched.{Beyond}
 use Rattle.rounds.specs.DispatchSteps.{DispatchKeeps}
 use Rattle.rules.specs.declared.Settings.{Settings}
-use Rattle.rules.specs.declared.Turn.{Turn}
-use Rattle.rules.specs.declared.Turn.TheVariants.{NoneBusy as Nobody, Worker}
 use Rattle.rules.specs.declared.Dispatched.TheVariants.{RanOut}
 use Rattle.rules.proofs.Fitness.{fit_pool}
 use Rattle.untouched.proofs.Untouched.{unchanged, step_keeps}
 use Rattle.rounds.proofs.Turns.{turn_settings}
+use Rattle.std.specs.Prelude.{None, Ok, Option, Some}
 
 both_keep : {n : ℕ} {us vs ws : List ℕ} → Beyond n us vs → Beyond n vs ws → Beyond n us ws
 both_keep a b = record { length_same = b.length_same ∙ a.length_same; same = λ k l. b.same k l ∙ a.same k l }
@@ -43,15 +42,15 @@ module _ (g : Settings) where
   unfolding turns_of
   turns_kept ws own i zero = by (turn_from ws g i)
     where
-      by : (t : Turn) → Kept ws (if_busy ws t (λ j. dispatched (RanOut i) ws))
-      by Nobody = unchanged _ ws
-      by (Worker j) = unchanged _ ws
+      by : (t : Option ℕ) → Kept ws (if_busy ws t (λ j. dispatched (Ok (RanOut i)) ws))
+      by None = unchanged _ ws
+      by (Some j) = unchanged _ ws
   turns_kept ws own i (suc k) = by (turn_from ws g i) (λ j f. turns_kept (step_of g.edition ws j).words f (worker_after g j) k)
     where
-      by : (t : Turn) → ((j : ℕ) → settings_of (step_of g.edition ws j).words ≡ g → Kept (step_of g.edition ws j).words (turns_of (step_of g.edition ws j).words g (worker_after g j) k))
+      by : (t : Option ℕ) → ((j : ℕ) → settings_of (step_of g.edition ws j).words ≡ g → Kept (step_of g.edition ws j).words (turns_of (step_of g.edition ws j).words g (worker_after g j) k))
           → Kept ws (if_busy ws t (λ j. after_step j (step_of g.edition ws j) (turns_of (step_of g.edition ws j).words g (worker_after g j) k)))
-      by Nobody rest = unchanged _ ws
-      by (Worker j) rest = step_kept ws own j _ (rest j)
+      by None rest = unchanged _ ws
+      by (Some j) rest = step_kept ws own j _ (rest j)
 
 pub dispatch_keeps : DispatchKeeps
 unfolding dispatch_of checked_dispatch fit_dispatch

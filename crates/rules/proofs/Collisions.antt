@@ -15,7 +15,7 @@ use lib.Dec.{leb, eqb}
 use borrow.Author.Tests.{lt-ltb, lt-leb, leb-true, leb-false, eq-eqb, ne_eqb}
 use Rattle.laws.specs.Choice.{cond, cond_true, cond_false, cases, both, both_false, both_one, both_true}
 use Rattle.laws.specs.Wrap.{add32}
-use Rattle.rules.specs.Answers.{Out, refuse, no_such_worker, worker_idle, steps_spent, number_of}
+use Rattle.rules.specs.Answers.{Out, number_of, refusal_number, refuse}
 use Rattle.rules.specs.Limits.{settings_fit, step_limit, windowed, size_fit}
 use Rattle.rules.specs.Windows.{has_windows}
 use Rattle.rules.specs.Layout.{steps_at, puts_at, top_at, mark_at, first_at, second_at, worker_at, index_at, lost_at, cells_at, cell_at, stamp_at, lost_word}
@@ -39,6 +39,7 @@ use Rattle.rules.proofs.Types.{Settings, Size, Side, Putting, Taking, Phase, Idl
 use Rattle.rules.specs.declared.Outcome.TheVariants.{Refused, Moving, Lost, Shifted, Raised, Dropped, Landed, Removed, Empty, Full}
 use Rattle.rules.proofs.Workers.{words_lost, Read, worker_within, same_worker, lost_apart}
 use Rattle.rules.proofs.Fitness.{settings_bounds, fit_pool}
+use Rattle.rules.proofs.Numbered.{number_high}
 use Rattle.rules.proofs.counts.Wraps.{add32_suc}
 use Rattle.rules.proofs.order.Law.{Next}
 use Rattle.rules.proofs.machine.Machine.{State, view_in, apply_in, apply_in_by, step_in, set_size_in, next_in}
@@ -50,6 +51,8 @@ use Rattle.rules.proofs.words.Stores.{view_same}
 use Rattle.rules.proofs.Transfer.{Related, related_fit, next_related, made_related}
 use Rattle.rules.proofs.BothKinds.{kind_of}
 use Rattle.rules.proofs.words.Made.{accepted, made_card}
+use Rattle.rules.specs.declared.Refusal.TheVariants.{NoSuchWorker, StepsSpent, WorkerIdle}
+use Rattle.rules.specs.declared.Refusal.{Refusal}
 
 pub cards_from_one : CardsFromOne
 cards_from_one g l = words_lost g.edition l
@@ -203,8 +206,8 @@ module _ (ws : List ℕ) (g : Settings) (pool : FitPool g ws) (cards : HasCards 
   abbrev Stepped : ℕ → Out → Type 0
   Stepped j o = Card (both (eqb j i) (both (leb (number_of o.answer) 4) (finds_other g ws j))) o.words
 
-  refused_step : (j n : ℕ) → 4 < n → Stepped j (refuse n ws)
-  refused_step j n l = rw (lt-leb n 4 l, both_false (eqb j i)) same
+  refused_step : (j : ℕ) (n : Refusal) → Stepped j (refuse n ws)
+  refused_step j n = rw (lt-leb (refusal_number n) 4 (number_high n), both_false (eqb j i)) same
 
   rule_step : (j : ℕ) → j < g.workers → Stepped j (apply_of ws g (worker_at g j) (get_or ws (index_at (worker_at g j)) 0) (rule_of g (view_of ws g (worker_at g j))))
   unfolding apply_of rule_of
@@ -216,9 +219,9 @@ module _ (ws : List ℕ) (g : Settings) (pool : FitPool g ws) (cards : HasCards 
   step_card : (j : ℕ) → Stepped j (fit_step ws g j)
   unfolding fit_step slot_step
   step_card j =
-      cases (Stepped j) (leb g.workers j) _ _ (λ a. refused_step j no_such_worker (omega arith))
-      (λ a. cases (Stepped j) (idle_at ws (worker_at g j)) _ _ (λ b. refused_step j worker_idle (omega arith))
-      (λ b. cases (Stepped j) (out_of_steps ws) _ _ (λ c. refused_step j steps_spent (omega arith)) (λ c. rule_step j (leb-false _ _ a))))
+      cases (Stepped j) (leb g.workers j) _ _ (λ a. refused_step j NoSuchWorker)
+      (λ a. cases (Stepped j) (idle_at ws (worker_at g j)) _ _ (λ b. refused_step j WorkerIdle)
+      (λ b. cases (Stepped j) (out_of_steps ws) _ _ (λ c. refused_step j StepsSpent) (λ c. rule_step j (leb-false _ _ a))))
 
   begin_card : (j : ℕ) (side : Side) (value : ℕ) → Card false (fit_begin ws g j side value).words
   unfolding fit_begin slot_begin
@@ -325,7 +328,7 @@ module _ (g : Settings) (limits : settings_fit g ≡ true) (k : Kind g) (cards :
       by : Called s (Steps g s j) (apply_in g s j (rule_of g (view_in g s j))) (step_in g s j) → (step_in g s j).state.steps ≡ suc s.steps
       by (refuses n l unable e) =
           let same = ap number_of ((next_related g limits k r (step j)).answer ∙ ap (λ (o : Next State). o.answer) e) in
-          absurd (omega (arith, same, leb-true (number_of (step_of g.edition ws j).answer) 4 tests.0))
+          absurd (omega (arith, same, number_high n, leb-true (number_of (step_of g.edition ws j).answer) 4 tests.0))
       by (does able e) =
           let view = view_same g ws s r.says j able.worker (r.whole.common.slots j).index (live r) in
           let v = view_in g s j in

@@ -11,7 +11,7 @@ use Rattle.rules.specs.Make.{in_edition}
 use Rattle.rules.specs.Measures.{Measures}
 use Rattle.rules.specs.Sequential.{Operation, putting, taking, Contents, Found, give_by, leaving, find}
 use Rattle.rules.specs.Run.{Call, Event, run}
-use Rattle.rules.proofs.Types.{Settings, Answer}
+use Rattle.rules.proofs.Types.{Settings, Answered}
 use Rattle.rules.proofs.order.Closest.{Gives, OneAtATime}
 use Rattle.rules.proofs.order.Law.{Next, told, Status, Others, Turn, refused, passes, opened, walks, tries, stays, loses, ends, wins, Runs, none as no_more, calls as told-call, jumps}
 use Rattle.rules.proofs.order.Order.{one_at_a_time}
@@ -34,7 +34,7 @@ module _ (g : Settings) (e : ℕ) where
   give_same most least q n stamp (putting v) = refl
   give_same most least q n stamp taking = rw (leaving_same most q (find stamp q.items)) refl
 
-  gives_kept : (q : Contents) (o : Operation) (a : Answer) (m : Measures) (q' : Contents) → Gives (in_edition e g) q o a m q' → Gives g q o a m q'
+  gives_kept : (q : Contents) (o : Operation) (a : Answered) (m : Measures) (q' : Contents) → Gives (in_edition e g) q o a m q' → Gives g q o a m q'
   gives_kept q o a m q' z = sym (give_same _ _ q _ _ o) ∙ z
 
 module _ (g : Settings) where

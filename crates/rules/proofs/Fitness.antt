@@ -1,7 +1,7 @@
 -- What the tests of settings and fitness say where they hold: settings within limits have the limits as orders, and a
 -- pool that is checked fit has each field of `FitPool`. Each test is read off the choice that it stands in.
 use Prim.Native.Nat.{ℕ, ◌+◌, ◌-◌, ◌%◌, ◌<◌, ◌≤◌}
-use mathlib.Core.Path.{◌≡◌, refl, sym, subst}
+use mathlib.Core.Path.{◌≡◌, refl, sym, subst, ap}
 use mathlib.Core.Logic.{◌≢◌}
 use mathlib.Core.List.{List}
 use mathlib.Core.Bool.{Bool, true, false}
@@ -10,18 +10,22 @@ use native.Mathlib.Omega.{arith}
 use lib.ListN.{get_or, length}
 use lib.Dec.{ltb, leb, eqb}
 use borrow.Author.Tests.{ltb-true, ltb-false, lt-ltb, le-ltb, leb-true, eq-eqb, ne_eqb, eqb-true}
-use Rattle.laws.specs.Choice.{cond, cases, both_true, all, all_holds, all_below, all_below_at}
-use Rattle.rules.specs.Answers.{too_few_words, not_fit}
+use Rattle.laws.specs.Choice.{cond, cases, both_true, all, all_holds, all_below_at}
+use Rattle.rules.specs.Answers.{refusal_number, refusal_numbered}
 use Rattle.rules.specs.Layout.{head_words, worker_at, set_at, pair_at, needed, settings_of}
 use Rattle.rules.specs.Make.{in_edition}
 use Rattle.rules.specs.Limits.{limits, queue_limits, settings_fit, windowed, size_limits, size_fit, most_live, Bounds}
 use Rattle.rules.specs.Windows.{has_windows, no_size, live_of, nth_size, level_of}
 use Rattle.rules.specs.Worker.{slot_at}
-use Rattle.rules.specs.Fit.{Checked, Unfit, Fit, sub_fit, subs_fit, phase_fit, past_window, span_limits, seen_fit, worker_limits, worker_fit, workers_fit, no_size_fit, pair_fit, sizes_fit, tops_fit, windows_fit, body_fit, body_checked, head_checked, checked_by, checked_of, refusal_of, SubFits, SizeFits, SpanFits, WindowsFit, FitPool}
+use Rattle.rules.specs.Fit.{Checked, Unfit, Fit, sub_fit, subs_fit, phase_fit, past_window, span_limits, seen_fit, worker_limits, worker_fit, workers_fit, no_size_fit, pair_fit, sizes_fit, tops_fit, windows_fit, body_fit, body_checked, head_checked, checked_by, checked_of, refusal_of, SubFits, SizeFits, SpanFits, WindowsFit, FitPool, fitness_of}
 use Rattle.rules.specs.declared.Settings.{Settings}
 use Rattle.rules.specs.declared.Size.{Size}
 use Rattle.rules.specs.declared.Slot.{Slot}
 use Rattle.rules.proofs.Cells.{level_ge}
+use Rattle.rules.specs.declared.Refusal.TheVariants.{NotFit, TooFewWords}
+use Rattle.rules.specs.declared.Refusal.{Refusal}
+use Rattle.std.specs.Prelude.{Ok, Err}
+use Rattle.rules.proofs.Numbered.{number_high, numbered_number}
 
 -- ---- settings
 pub settings_bounds : (g : Settings) → settings_fit g ≡ true → Bounds g
@@ -66,16 +70,16 @@ size_fits g size e =
     }
 
 -- ---- a pool
-unfit_fit : (n : ℕ) (g : Settings) → Unfit n ≡ Fit g → ⊥
+unfit_fit : (n : Refusal) (g : Settings) → Unfit n ≡ Fit g → ⊥
 unfit_fit n g e = let z : ◌≡◌ {A = ℕ} 0 1 = cc in omega arith
 
 -- a test whose failure, or whose success, would have refused
-passed_not : (b : Bool) (n : ℕ) (y : Checked) (g : Settings) → cond b (Unfit n) y ≡ Fit g → (b ≡ false) × (y ≡ Fit g)
+passed_not : (b : Bool) (n : Refusal) (y : Checked) (g : Settings) → cond b (Unfit n) y ≡ Fit g → (b ≡ false) × (y ≡ Fit g)
 unfolding cond
 passed_not true n y g e = absurd (unfit_fit n g e)
 passed_not false n y g e = (refl, e)
 
-passed : (b : Bool) (n : ℕ) (y : Checked) (g : Settings) → cond b y (Unfit n) ≡ Fit g → (b ≡ true) × (y ≡ Fit g)
+passed : (b : Bool) (n : Refusal) (y : Checked) (g : Settings) → cond b y (Unfit n) ≡ Fit g → (b ≡ true) × (y ≡ Fit g)
 unfolding cond
 passed true n y g e = (refl, e)
 passed false n y g e = absurd (unfit_fit n g e)
@@ -154,8 +158,8 @@ windows_fit_law ws g has e =
 body_fit_law : (ws : List ℕ) (h g : Settings) → settings_of ws ≡ h → settings_fit h ≡ true → body_checked ws h ≡ Fit g → FitPool h ws × (h ≡ g)
 unfolding body_checked subs_fit slot_at
 body_fit_law ws h g s limits e =
-    let long = passed_not (ltb (length ws) (needed h)) too_few_words _ g e in
-    let rest = passed (all (body_fit ws h)) not_fit _ g long.1 in
+    let long = passed_not (ltb (length ws) (needed h)) TooFewWords _ g e in
+    let rest = passed (all (body_fit ws h)) NotFit _ g long.1 in
     let t = all_holds (body_fit ws h) rest.0 in
     let worker : (i : ℕ) → i < h.workers → WorkerFits h (slot_at h ws (worker_at h i)) = λ i l. each_worker ws h i l t.1.1.0 in (
       record {
@@ -179,11 +183,11 @@ record Passed (ed : ℕ) (ws : List ℕ) (g : Settings) : Type 0 where
   edition : eqb (settings_of ws).edition ed ≡ true
   body : body_checked ws (settings_of ws) ≡ Fit g
 
-passed_head : (other ed : ℕ) (ws : List ℕ) (g : Settings) → checked_by other ed ws ≡ Fit g → Passed ed ws g
+passed_head : (other : Refusal) (ed : ℕ) (ws : List ℕ) (g : Settings) → checked_by other ed ws ≡ Fit g → Passed ed ws g
 unfolding checked_by head_checked
 passed_head other ed ws g e =
-    let long = passed_not (ltb (length ws) head_words) too_few_words _ g e in
-    let asked = passed (settings_fit (in_edition ed (settings_of ws))) not_fit _ g long.1 in
+    let long = passed_not (ltb (length ws) head_words) TooFewWords _ g e in
+    let asked = passed (settings_fit (in_edition ed (settings_of ws))) NotFit _ g long.1 in
     let edition = passed (eqb (settings_of ws).edition ed) other _ g asked.1 in
     record {
       long = long.0;
@@ -194,21 +198,21 @@ passed_head other ed ws g e =
     }
 
 -- so the check of a move's source finds fit what a call's does
-pub fit_with_other : (other other' ed : ℕ) (ws : List ℕ) (g : Settings) → checked_by other ed ws ≡ Fit g → checked_by other' ed ws ≡ Fit g
+pub fit_with_other : (other other' : Refusal) (ed : ℕ) (ws : List ℕ) (g : Settings) → checked_by other ed ws ≡ Fit g → checked_by other' ed ws ≡ Fit g
 unfolding checked_by head_checked cond
 fit_with_other other other' ed ws g e = let p = passed_head other ed ws g e in rw (p.long, p.asked, p.edition) p.body
 
 -- a pool that is checked fit
 pub fit_pool : (ed : ℕ) (ws : List ℕ) (g : Settings) → checked_of ed ws ≡ Fit g → FitPool g ws
 fit_pool ed ws g e =
-    let head = passed_head not_fit ed ws g e in
+    let head = passed_head NotFit ed ws g e in
     let p = body_fit_law ws (settings_of ws) g refl head.limits head.body in
     subst (λ (h : Settings). FitPool h ws) p.1 p.0
 
 -- its settings are within limits and it is of the edition asked for, and each worker is in a phase of its kind
 pub fit_head : (ed : ℕ) (ws : List ℕ) (g : Settings) → checked_of ed ws ≡ Fit g → (settings_fit g ≡ true) × (g.edition ≡ ed)
 fit_head ed ws g e =
-    let head = passed_head not_fit ed ws g e in
+    let head = passed_head NotFit ed ws g e in
     subst (λ (x : Settings). (settings_fit x ≡ true) × (x.edition ≡ ed)) (fit_pool ed ws g e).settings (head.limits, eqb-true _ _ head.edition)
 
 -- so it is fit by its own edition
@@ -224,13 +228,13 @@ pub record FitParts (g : Settings) (ws : List ℕ) : Type 0 where
 body_parts : (ws : List ℕ) (h g : Settings) → body_checked ws h ≡ Fit g → FitParts h ws × (h ≡ g)
 unfolding body_checked
 body_parts ws h g e =
-    let rest = passed (all (body_fit ws h)) not_fit _ g (passed_not (ltb (length ws) (needed h)) too_few_words _ g e).1 in
+    let rest = passed (all (body_fit ws h)) NotFit _ g (passed_not (ltb (length ws) (needed h)) TooFewWords _ g e).1 in
     let t = all_holds (body_fit ws h) rest.0 in
     (record { windows = t.0; subs = t.1.0; workers = t.1.1.0 }, fit_settings h g rest.1)
 
 pub fit_parts : (ed : ℕ) (ws : List ℕ) (g : Settings) → checked_of ed ws ≡ Fit g → FitParts g ws
 fit_parts ed ws g e =
-    let p = body_parts ws (settings_of ws) g (passed_head not_fit ed ws g e).body in
+    let p = body_parts ws (settings_of ws) g (passed_head NotFit ed ws g e).body in
     subst (λ (h : Settings). FitParts h ws) p.1 p.0
 
 pub fit_worker : (ed : ℕ) (ws : List ℕ) (g : Settings) → checked_of ed ws ≡ Fit g → (i : ℕ) → i < g.workers → WorkerFits g (slot_at g ws (worker_at g i))
@@ -242,7 +246,7 @@ fit_number ed ws g e i l = (fit_worker ed ws g e i l).number
 
 -- a refusal's number is not 0, so 0 means that the pool is fit, and any other number is the refusal
 Numbered : Settings → Checked → Type 0
-Numbered h (Unfit n) = 1 ≤ n
+Numbered h (Unfit refusal) = 1 ≤ refusal_number refusal
 Numbered h (Fit g) = h ≡ g
 
 body_numbered : (ws : List ℕ) (g : Settings) → Numbered g (body_checked ws g)
@@ -251,28 +255,42 @@ body_numbered ws g =
     cases (Numbered g) (ltb (length ws) (needed g)) _ _ (λ e. omega arith)
     (λ e. cases (Numbered g) (all (body_fit ws g)) _ _ (λ f. refl) (λ f. omega arith))
 
-numbered : (other ed : ℕ) (ws : List ℕ) → 1 ≤ other → Numbered (settings_of ws) (checked_by other ed ws)
+numbered : (other : Refusal) (ed : ℕ) (ws : List ℕ) → Numbered (settings_of ws) (checked_by other ed ws)
 unfolding checked_by head_checked Numbered
-numbered other ed ws l =
+numbered other ed ws =
     cases (Numbered (settings_of ws)) (ltb (length ws) head_words) _ _ (λ e. omega arith)
     (λ e. cases (Numbered (settings_of ws)) (settings_fit (in_edition ed (settings_of ws))) _ _
-    (λ f. cases (Numbered (settings_of ws)) (eqb (settings_of ws).edition ed) _ _ (λ h. body_numbered ws (settings_of ws)) (λ h. l))
+    (λ f. cases (Numbered (settings_of ws)) (eqb (settings_of ws).edition ed) _ _ (λ h. body_numbered ws (settings_of ws)) (λ h. omega (arith, number_high other)))
     (λ f. omega arith))
 
-pub refusal_none_by : (other ed : ℕ) (ws : List ℕ) → 1 ≤ other → refusal_of (checked_by other ed ws) ≡ 0 → checked_by other ed ws ≡ Fit (settings_of ws)
+pub refusal_none_by : (other : Refusal) (ed : ℕ) (ws : List ℕ) → refusal_of (checked_by other ed ws) ≡ 0 → checked_by other ed ws ≡ Fit (settings_of ws)
 unfolding Numbered
-refusal_none_by other ed ws l = go (checked_by other ed ws) (numbered other ed ws l)
+refusal_none_by other ed ws = go (checked_by other ed ws) (numbered other ed ws)
   where
     go : (c : Checked) → Numbered (settings_of ws) c → refusal_of c ≡ 0 → c ≡ Fit (settings_of ws)
-    go (Unfit n) h e = absurd (omega arith)
+    go (Unfit n) h e = absurd (omega (arith, number_high n))
     go (Fit g) h e = rw h refl
 
 pub refusal_none : (ed : ℕ) (ws : List ℕ) → refusal_of (checked_of ed ws) ≡ 0 → checked_of ed ws ≡ Fit (settings_of ws)
-refusal_none ed ws = refusal_none_by not_fit ed ws (omega arith)
+refusal_none ed ws = refusal_none_by NotFit ed ws
 
-pub refusal_some_by : (c : Checked) → ¬ (refusal_of c ≡ 0) → c ≡ Unfit (refusal_of c)
-refusal_some_by (Unfit n) h = refl
+-- a pool that is not fit, by the number of the refusal
+pub refusal_some_by : (c : Checked) → ¬ (refusal_of c ≡ 0) → c ≡ Unfit (refusal_numbered (refusal_of c))
+refusal_some_by (Unfit n) h = ap Unfit (sym (numbered_number n))
 refusal_some_by (Fit g) h = absurd (h refl)
 
-pub refusal_some : (ed : ℕ) (ws : List ℕ) → ¬ (refusal_of (checked_of ed ws) ≡ 0) → checked_of ed ws ≡ Unfit (refusal_of (checked_of ed ws))
+pub refusal_some : (ed : ℕ) (ws : List ℕ) → ¬ (refusal_of (checked_of ed ws) ≡ 0) → checked_of ed ws ≡ Unfit (refusal_numbered (refusal_of (checked_of ed ws)))
 refusal_some ed ws = refusal_some_by (checked_of ed ws)
+
+-- as the code hands it on: nothing of a fit pool, which has the settings that its words hold
+pub found_fit : (other : Refusal) (ed : ℕ) (ws : List ℕ) → Ok tt ≡ fitness_of (checked_by other ed ws) → checked_by other ed ws ≡ Fit (settings_of ws)
+unfolding Numbered
+found_fit other ed ws = go (checked_by other ed ws) (numbered other ed ws)
+  where
+    go : (c : Checked) → Numbered (settings_of ws) c → Ok tt ≡ fitness_of c → c ≡ Fit (settings_of ws)
+    go (Unfit n) h e = let z : ◌≡◌ {A = ℕ} 0 1 = cc in absurd (omega arith)
+    go (Fit g) h e = rw h refl
+
+pub found_unfit : (c : Checked) (refusal : Refusal) → Err refusal ≡ fitness_of c → c ≡ Unfit refusal
+found_unfit (Unfit n) refusal e = ap Unfit cc
+found_unfit (Fit g) refusal e = let z : ◌≡◌ {A = ℕ} 0 1 = cc in absurd (omega arith)

@@ -17,34 +17,35 @@ use Rattle.rules.specs.Windows.{size_of, has_windows, nth_size, bottom_of}
 use Rattle.rules.specs.Layout.{settings_of, set_at, worker_at, second_of}
 use Rattle.rules.specs.Measures.{measured, seen_size, places_of, measures_of}
 use Rattle.laws.specs.Choice.{cond, cases, both}
-use Rattle.rules.specs.Answers.{number_of, too_few_words, not_fit}
+use Rattle.rules.specs.Answers.{not_fit, number_of, refusal_number, too_few_words}
 use Rattle.rules.specs.Limits.{settings_fit, windowed, size_fit}
 use Rattle.rules.specs.Held.{Item, held_items, count_items, is_spacer, passed_over, reported, passed_of, distance_of, rows_below}
-use Rattle.rules.specs.Step.{rule_of, checked_step, step_of}
+use Rattle.rules.specs.Step.{rule_of, step_of}
 use Rattle.rules.specs.Sequential.{Contents, bound_by, least_by, least_full}
 use Rattle.rules.specs.Run.{Call, begin_put, begin_take, step, set_size, call_of, measures_at, run, at, stamp_in, Event, event_of, nothing}
 use Rattle.rules.specs.Statement.{All}
 use Rattle.rules.specs.Newer.{exact_rows}
 use Rattle.rules.specs.Spacers.{TakenWithin, TakesWithin, NoSpacer}
 use Rattle.rules.specs.Consequences.{words_after, item_in, items_in, has_stamp, NoSumWraps, OfEdition, OwnSizes, OwnPlaces}
-use Rattle.rules.proofs.Types.{Settings, Size, Putting, Taking, Effect, Outcome, Answer, Slot}
+use Rattle.rules.proofs.Types.{Settings, Size, Putting, Taking, Effect, Outcome, Answered, Slot}
 use Rattle.rules.specs.declared.Outcome.TheVariants.{Refused, Moving, Lost, Shifted, Raised, Dropped, Landed, Removed, Empty, Full}
-use Rattle.rules.specs.declared.Answer.TheVariants.{Moving as Goes, Put, Taken, Empty as NoItem, Full as NoRoom, Refused as Stopped}
+use Rattle.rules.specs.declared.Answer.TheVariants.{Moving as Goes, Put, Taken, Empty as NoItem, Full as NoRoom}
 use Rattle.rules.proofs.counts.Sums.{bit, bit_le}
 use Rattle.rules.proofs.order.Law.{Next}
 use Rattle.rules.proofs.Fitness.{settings_bounds}
+use Rattle.rules.proofs.Numbered.{number_high}
 use Rattle.rules.proofs.Cells.{count_append, held_order, queue_below}
-use Rattle.rules.proofs.machine.Machine.{State, view_in, below_in, apply_in, apply_in_by, set_size_in, next_in, places_in, step_in}
+use Rattle.rules.proofs.machine.Machine.{State, view_in, below_in, apply_in, apply_in_by, set_size_in, next_in, step_in}
 use Rattle.rules.proofs.machine.Calls.{Called, refuses, does, step_called, begin_called, Steps}
 use Rattle.rules.proofs.counts.Held.{count_none, held_count}
 use Rattle.rules.proofs.machine.Turns.{Common, Counts, Safe, Kind, FullAt, ItemIn}
 use Rattle.rules.proofs.machine.Does.{SharedAfter, sized_in, rule_in}
 use Rattle.rules.proofs.order.Given.{item_of, item_not}
-use Rattle.rules.proofs.Transfer.{NoSpacers, Related, related_fit, next_related, related_after}
+use Rattle.rules.proofs.Transfer.{NoSpacers, Related, next_related, related_after}
 use Rattle.rules.proofs.words.Says.{held_same, bottoms}
 use Rattle.rules.proofs.words.Stores.{view_same}
 use Rattle.rules.proofs.words.Told.{places_said}
-use Rattle.rules.proofs.words.Stays.{Numbered, step_numbered}
+use Rattle.std.specs.Prelude.{Ok, Err}
 
 -- a stamp up to the next one is that one, or is up to the last
 next_stamp : (c stamp : ℕ) → bit (eqb (suc c) stamp) + bit (leb stamp c) ≤ bit (leb stamp (suc c))
@@ -112,25 +113,21 @@ module _ (g : Settings) (limits : settings_fit g ≡ true) (k : Kind g) where
   takes_within_after r cs i two = taken_within (related_after g limits k r cs).related i two
 
   -- ---- what an answer is held to: of a take the pool's size, of a "full" demand 3's number
-  numbered : {ws : List ℕ} {s : State} → Rel ws s → (i : ℕ) → Numbered (step_of g.edition ws i).answer
-  unfolding step_of checked_step
-  numbered {ws} r i = let fit = related_fit g limits k r in rw fit (step_numbered ws g fit i)
+  take_size : (size : Size) (places : ℕ) (a : Answered) → number_of a ≡ 2 → (measured size places a).size ≡ size
+  take_size size places (Ok Goes) e = absurd (omega arith)
+  take_size size places (Ok (Put value sub row stamp)) e = absurd (omega arith)
+  take_size size places (Ok (Taken value sub row stamp distance)) e = refl
+  take_size size places (Ok NoItem) e = absurd (omega arith)
+  take_size size places (Ok NoRoom) e = absurd (omega arith)
+  take_size size places (Err m) e = absurd (omega (arith, number_high m))
 
-  take_size : (size : Size) (places : ℕ) (a : Answer) → Numbered a → number_of a ≡ 2 → (measured size places a).size ≡ size
-  take_size size places Goes n e = absurd (omega arith)
-  take_size size places (Put value sub row stamp) n e = absurd (omega arith)
-  take_size size places (Taken value sub row stamp distance) n e = refl
-  take_size size places NoItem n e = absurd (omega arith)
-  take_size size places NoRoom n e = absurd (omega arith)
-  take_size size places (Stopped m) n e = absurd (omega arith)
-
-  full_places : (size : Size) (places : ℕ) (a : Answer) → Numbered a → number_of a ≡ 4 → (measured size places a).places ≡ places
-  full_places size places Goes n e = absurd (omega arith)
-  full_places size places (Put value sub row stamp) n e = absurd (omega arith)
-  full_places size places (Taken value sub row stamp distance) n e = absurd (omega arith)
-  full_places size places NoItem n e = absurd (omega arith)
-  full_places size places NoRoom n e = refl
-  full_places size places (Stopped m) n e = absurd (omega arith)
+  full_places : (size : Size) (places : ℕ) (a : Answered) → number_of a ≡ 4 → (measured size places a).places ≡ places
+  full_places size places (Ok Goes) e = absurd (omega arith)
+  full_places size places (Ok (Put value sub row stamp)) e = absurd (omega arith)
+  full_places size places (Ok (Taken value sub row stamp distance)) e = absurd (omega arith)
+  full_places size places (Ok NoItem) e = absurd (omega arith)
+  full_places size places (Ok NoRoom) e = refl
+  full_places size places (Err m) e = absurd (omega (arith, number_high m))
 
   -- what holds of each step's event
   each_step : (P : Event → Type 0) → P nothing → ((ws : List ℕ) (s : State) → Rel ws s → (i : ℕ) → P (event_of ws (step i) (call_of g.edition ws (step i)).answer))
@@ -156,21 +153,21 @@ module _ (g : Settings) (limits : settings_fit g ≡ true) (k : Kind g) where
   step_size : (ws : List ℕ) (s : State) → Rel ws s → (i : ℕ) → OwnSize (event_of ws (step i) (call_of g.edition ws (step i)).answer)
   unfolding measures_at measures_of call_of
   step_size ws s r i old two =
-      take_size _ (places_of ws (settings_of ws)) (step_of g.edition ws i).answer (numbered r i) two
+      take_size _ (places_of ws (settings_of ws)) (step_of g.edition ws i).answer two
       ∙ ap (λ (h : Settings). seen_size h (slot_at h ws (worker_at h i))) r.says.settings ∙ own_size_law (slot_at g ws (worker_at g i)) old
 
   full_here : (s : State) (q : Contents) → Common g s → k.Inv s q → (i : ℕ) → number_of (step_in g s i).answer ≡ 4 → FullAt g s
   full_here s q common inv i four = by (step_called g s i)
     where
       by : Called s (Steps g s i) (apply_in g s i (rule_of g (view_in g s i))) (step_in g s i) → FullAt g s
-      by (refuses n l unable e) = let m = ap (λ (o : Next State). number_of o.answer) e in absurd (omega arith)
+      by (refuses n l unable e) = let m = ap (λ (o : Next State). number_of o.answer) e in absurd (omega (arith, number_high n))
       by (does able e) = k.full s q common inv i (sym (ap (λ (o : Next State). number_of o.answer) e) ∙ four)
 
   step_places : (ws : List ℕ) (s : State) → Rel ws s → (i : ℕ) → OwnPlace (event_of ws (step i) (call_of g.edition ws (step i)).answer)
   unfolding measures_at measures_of call_of next_in
   step_places ws s r i old four =
       let same : (step_of g.edition ws i).answer ≡ (step_in g s i).answer = (next_related g limits k r (step i)).answer in
-      let places = full_places _ (places_of ws (settings_of ws)) (step_of g.edition ws i).answer (numbered r i) four in
+      let places = full_places _ (places_of ws (settings_of ws)) (step_of g.edition ws i).answer four in
       ap (least_by g) (places ∙ ap (places_of ws) r.says.settings ∙ places_said g s ws r.says (λ has. ((k.counts s r.list r.whole.inv).windows has).fits))
       ∙ (full_here s r.list r.whole.common r.whole.inv i (ap number_of (sym same) ∙ four)).own old
 
@@ -278,8 +275,8 @@ module _ (g : Settings) (limits : settings_fit g ≡ true) (k : Kind g) where
 
   not_21 : (s : State) (i : ℕ) (e : Effect) (o : Outcome) → SharedAfter g (view_in g s i) (ItemIn g s i) e o → number_of (apply_in_by g s i e o).answer ≢ too_few_words
   unfolding apply_in_by
-  not_21 s i e (Refused n) (inl h) u = omega arith
-  not_21 s i e (Refused n) (inr h) u = omega arith
+  not_21 s i e (Refused n) (inl h) u = let m = ap refusal_number h in omega (arith, m)
+  not_21 s i e (Refused n) (inr h) u = let m = ap refusal_number h in omega (arith, m)
   not_21 s i e Moving h u = omega arith
   not_21 s i e Lost h u = omega arith
   not_21 s i e Shifted h u = omega arith

@@ -16,7 +16,7 @@ use Rattle.rules.specs.Run.{Call, call_of, measures_at}
 use Rattle.rules.specs.Consequences.{words_after}
 use Rattle.rules.specs.Newer.{exact_rows}
 use Rattle.rules.specs.Spacers.{NoSpacer}
-use Rattle.rules.proofs.Types.{Settings, Answer}
+use Rattle.rules.proofs.Types.{Settings, Answered}
 use Rattle.rules.proofs.counts.Held.{count_none}
 use Rattle.rules.proofs.order.Law.{Next, Status, idle, pending, tried, AllSame, refused, passes, opened, walks, tries, stays, loses, ends, wins, Others}
 use Rattle.rules.proofs.order.NoSpacers.{NoSpacerUnderWay, NoSpacers as NoSpacersOf, no_spacers_next, begun_no_spacer, no_spacer_joins}
@@ -170,7 +170,7 @@ module _ (g : Settings) (limits : settings_fit g ≡ true) (k : Kind g) where
         related = record { says = f.says; list = n.list; whole = n.whole };
         changed =
             subst (λ (m : Measures). Changed (bound_in m) g r.list (call_of g.edition ws c).answer n.list) (sym told)
-            (subst (λ (a : Answer). Changed (bound_in (next_in g s c).measures) g r.list a n.list) (sym f.answer) n.changed);
+            (subst (λ (a : Answered). Changed (bound_in (next_in g s c).measures) g r.list a n.list) (sym f.answer) n.changed);
         no_spacers = n.no_spacers;
       }
 

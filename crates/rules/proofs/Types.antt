@@ -15,4 +15,4 @@ pub use Rattle.rules.specs.declared.Slot.{Slot}
 pub use Rattle.rules.specs.declared.View.{View}
 pub use Rattle.rules.specs.declared.Effect.{Effect}
 pub use Rattle.rules.specs.declared.Outcome.{Outcome}
-pub use Rattle.rules.specs.declared.Answer.{Answer}
+pub use Rattle.rules.specs.Answers.{Answered}

@@ -1,8 +1,10 @@
 -- "Returned by the calls": an answer's number and five fields, and an answer with the words that it leaves.
-use Rattle.std.specs.Prelude.{ℕ, List, [], ◌∷◌, get_or, eqb}
+use Rattle.std.specs.Prelude.{ℕ, Result, List, [], ◌∷◌, get_or, eqb, Ok, Err}
 use Rattle.laws.specs.Choice.{cond}
 use Rattle.rules.specs.declared.Answer.{Answer}
-use Rattle.rules.specs.declared.Answer.TheVariants.{Moving, Put, Taken, Empty, Full, Refused}
+use Rattle.rules.specs.declared.Refusal.{Refusal}
+use Rattle.rules.specs.declared.Refusal.TheVariants.{TooFewWords, OffLimits, NotFit, NoSuchWorker, WorkerBusy, WorkerIdle, StepsSpent, FileCut, BadWord, OverBound, WrongEdition, OffSize, Excepted}
+use Rattle.rules.specs.declared.Answer.TheVariants.{Moving, Put, Taken, Empty, Full}
 
 -- ---- the refusals
 -- fewer words than needed, or fewer than 12
@@ -57,26 +59,62 @@ off_size = 32
 abbrev pub excepted : ℕ
 excepted = 33
 
+-- the number of each
+abbrev pub refusal_number : Refusal → ℕ
+refusal_number TooFewWords = too_few_words
+refusal_number OffLimits = off_limits
+refusal_number NotFit = not_fit
+refusal_number NoSuchWorker = no_such_worker
+refusal_number WorkerBusy = worker_busy
+refusal_number WorkerIdle = worker_idle
+refusal_number StepsSpent = steps_spent
+refusal_number FileCut = file_cut
+refusal_number BadWord = bad_word
+refusal_number OverBound = over_bound
+refusal_number WrongEdition = wrong_edition
+refusal_number OffSize = off_size
+refusal_number Excepted = excepted
+
+-- the refusal that has a number, 21 to 33
+abbrev pub refusal_numbered : ℕ → Refusal
+refusal_numbered n =
+    cond (eqb n too_few_words) TooFewWords
+    (cond (eqb n off_limits) OffLimits
+    (cond (eqb n not_fit) NotFit
+    (cond (eqb n no_such_worker) NoSuchWorker
+    (cond (eqb n worker_busy) WorkerBusy
+    (cond (eqb n worker_idle) WorkerIdle
+    (cond (eqb n steps_spent) StepsSpent
+    (cond (eqb n file_cut) FileCut
+    (cond (eqb n bad_word) BadWord
+    (cond (eqb n over_bound) OverBound
+    (cond (eqb n wrong_edition) WrongEdition
+    (cond (eqb n off_size) OffSize Excepted)))))))))))
+
 -- ---- the answers
-abbrev pub number_of : Answer → ℕ
-number_of Moving = 0
-number_of (Put value sub row stamp) = 1
-number_of (Taken value sub row stamp distance) = 2
-number_of Empty = 3
-number_of Full = 4
-number_of (Refused n) = n
+-- what a call comes to: its answer, or why it is refused
+abbrev pub Answered : Type 0
+Answered = Result Answer Refusal
+
+abbrev pub number_of : Answered → ℕ
+number_of (Ok Moving) = 0
+number_of (Ok (Put value sub row stamp)) = 1
+number_of (Ok (Taken value sub row stamp distance)) = 2
+number_of (Ok Empty) = 3
+number_of (Ok Full) = 4
+number_of (Err refusal) = refusal_number refusal
 
 abbrev pub no_fields : List ℕ
 no_fields = 0 ∷ 0 ∷ 0 ∷ 0 ∷ 0 ∷ []
 
 -- value, sub, row, stamp, distance
-abbrev pub fields_of : Answer → List ℕ
-fields_of Moving = no_fields
-fields_of (Put value sub row stamp) = value ∷ sub ∷ row.0 ∷ stamp.0 ∷ 0 ∷ []
-fields_of (Taken value sub row stamp distance) = value ∷ sub ∷ row.0 ∷ stamp.0 ∷ distance ∷ []
-fields_of Empty = no_fields
-fields_of Full = no_fields
-fields_of (Refused n) = no_fields
+abbrev pub fields_of : Answered → List ℕ
+fields_of (Ok Moving) = no_fields
+fields_of (Ok (Put value sub row stamp)) = value ∷ sub ∷ row.0 ∷ stamp.0 ∷ 0 ∷ []
+fields_of (Ok (Taken value sub row stamp distance)) = value ∷ sub ∷ row.0 ∷ stamp.0 ∷ distance ∷ []
+fields_of (Ok Empty) = no_fields
+fields_of (Ok Full) = no_fields
+fields_of (Err refusal) = no_fields
 
 -- the final answer that has a number, 1 to 4, and five fields
 unfoldable pub final_of : ℕ → List ℕ → Answer
@@ -85,17 +123,17 @@ final_of n fields =
     (cond (eqb n 2) (Taken (get_or fields 0 0) (get_or fields 1 0) (record { 0 = get_or fields 2 0 }) (record { 0 = get_or fields 3 0 }) (get_or fields 4 0))
     (cond (eqb n 3) Empty Full))
 
--- ---- an answer, and the words after it
+-- ---- what a call comes to, and the words after it
 pub record Out : Type 0 where
-  pub answer : Answer
+  pub answer : Answered
   pub words : List ℕ
 
-abbrev pub out : Answer → List ℕ → Out
+abbrev pub out : Answered → List ℕ → Out
 out a ws = record { answer = a; words = ws }
 
 -- a refusal leaves all lent words unchanged
-abbrev pub refuse : ℕ → List ℕ → Out
-refuse n ws = out (Refused n) ws
+abbrev pub refuse : Refusal → List ℕ → Out
+refuse refusal ws = out (Err refusal) ws
 
 -- ---- what C is handed: the number returned, the words, and the fields written
 pub record Returned : Type 0 where

@@ -1,5 +1,5 @@
 -- What an effect does to the words, and what it answers. A step not refused adds 1 to the step count.
-use Rattle.std.specs.Prelude.{ℕ, zero, suc, ◌+◌, ◌-◌, ◌*◌, List, get_or, set, ltb}
+use Rattle.std.specs.Prelude.{ℕ, zero, suc, ◌+◌, ◌-◌, ◌*◌, List, get_or, set, ltb, Ok}
 use Rattle.laws.specs.Choice.{cond}
 use Rattle.laws.specs.Wrap.{add32}
 use Rattle.rules.specs.Answers.{Out, out, refuse}
@@ -14,7 +14,7 @@ use Rattle.rules.specs.declared.Stamp.{Stamp}
 use Rattle.rules.specs.declared.Effect.{Effect}
 use Rattle.rules.specs.declared.Outcome.{Outcome}
 use Rattle.rules.specs.declared.Outcome.TheVariants.{Refused as Stays, Moving as Moves, Lost, Shifted, Raised, Dropped, Landed, Removed, Empty as NoItem, Full as NoRoom}
-use Rattle.rules.specs.declared.Answer.{Answer}
+use Rattle.rules.specs.Answers.{Answered}
 use Rattle.rules.specs.declared.Answer.TheVariants.{Moving, Put, Taken, Empty, Full}
 
 -- an item in the cell of its row
@@ -67,21 +67,21 @@ abbrev pub stamp_in_cell : List ℕ → Settings → ℕ → Row → Stamp
 stamp_in_cell ws g j row = record { 0 = (item_at ws g j row.0).stamp }
 
 -- 2: the row's item, and the distance just before
-unfoldable pub taken_of : List ℕ → Settings → ℕ → Row → Answer
+unfoldable pub taken_of : List ℕ → Settings → ℕ → Row → Answered
 taken_of ws g j row =
-    Taken (item_at ws g j row.0).value j row (stamp_in_cell ws g j row) (distance_of ws g (stamp_in_cell ws g j row))
+    Ok (Taken (item_at ws g j row.0).value j row (stamp_in_cell ws g j row) (distance_of ws g (stamp_in_cell ws g j row)))
 
 unfoldable pub apply_by : List ℕ → Settings → ℕ → ℕ → Effect → Outcome → Out
 apply_by ws g at j e (Stays n) = refuse n ws
-apply_by ws g at j e Moves = out Moving (put_worker ws g at e)
-apply_by ws g at j e Lost = out Moving (put_worker (count_lost ws g at) g at e)
-apply_by ws g at j e Shifted = out Moving (put_worker (put_shifted ws e) g at e)
-apply_by ws g at j e Raised = out Moving (put_worker (put_raised ws g e) g at e)
-apply_by ws g at j e Dropped = out Moving (put_worker (put_dropped ws g e) g at e)
-apply_by ws g at j e (Landed value row stamp) = out (Put value j row stamp) (put_worker (put_landed ws g j value row stamp e) g at e)
+apply_by ws g at j e Moves = out (Ok Moving) (put_worker ws g at e)
+apply_by ws g at j e Lost = out (Ok Moving) (put_worker (count_lost ws g at) g at e)
+apply_by ws g at j e Shifted = out (Ok Moving) (put_worker (put_shifted ws e) g at e)
+apply_by ws g at j e Raised = out (Ok Moving) (put_worker (put_raised ws g e) g at e)
+apply_by ws g at j e Dropped = out (Ok Moving) (put_worker (put_dropped ws g e) g at e)
+apply_by ws g at j e (Landed value row stamp) = out (Ok (Put value j row stamp)) (put_worker (put_landed ws g j value row stamp e) g at e)
 apply_by ws g at j e (Removed row) = out (taken_of ws g j row) (put_worker (put_sub ws j e) g at e)
-apply_by ws g at j e NoItem = out Empty (put_worker ws g at e)
-apply_by ws g at j e NoRoom = out Full (put_worker ws g at e)
+apply_by ws g at j e NoItem = out (Ok Empty) (put_worker ws g at e)
+apply_by ws g at j e NoRoom = out (Ok Full) (put_worker ws g at e)
 
 -- an effect of the worker whose words start at `at` and whose sub is j
 unfoldable pub apply_of : List ℕ → Settings → ℕ → ℕ → Effect → Out

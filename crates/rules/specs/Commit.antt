@@ -4,7 +4,6 @@
 use Rattle.std.specs.Prelude.{ℕ, ◌+◌, Bool, ltb, eqb}
 use Rattle.laws.specs.Choice.{cond}
 use Rattle.laws.specs.Wrap.{add32, sub32}
-use Rattle.rules.specs.Answers.{not_fit}
 use Rattle.rules.specs.Worker.{fresh}
 use Rattle.rules.specs.Windows.{level_of}
 use Rattle.rules.specs.Effects.{keep_of, refused_of, restart_of, hop_of, take_window, last_put, last_taken, items_held, sub_version}
@@ -19,6 +18,7 @@ use Rattle.rules.specs.declared.Version.{Version}
 use Rattle.rules.specs.declared.View.{View}
 use Rattle.rules.specs.declared.Effect.{Effect}
 use Rattle.rules.specs.declared.Outcome.TheVariants.{Lost, Landed, Removed}
+use Rattle.rules.specs.declared.Refusal.TheVariants.{NotFit}
 
 -- the stamp of an item that lands: "the number of the put"
 abbrev pub stamp_next : View → Stamp
@@ -61,7 +61,7 @@ lost_of g v side = keep_of v Lost (restart_of g v (hop_of g v.worker.index) side
 -- what a commit does that matches, if it is able to, and one that does not
 unfoldable pub commit_by : Settings → View → Side → Bool → Bool → Effect → Effect
 commit_by g v side matches able done =
-    cond matches (cond able done (refused_of v not_fit)) (lost_of g v side)
+    cond matches (cond able done (refused_of v NotFit)) (lost_of g v side)
 
 -- a put into the row above a level; "a commit has no free cell if its row passes the higher of last taken row and take window's bottom by more than R"
 unfoldable pub queue_put_commit : Settings → View → ℕ → ℕ → Effect

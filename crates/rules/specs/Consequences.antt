@@ -18,7 +18,7 @@ use Rattle.rules.specs.declared.Side.TheVariants.{Putting, Taking}
 use Rattle.rules.specs.declared.Phase.{Phase}
 use Rattle.rules.specs.declared.Phase.TheVariants.{Idle, Window, QueuePutRead, QueueTakeRead, StackRead, Check, QueueCommit, StackCommit, QueueShift, StackShift, QueueConfirm, StackConfirm}
 use Rattle.rules.specs.declared.View.{View}
-use Rattle.rules.specs.declared.Answer.{Answer}
+use Rattle.rules.specs.Answers.{Answered}
 
 -- the words after a list of calls
 unfoldable pub words_after : ℕ → List ℕ → List Call → List ℕ
@@ -32,7 +32,7 @@ OfEveryRun P =
 
 -- ---- no item is lost or invented, a spacer no more than another: what is held and what was taken is what was put
 -- the item of an answer with a given number
-abbrev pub item_in : ℕ → Answer → List Item
+abbrev pub item_in : ℕ → Answered → List Item
 item_in n a = cond (eqb (number_of a) n) (record { value = value_in a; stamp = stamp_in a } ∷ []) []
 
 -- the items of the answers 1, or 2, of a run

@@ -4,6 +4,7 @@ use Rattle.laws.specs.Choice.{cond}
 use Rattle.rules.specs.Layout.{puts_at, top_at, mark_at, index_at, first_of, second_of}
 use Rattle.rules.specs.Windows.{sizes_of, span_of}
 use Rattle.rules.specs.Worker.{slot_at, decode, encode, fresh}
+use Rattle.rules.specs.declared.Refusal.{Refusal}
 use Rattle.rules.specs.declared.Settings.{Settings}
 use Rattle.rules.specs.declared.Side.{Side}
 use Rattle.rules.specs.declared.Side.TheVariants.{Putting, Taking}
@@ -106,8 +107,8 @@ keep_of v outcome slot =
       second = v.second;
     }
 
-abbrev pub refused_of : View → ℕ → Effect
-refused_of v n = keep_of v (Refused n) v.kept
+abbrev pub refused_of : View → Refusal → Effect
+refused_of v refusal = keep_of v (Refused refusal) v.kept
 
 -- the worker at an index in a phase
 abbrev pub worker_of : View → ℕ → Phase → Worker

@@ -1,16 +1,18 @@
 -- "Fit", of an edition, and the order of the refusals before it.
-use Rattle.std.specs.Prelude.{ℕ, ◌+◌, ◌-◌, ◌*◌, ◌<◌, ◌≤◌, ◌≡◌, ◌≢◌, List, [], ◌∷◌, Bool, true, false, get_or, length, ltb, leb, eqb}
+use Rattle.std.specs.Prelude.{ℕ, Result, Ok, Err, ◌+◌, ◌-◌, ◌*◌, ◌<◌, ◌≤◌, ◌≡◌, ◌≢◌, List, [], ◌∷◌, Bool, true, false, get_or, length, ltb, leb, eqb}
 use Rattle.laws.specs.Choice.{cond, both, all, all_below}
-use Rattle.rules.specs.Answers.{too_few_words, not_fit, wrong_edition}
 use Rattle.rules.specs.Layout.{head_words, top_at, mark_at, worker_at, phase_at, index_at, scan_at, windows_at, windows_words, set_at, needed, settings_of, first_of, second_of}
 use Rattle.rules.specs.Limits.{settings_fit, windowed, size_fit, deepest, most_live, Bounds}
 use Rattle.rules.specs.Make.{in_edition}
 use Rattle.rules.specs.Windows.{has_windows, no_size, next_size, live_of, nth_size, bottom_of, level_of}
-use Rattle.rules.specs.Worker.{idle_phase, window_phase, check_phase, confirm_phase, side_base, number_for, slot_at}
+use Rattle.rules.specs.Worker.{window_phase, check_phase, confirm_phase, side_base, number_for, slot_at}
+use Rattle.rules.specs.Answers.{refusal_number}
+use Rattle.rules.specs.declared.Refusal.{Refusal}
 use Rattle.rules.specs.declared.Settings.{Settings}
 use Rattle.rules.specs.declared.Size.{Size}
 use Rattle.rules.specs.declared.Slot.{Slot}
 use Rattle.rules.specs.declared.Side.TheVariants.{Putting, Taking}
+use Rattle.rules.specs.declared.Refusal.TheVariants.{NotFit, TooFewWords, WrongEdition}
 
 -- ---- the subs
 -- "its two last rows are equal, or .. the last put row is above the higher of the last taken row and the take window's bottom by 1 to R". Where the
@@ -82,9 +84,9 @@ windows_fit ws g =
     (all_below (windows_words g.edition) (λ k. eqb (get_or ws (windows_at g + k) 0) 0))
 
 -- ---- the check
--- a pool's settings where it is fit, or the refusal's number
+-- a pool's settings where it is fit, or why it is refused
 pub data Checked : Type 0 where
-  Unfit : ℕ → Checked
+  Unfit : Refusal → Checked
   Fit : Settings → Checked
 
 -- the rest of fit: the windows, the subs and the workers
@@ -94,30 +96,39 @@ body_fit ws g = windows_fit ws g ∷ subs_fit ws g ∷ workers_fit ws g ∷ []
 -- 21 for the needed words, then 23
 unfoldable pub body_checked : List ℕ → Settings → Checked
 body_checked ws g =
-    cond (ltb (length ws) (needed g)) (Unfit too_few_words)
-    (cond (all (body_fit ws g)) (Fit g) (Unfit not_fit))
+    cond (ltb (length ws) (needed g)) (Unfit TooFewWords)
+    (cond (all (body_fit ws g)) (Fit g) (Unfit NotFit))
 
 -- 23 for the settings by the edition that is asked for, the stride in word 10 among them, then `other` where word 11 is not the edition that is asked for, then the above
-unfoldable pub head_checked : ℕ → ℕ → List ℕ → Settings → Checked
-head_checked other e ws g = cond (settings_fit (in_edition e g)) (cond (eqb g.edition e) (body_checked ws g) (Unfit other)) (Unfit not_fit)
+unfoldable pub head_checked : Refusal → ℕ → List ℕ → Settings → Checked
+head_checked other e ws g = cond (settings_fit (in_edition e g)) (cond (eqb g.edition e) (body_checked ws g) (Unfit other)) (Unfit NotFit)
 
 -- 21 for 12 words first
-unfoldable pub checked_by : ℕ → ℕ → List ℕ → Checked
-checked_by other e ws = cond (ltb (length ws) head_words) (Unfit too_few_words) (head_checked other e ws (settings_of ws))
+unfoldable pub checked_by : Refusal → ℕ → List ℕ → Checked
+checked_by other e ws = cond (ltb (length ws) head_words) (Unfit TooFewWords) (head_checked other e ws (settings_of ws))
 
 -- the check before a call: of another edition is not fit
 abbrev pub checked_of : ℕ → List ℕ → Checked
-checked_of e ws = checked_by not_fit e ws
+checked_of e ws = checked_by NotFit e ws
 
 -- the check before a move (crates/turnaround), K6: "The order of checks is the source's first 12 words, its settings and stride, its edition, its needed
 -- words, the rest of its fitness": a call's check, but that "it refuses an image of the wrong edition for the direction with 31"
 abbrev pub source_checked : ℕ → List ℕ → Checked
-source_checked a from = checked_by wrong_edition a from
+source_checked a from = checked_by WrongEdition a from
 
 -- the number of a refusal; 0 for a fit pool
 abbrev pub refusal_of : Checked → ℕ
-refusal_of (Unfit n) = n
+refusal_of (Unfit refusal) = refusal_number refusal
 refusal_of (Fit g) = 0
+
+-- as the code hands it on: nothing of a fit pool, or its settings
+abbrev pub fitness_of : Checked → Result (Unit {0}) Refusal
+fitness_of (Unfit refusal) = Err refusal
+fitness_of (Fit g) = Ok tt
+
+abbrev pub settings_found : Checked → Result Settings Refusal
+settings_found (Unfit refusal) = Err refusal
+settings_found (Fit g) = Ok g
 
 -- ---- what a test that passed has shown
 -- what a sub that fits has

@@ -1,14 +1,15 @@
 -- "Make": P = T = d, or G = d; worker i has index i mod w; from edition 2 on a queue has its windows; all other needed words but the settings, the
 -- edition among them, are zero.
-use Rattle.std.specs.Prelude.{ℕ, zero, suc, ◌%◌, List, [], ◌∷◌, set, length, ltb, eqb}
+use Rattle.std.specs.Prelude.{ℕ, zero, suc, ◌%◌, List, [], ◌∷◌, set, length, ltb, eqb, Ok}
 use Rattle.std.proofs.lemmas.List.Edits.{sets}
 use Rattle.laws.specs.Choice.{cond}
-use Rattle.rules.specs.Answers.{Out, out, refuse, too_few_words, off_limits}
+use Rattle.rules.specs.Answers.{Out, out, refuse}
 use Rattle.rules.specs.Layout.{worker_at, index_at, windows_at, needed}
 use Rattle.rules.specs.Limits.{settings_fit}
 use Rattle.rules.specs.Windows.{has_windows}
 use Rattle.rules.specs.declared.Settings.{Settings}
 use Rattle.rules.specs.declared.Answer.TheVariants.{Moving}
+use Rattle.rules.specs.declared.Refusal.TheVariants.{OffLimits, TooFewWords}
 
 -- the edition of the shipped calls: "Edition 2, made by make and then the only fit one"
 abbrev pub shipped : ℕ
@@ -61,4 +62,4 @@ made_words ws g = indexed (sets (sets (zeroed ws (needed g)) 0 (new_head g)) (wi
 
 -- 22, then 21
 unfoldable pub make_of : List ℕ → Settings → Out
-make_of ws g = cond (settings_fit g) (cond (ltb (length ws) (needed g)) (refuse too_few_words ws) (out Moving (made_words ws g))) (refuse off_limits ws)
+make_of ws g = cond (settings_fit g) (cond (ltb (length ws) (needed g)) (refuse TooFewWords ws) (out (Ok Moving) (made_words ws g))) (refuse OffLimits ws)

@@ -1,14 +1,14 @@
 -- "One at a time": a list of calls, its run, and an operation's own steps, by positions in the list.
-use Rattle.std.specs.Prelude.{ℕ, ◌≤◌, ◌<◌, ◌≡◌, List, [], ◌∷◌, get_or}
-use Rattle.rules.specs.Answers.{Out, worker_idle, number_of, fields_of}
+use Rattle.std.specs.Prelude.{ℕ, ◌≤◌, ◌<◌, ◌≡◌, List, [], ◌∷◌, get_or, Err}
+use Rattle.rules.specs.Answers.{Out, number_of, fields_of}
 use Rattle.rules.specs.Begin.{begin_put_of, begin_take_of}
 use Rattle.rules.specs.Step.{step_of}
 use Rattle.rules.specs.Resize.{set_size_of}
 use Rattle.rules.specs.Layout.{settings_of, worker_at}
 use Rattle.rules.specs.Measures.{Measures, no_measures, measures_of}
 use Rattle.rules.specs.Sequential.{Operation, putting, taking}
-use Rattle.rules.specs.declared.Answer.{Answer}
-use Rattle.rules.specs.declared.Answer.TheVariants.{Refused}
+use Rattle.rules.specs.Answers.{Answered}
+use Rattle.rules.specs.declared.Refusal.TheVariants.{WorkerIdle}
 
 -- the list has begin put, begin take and step, with any worker numbers and values; since paper 02's K8 the size call too, with any sizes
 pub data Call : Type 0 where
@@ -32,17 +32,17 @@ call_of e ws (set_size width depth) = set_size_of e ws (record { width = width; 
 -- a call with its answer, and what its answer is held to
 pub record Event : Type 0 where
   pub call : Call
-  pub answer : Answer
+  pub answer : Answered
   pub measures : Measures
 
 -- by the words just before the call
-unfoldable pub measures_at : List ℕ → Call → Answer → Measures
+unfoldable pub measures_at : List ℕ → Call → Answered → Measures
 measures_at ws (begin_put i v) a = no_measures
 measures_at ws (begin_take i) a = no_measures
 measures_at ws (step i) a = measures_of ws (settings_of ws) (worker_at (settings_of ws) i) a
 measures_at ws (set_size width depth) a = no_measures
 
-abbrev pub event_of : List ℕ → Call → Answer → Event
+abbrev pub event_of : List ℕ → Call → Answered → Event
 event_of ws c a = record { call = c; answer = a; measures = measures_at ws c a }
 
 -- the run of a list of calls from given words: each call with its answer, refused calls too
@@ -52,24 +52,24 @@ run e ws (c ∷ cs) = event_of ws c (call_of e ws c).answer ∷ run e (call_of e
 
 -- the event at a position; past the end, a call that was refused
 abbrev pub nothing : Event
-nothing = record { call = step 0; answer = Refused worker_idle; measures = no_measures }
+nothing = record { call = step 0; answer = Err WorkerIdle; measures = no_measures }
 
 abbrev pub at : List Event → ℕ → Event
 at es p = get_or es p nothing
 
 -- ---- an answer's value, stamp and distance
-abbrev pub value_in : Answer → ℕ
+abbrev pub value_in : Answered → ℕ
 value_in a = get_or (fields_of a) 0 0
 
-abbrev pub stamp_in : Answer → ℕ
+abbrev pub stamp_in : Answered → ℕ
 stamp_in a = get_or (fields_of a) 3 0
 
-abbrev pub distance_in : Answer → ℕ
+abbrev pub distance_in : Answered → ℕ
 distance_in a = get_or (fields_of a) 4 0
 
 -- ---- operations
 -- an answer 1 to 4, which finishes an operation
-pub record Final (a : Answer) : Type 0 where
+pub record Final (a : Answered) : Type 0 where
   pub low : 1 ≤ number_of a
   pub high : number_of a ≤ 4
 

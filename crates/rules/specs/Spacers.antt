@@ -18,7 +18,7 @@ use Rattle.rules.specs.Consequences.{words_after}
 use Rattle.rules.specs.declared.Settings.{Settings}
 use Rattle.rules.specs.declared.Row.{Row}
 use Rattle.rules.specs.declared.Stamp.{Stamp}
-use Rattle.rules.specs.declared.Answer.{Answer}
+use Rattle.rules.specs.Answers.{Answered}
 
 -- ---- the two counts, of any list of items
 -- a spacer that a take of stamp s passes over
@@ -65,11 +65,11 @@ NotAllowedBeyond =
 
 -- ---- every list of calls from a new pool, and then a take
 -- what a step of worker i answers after it
-abbrev pub answer_after : ℕ → List ℕ → List Call → ℕ → Answer
+abbrev pub answer_after : ℕ → List ℕ → List Call → ℕ → Answered
 answer_after e ws cs i = (call_of e (words_after e ws cs) (step i)).answer
 
 -- both counts are of the pool just before: the distance is what is reported there, and what is passed over is within a bound
-pub record TakenWithin (most : ℕ) (g : Settings) (ws : List ℕ) (a : Answer) : Type 0 where
+pub record TakenWithin (most : ℕ) (g : Settings) (ws : List ℕ) (a : Answered) : Type 0 where
   pub reports : distance_in a ≡ distance_of ws g (record { 0 = stamp_in a })
   pub passes : passed_of ws g (record { 0 = stamp_in a }) ≤ most
 

@@ -1,7 +1,7 @@
 -- "One step": which rule a phase takes, and the order of a step's refusals.
 use Rattle.std.specs.Prelude.{ℕ, List, get_or, leb}
 use Rattle.laws.specs.Choice.{cond}
-use Rattle.rules.specs.Answers.{Out, refuse, no_such_worker, worker_idle, steps_spent}
+use Rattle.rules.specs.Answers.{Out, refuse}
 use Rattle.rules.specs.Layout.{worker_at, index_at}
 use Rattle.rules.specs.Fit.{Checked, Unfit, Fit, checked_of}
 use Rattle.rules.specs.Begin.{idle_at, out_of_steps}
@@ -18,9 +18,10 @@ use Rattle.rules.specs.declared.Phase.{Phase}
 use Rattle.rules.specs.declared.Phase.TheVariants.{Idle, Window, QueuePutRead, QueueTakeRead, StackRead, Check, QueueCommit, StackCommit, QueueShift, StackShift, QueueConfirm, StackConfirm}
 use Rattle.rules.specs.declared.View.{View}
 use Rattle.rules.specs.declared.Effect.{Effect}
+use Rattle.rules.specs.declared.Refusal.TheVariants.{NoSuchWorker, StepsSpent, WorkerIdle}
 
 unfoldable pub rule_by : Settings → View → Phase → Effect
-rule_by g v Idle = refused_of v worker_idle
+rule_by g v Idle = refused_of v WorkerIdle
 rule_by g v (Window side) = window_rule g v side
 rule_by g v (QueuePutRead window scan) = queue_put_read g v window scan
 rule_by g v (QueueTakeRead window bare scan sum) = queue_take_read g v window bare scan sum
@@ -39,13 +40,13 @@ rule_of g v = rule_by g v v.worker.phase
 -- 26, 27, then the rule, the commit's 23 among its effects
 unfoldable pub slot_step : List ℕ → Settings → ℕ → Out
 slot_step ws g at =
-    cond (idle_at ws at) (refuse worker_idle ws)
-    (cond (out_of_steps ws) (refuse steps_spent ws)
+    cond (idle_at ws at) (refuse WorkerIdle ws)
+    (cond (out_of_steps ws) (refuse StepsSpent ws)
     (apply_of ws g at (get_or ws (index_at at) 0) (rule_of g (view_of ws g at))))
 
 -- 24 first
 unfoldable pub fit_step : List ℕ → Settings → ℕ → Out
-fit_step ws g i = cond (leb g.workers i) (refuse no_such_worker ws) (slot_step ws g (worker_at g i))
+fit_step ws g i = cond (leb g.workers i) (refuse NoSuchWorker ws) (slot_step ws g (worker_at g i))
 
 unfoldable pub checked_step : List ℕ → Checked → ℕ → Out
 checked_step ws (Unfit n) i = refuse n ws

@@ -2,6 +2,7 @@
 #![tactic(auto)]
 
 pub mod numbers;
+mod refusals;
 
 // A row of a sub, from 1.
 #[derive(Clone, Copy, Debug, Default, PartialEq, Eq, PartialOrd, Ord)]
@@ -210,7 +211,7 @@ pub struct StackView {
 // (`Dropped`) that window's, where an item landed or was removed the two of its sub.
 #[derive(Clone, Copy)]
 pub enum Outcome {
-    Refused(u32),
+    Refused(Refusal),
     Moving,
     Lost,
     Shifted,
@@ -234,7 +235,7 @@ pub struct Effect {
     pub second: u32,
 }
 
-// What a call answers. `Moving` is paper 01's 0: moving, made or begun.
+// What a call answers that is not refused. `Moving` is paper 01's 0: moving, made or begun.
 #[derive(Clone, Copy)]
 pub enum Answer {
     Moving,
@@ -253,22 +254,31 @@ pub enum Answer {
     },
     Empty,
     Full,
-    Refused(u32),
 }
 
-// Whose turn it is: the worker's number.
-#[derive(Clone, Copy)]
-pub enum Turn {
-    NoneBusy,
-    Worker(u32),
+// Why a call is refused, or a run file is not read on: paper 01's and paper 02's numbers.
+#[derive(Clone, Copy, Debug, PartialEq, Eq)]
+pub enum Refusal {
+    TooFewWords = 21,
+    OffLimits = 22,
+    NotFit = 23,
+    NoSuchWorker = 24,
+    WorkerBusy = 25,
+    WorkerIdle = 26,
+    StepsSpent = 27,
+    FileCut = 28,
+    BadWord = 29,
+    OverBound = 30,
+    WrongEdition = 31,
+    OffSize = 32,
+    Excepted = 33,
 }
 
-// What a dispatcher comes to. `Finished` names the worker, with its final answer; where the count ran out, `next` is the
+// What a dispatcher comes to that is not refused. `Finished` names the worker, with its final answer; where the count ran out, `next` is the
 // worker whose turn is next.
 #[derive(Clone, Copy)]
 pub enum Dispatched {
     Finished { worker: u32, answer: Answer },
     NoneBusy,
     RanOut { next: u32 },
-    Refused(u32),
 }

@@ -1,31 +1,4 @@
-// Numbers with a meaning, each with its definition in specs/: the refusals (Answers), the phases (Worker), the limits (Limits), the edition (Make).
-
-// The refusals.
-pub const TOO_FEW_WORDS: u32 = 21;
-
-pub const OFF_LIMITS: u32 = 22;
-
-pub const NOT_FIT: u32 = 23;
-
-pub const NO_SUCH_WORKER: u32 = 24;
-
-pub const WORKER_BUSY: u32 = 25;
-
-pub const WORKER_IDLE: u32 = 26;
-
-pub const STEPS_SPENT: u32 = 27;
-
-pub const FILE_CUT: u32 = 28;
-
-pub const BAD_WORD: u32 = 29;
-
-pub const OVER_BOUND: u32 = 30;
-
-pub const WRONG_EDITION: u32 = 31;
-
-pub const OFF_SIZE: u32 = 32;
-
-pub const EXCEPTED: u32 = 33;
+// Numbers with a meaning, each with its definition in specs/: the phases (Worker), the limits (Limits), the edition (Make).
 
 // The phases of a put; a take's are these and `TAKING`.
 pub const IDLE: u32 = 0;

@@ -19,12 +19,14 @@ use Rattle.rules.specs.declared.Answer.TheVariants.{Moving}
 use Rattle.runs.specs.Rows.{Row, make_number, Holds}
 use Rattle.runs.specs.Reach.{Reach, Reaches, Gives}
 use Rattle.runs.specs.Tests.{every, same_list, line_tests, same_line, holds, gives, reaches}
+use Rattle.std.specs.Prelude.{Ok}
+use Rattle.rules.specs.declared.Refusal.TheVariants.{OffLimits, TooFewWords}
 
 pub make_number_law : (ws : List ℕ) (g : Settings) → number_of (make_of ws g).answer ≡ make_number g (length ws)
 unfolding make_of make_number cond
 make_number_law ws g = go (settings_fit g) (ltb (length ws) (needed g))
   where
-    go : (a b : Bool) → number_of (cond a (cond b (refuse 21 ws) (out Moving (made_words ws g))) (refuse 22 ws)).answer ≡ cond a (cond b 21 0) 22
+    go : (a b : Bool) → number_of (cond a (cond b (refuse TooFewWords ws) (out (Ok Moving) (made_words ws g))) (refuse OffLimits ws)).answer ≡ cond a (cond b 21 0) 22
     go true true = refl
     go true false = refl
     go false b = refl

@@ -1,10 +1,11 @@
 -- K6 and K8 by hand: a pool with two operations under way, word for word before a move and after it, either way; and what a move of it answers where something is
 -- wrong with the source or the target, with every two faults of which the number tells which was found first.
-use Rattle.std.specs.Prelude.{ℕ, ◌+◌, List, [], ◌∷◌, ◌++◌, ◌≡◌, set, replicate, take as cut}
+use Rattle.std.specs.Prelude.{ℕ, ◌+◌, List, [], ◌∷◌, ◌++◌, ◌≡◌, set, replicate, take as cut, Ok}
 use Rattle.rules.specs.Answers.{out, refuse, number_of}
 use Rattle.rules.specs.Layout.{stride_at, edition_at}
 use Rattle.turnaround.specs.Move.{move_of}
 use Rattle.rules.specs.declared.Answer.TheVariants.{Moving}
+use Rattle.rules.specs.declared.Refusal.TheVariants.{TooFewWords, WrongEdition}
 
 -- a queue of width 1, depth 1, two rows and two workers; 7 steps counted, 1 put made, P = 2, T = 1
 abbrev head_of : ℕ → List ℕ
@@ -56,17 +57,17 @@ unfit ws = set ws 19 1
 abbrev pub MovesByHand : Type 0
 MovesByHand =
     -- "Forward, the new words are zero": 34 words, then 36, and two more in the area
-    (move_of 0 1 old (area 38) ≡ out Moving (new 0 0 ++ area 2))
+    (move_of 0 1 old (area 38) ≡ out (Ok Moving) (new 0 0 ++ area 2))
     -- "backward, they are dropped"
-    × (move_of 1 0 (new 8 9) (area 38) ≡ out Moving (old ++ area 4))
+    × (move_of 1 0 (new 8 9) (area 38) ≡ out (Ok Moving) (old ++ area 4))
     -- words beyond the source's needed ones are nobody's
-    × (move_of 0 1 (old ++ area 2) (area 36) ≡ out Moving (new 0 0))
-    × (move_of 1 0 (new 8 9 ++ area 2) (area 34) ≡ out Moving old)
+    × (move_of 0 1 (old ++ area 2) (area 36) ≡ out (Ok Moving) (new 0 0))
+    × (move_of 1 0 (new 8 9 ++ area 2) (area 34) ≡ out (Ok Moving) old)
     -- a refusal leaves the target as it was
-    × (move_of 0 1 (new 8 9) (area 38) ≡ refuse 31 (area 38))
-    × (move_of 1 0 old (area 38) ≡ refuse 31 (area 38))
-    × (move_of 0 1 old (area 35) ≡ refuse 21 (area 35))
-    × (move_of 1 0 (new 8 9) (area 33) ≡ refuse 21 (area 33))
+    × (move_of 0 1 (new 8 9) (area 38) ≡ refuse WrongEdition (area 38))
+    × (move_of 1 0 old (area 38) ≡ refuse WrongEdition (area 38))
+    × (move_of 0 1 old (area 35) ≡ refuse TooFewWords (area 35))
+    × (move_of 1 0 (new 8 9) (area 33) ≡ refuse TooFewWords (area 33))
     -- whatever else word 11 holds
     × (forward (labelled 7 old) 38 ≡ 31)
     × (backward (labelled 7 (new 8 9)) 38 ≡ 31)
@@ -122,18 +123,18 @@ back from n = number_of (move_of 2 1 from (area n)).answer
 abbrev pub WideMovesByHand : Type 0
 WideMovesByHand =
     -- "Forward, a line's next size, each live window and the seen window of a worker past its window phase get the pool's sizes": 36 words, then 76
-    (move_of 1 2 (new 8 9) (area 78) ≡ out Moving (wide 8 9 ++ area 2))
+    (move_of 1 2 (new 8 9) (area 78) ≡ out (Ok Moving) (wide 8 9 ++ area 2))
     -- "backward, what edition 1 hasn't is dropped"
-    × (move_of 2 1 (wide 8 9) (area 38) ≡ out Moving (new 8 9 ++ area 2))
+    × (move_of 2 1 (wide 8 9) (area 38) ≡ out (Ok Moving) (new 8 9 ++ area 2))
     -- a stack has zeros, and an idle worker too
-    × (move_of 1 2 (stack 1 [] []) (area 65) ≡ out Moving (stack 2 (0 ∷ 0 ∷ []) (replicate 36 0)))
-    × (move_of 2 1 (stack 2 (0 ∷ 0 ∷ []) (replicate 36 0)) (area 27) ≡ out Moving (stack 1 [] []))
-    × (move_of 1 2 (shallow 2 2 1 0) (area 69) ≡ out Moving (deep 2 4 2 2 1 0 ++ (0 ∷ 0 ∷ []) ++ replicate 8 0 ++ (1 ∷ 2 ∷ 0 ∷ 1 ∷ 1 ∷ 2 ∷ []) ++ replicate 30 0))
+    × (move_of 1 2 (stack 1 [] []) (area 65) ≡ out (Ok Moving) (stack 2 (0 ∷ 0 ∷ []) (replicate 36 0)))
+    × (move_of 2 1 (stack 2 (0 ∷ 0 ∷ []) (replicate 36 0)) (area 27) ≡ out (Ok Moving) (stack 1 [] []))
+    × (move_of 1 2 (shallow 2 2 1 0) (area 69) ≡ out (Ok Moving) (deep 2 4 2 2 1 0 ++ (0 ∷ 0 ∷ []) ++ replicate 8 0 ++ (1 ∷ 2 ∷ 0 ∷ 1 ∷ 1 ∷ 2 ∷ []) ++ replicate 30 0))
     -- no move leads past an edition
-    × (move_of 0 2 old (area 78) ≡ refuse 31 (area 78))
-    × (move_of 2 0 (wide 8 9) (area 78) ≡ refuse 31 (area 78))
-    × (move_of 1 2 (wide 8 9) (area 78) ≡ refuse 31 (area 78))
-    × (move_of 2 1 (new 8 9) (area 78) ≡ refuse 31 (area 78))
+    × (move_of 0 2 old (area 78) ≡ refuse WrongEdition (area 78))
+    × (move_of 2 0 (wide 8 9) (area 78) ≡ refuse WrongEdition (area 78))
+    × (move_of 1 2 (wide 8 9) (area 78) ≡ refuse WrongEdition (area 78))
+    × (move_of 2 1 (new 8 9) (area 78) ≡ refuse WrongEdition (area 78))
     -- P minus T 0 to 15 times d: 16 windows, 17, none; and half of one
     × (on (set (new 8 9) 8 16) 76 ≡ 0)
     × (on (set (new 8 9) 8 17) 76 ≡ 33)

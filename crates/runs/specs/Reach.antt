@@ -6,7 +6,7 @@ use Rattle.rules.specs.Held.{passed_of}
 use Rattle.rules.specs.Run.{Call, call_of, stamp_in}
 use Rattle.rules.specs.Statement.{All}
 use Rattle.rules.specs.declared.Settings.{Settings}
-use Rattle.rules.specs.declared.Answer.{Answer}
+use Rattle.rules.specs.Answers.{Answered}
 use Rattle.runs.specs.Rows.{Line, Row, start_of, Holds}
 
 pub record Reach : Type 0 where
@@ -35,7 +35,7 @@ answered n [] = 0
 answered n (x ∷ xs) = cond (eqb x.number n) 1 0 + answered n xs
 
 -- the held items that a call passes over, in the words just before, where it is the last step of a take; else 0
-abbrev passed_before : Settings → List ℕ → Answer → ℕ
+abbrev passed_before : Settings → List ℕ → Answered → ℕ
 passed_before g ws a = cond (eqb (number_of a) 2) (passed_of ws g (record { 0 = stamp_in a })) 0
 
 -- those that the last of some calls passes over

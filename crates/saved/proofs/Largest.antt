@@ -12,7 +12,7 @@ use lib.Seq.{take_all, take-take, get_or-take, length-take-le}
 use lib.Dec.{ltb, leb, eqb}
 use borrow.Author.Tests.{le-ltb, ltb-true, leb-true, eqb-true}
 use Rattle.laws.specs.Choice.{cond, both, all, cond_false, cond_both, both_true, all_holds, all_below, all_below_same}
-use Rattle.rules.specs.Answers.{Out, refuse, too_few_words, not_fit, wrong_edition}
+use Rattle.rules.specs.Answers.{Out, refuse, wrong_edition}
 use Rattle.rules.specs.Layout.{head_words, top_at, mark_at, first_at, first_of, second_at, second_of, worker_words, workers_at, worker_at, cell_words, cells_at, next_width_at, next_depth_at, set_at, live_at, pair_at, windows_at, windows_words, needed, most_words, settings_of}
 use Rattle.rules.specs.Limits.{settings_fit, windowed, size_fit, most_live, Bounds}
 use Rattle.rules.specs.Windows.{has_windows, next_size, live_of, nth_size, bottom_of, higher, level_of}
@@ -24,6 +24,7 @@ use Rattle.rules.specs.declared.Settings.{Settings}
 use Rattle.rules.proofs.Fitness.{settings_bounds, fit_with_other, fit_pool}
 use Rattle.rules.proofs.Workers.{words_few, windows_few, windows_some, windowed_is, word_within}
 use Rattle.rules.proofs.words.Writes.{settings_kept, slot_kept}
+use Rattle.rules.specs.declared.Refusal.TheVariants.{NotFit, TooFewWords, WrongEdition}
 
 pub needed_most : (g : Settings) → Bounds g → needed g ≤ most_words shipped
 unfolding worker_words windows_words
@@ -225,16 +226,16 @@ module _ (n : ℕ) (ws : List ℕ) (more : n ≤ length ws) where
     unfolding checked_by
     checked_taken other e =
         rw (long head_words (omega arith))
-        (ap (cond (ltb (length ws) head_words) (Unfit too_few_words)) (ap (head_checked other e first) settings_taken ∙ settings_checked other e (settings_of ws)))
+        (ap (cond (ltb (length ws) head_words) (Unfit TooFewWords)) (ap (head_checked other e first) settings_taken ∙ settings_checked other e (settings_of ws)))
 
     move_taken : (a b : ℕ) (to : List ℕ) → move_of a b first to ≡ move_of a b ws to
     unfolding move_of checked_move fit_move
-    move_taken a b to = rw (checked_taken wrong_edition a) (ap (λ (o : Out). cond (leads a b) o (refuse wrong_edition to)) (go (source_checked a ws) refl))
+    move_taken a b to = rw (checked_taken wrong_edition a) (ap (λ (o : Out). cond (leads a b) o (refuse WrongEdition to)) (go (source_checked a ws) refl))
       where
         go : (c : Checked) → source_checked a ws ≡ c → checked_move b first c to ≡ checked_move b ws c to
         go (Unfit m) e = refl
         go (Fit g) e =
-            let pool = fit_pool a ws g (fit_with_other wrong_edition not_fit a ws g e) in
+            let pool = fit_pool a ws g (fit_with_other WrongEdition NotFit a ws g e) in
             let fits : needed g ≤ n = omega (arith, needed_most g pool.bounds) in
             rw (may_taken g fits (in_edition b g) refl pool, moved_taken g fits (in_edition b g) to) refl
 

@@ -23,6 +23,7 @@ use Rattle.sizes.proofs.Types.{Settings, Size, Sizes, Side, Putting, Taking, Eff
 use Rattle.rules.specs.declared.Outcome.TheVariants.{Refused, Moving, Lost, Shifted, Raised, Dropped, Landed, Removed, Empty, Full}
 use Rattle.rules.specs.declared.Answer.TheVariants.{Moving as Moves}
 use Rattle.rules.proofs.Fitness.{settings_bounds}
+use Rattle.rules.proofs.Numbered.{number_high}
 use Rattle.rules.proofs.counts.Sums.{upd_same, upd_other}
 use Rattle.rules.proofs.counts.Wraps.{add32_is}
 use Rattle.rules.proofs.order.Law.{Next}
@@ -36,6 +37,7 @@ use Rattle.rules.proofs.Transfer.{Whole, made_whole, made_related}
 use Rattle.rules.proofs.BothKinds.{kind_of, inv_of}
 use Rattle.rules.proofs.Course.{At, settings_at, kind_at, HoldsAt, next_at, moved_at, made_at, Course, none as no_more, calls, moves, after_call, calls_course}
 use Rattle.rules.proofs.words.Made.{accepted}
+use Rattle.std.specs.Prelude.{Ok}
 
 -- a new window has the next size
 pub raised_size : (s : State) (top : ℕ) → top ≡ top_of s.frame + s.next.depth → size_at (raised_of s.frame s.next.width top) (suc s.frame.tail) ≡ s.next
@@ -94,8 +96,7 @@ module _ (g : Settings) (p : Size → Bool) where
     taken_by : (e : Effect) (o : Outcome) → SharedAfter g (view_in g s i) (ItemIn g s i) e o → Counted g (view_in g s i) (ItemIn g s i) → Known s
         → number_of (apply_in_by g s i e o).answer ≡ 2 → p (apply_in_by g s i e o).measures.size ≡ true
     unfolding apply_in_by
-    taken_by e (Refused n) (inl u) c h two = absurd (omega arith)
-    taken_by e (Refused n) (inr u) c h two = absurd (omega arith)
+    taken_by e (Refused n) shared c h two = absurd (omega (arith, number_high n))
     taken_by e Moving shared c h two = absurd (omega arith)
     taken_by e Lost shared c h two = absurd (omega arith)
     taken_by e Shifted shared c h two = absurd (omega arith)
@@ -110,8 +111,7 @@ module _ (g : Settings) (p : Size → Bool) where
 own_by : (g : Settings) (s : State) (i : ℕ) → has_windows g ≡ false → (e : Effect) (o : Outcome) → SharedAfter g (view_in g s i) (ItemIn g s i) e o
     → number_of (apply_in_by g s i e o).answer ≡ 2 → (apply_in_by g s i e o).measures.size ≡ size_of g
 unfolding apply_in_by seen_size cond
-own_by g s i none e (Refused n) (inl u) two = absurd (omega arith)
-own_by g s i none e (Refused n) (inr u) two = absurd (omega arith)
+own_by g s i none e (Refused n) shared two = absurd (omega (arith, number_high n))
 own_by g s i none e Moving shared two = absurd (omega arith)
 own_by g s i none e Lost shared two = absurd (omega arith)
 own_by g s i none e Shifted shared two = absurd (omega arith)
@@ -145,7 +145,7 @@ module _ (g : Settings) (limits : settings_fit g ≡ true) (k : Kind g) (p : Siz
     known_begin : (i : ℕ) (side : Side) (v : ℕ) → Known g p s → Known g p (begin_in g s i side v).state
     known_begin i side v h = by (begin_called g s i side v)
       where
-        by : {o : Next State} → Called s (Begins g s i) (next Moves (begun g s i side v)) o → Known g p o.state
+        by : {o : Next State} → Called s (Begins g s i) (next (Ok Moves) (begun g s i side v)) o → Known g p o.state
         by (refuses n l unable e) = rw e h
         by (does able e) = rw e (record { next = h.next; live = h.live })
 

@@ -12,7 +12,7 @@ use lib.Dec.{leb, eqb}
 use borrow.Author.Tests.{lt-leb}
 use Rattle.laws.specs.Choice.{cond, cases, both, both_true}
 use Rattle.laws.specs.Wrap.{add32}
-use Rattle.rules.specs.Answers.{Out, refuse, number_of, no_such_worker, worker_idle, steps_spent}
+use Rattle.rules.specs.Answers.{Out, refuse, number_of, refusal_number}
 use Rattle.rules.specs.Layout.{steps_at, top_at, worker_at, index_at, index_word}
 use Rattle.rules.specs.Limits.{settings_fit, windowed, size_fit}
 use Rattle.rules.specs.Fit.{FitPool}
@@ -30,6 +30,7 @@ use Rattle.sizes.specs.NextSize.{size_after, last_size, NextSizeIsLast, Rises, R
 use Rattle.sizes.proofs.Types.{Settings, Size, Side, Putting, Taking, Phase, Idle, Window, QueuePutRead, QueueTakeRead, StackRead, Check, QueueCommit, StackCommit, QueueShift, StackShift, QueueConfirm, StackConfirm, View, Effect, Outcome}
 use Rattle.rules.specs.declared.Outcome.TheVariants.{Refused, Moving, Lost, Shifted, Raised, Dropped, Landed, Removed, Empty, Full}
 use Rattle.rules.proofs.Fitness.{settings_bounds, fit_pool}
+use Rattle.rules.proofs.Numbered.{number_high}
 use Rattle.sizes.proofs.KnownSizes.{raised_size, raised_top}
 use Rattle.rules.proofs.order.Law.{Next}
 use Rattle.rules.proofs.machine.Machine.{State, top_of, raised_of, size_at, view_in, apply_in, apply_in_by, set_size_in, next_in, made_in}
@@ -43,6 +44,8 @@ use Rattle.rules.proofs.words.Made.{accepted}
 use Rattle.rules.proofs.Workers.{worker_within}
 use Rattle.rules.proofs.words.Writes.{word_on}
 use Rattle.rules.proofs.words.Stays.{lost_length}
+use Rattle.rules.specs.declared.Refusal.TheVariants.{NoSuchWorker, StepsSpent, WorkerIdle}
+use Rattle.rules.specs.declared.Refusal.{Refusal}
 
 -- ---- the next size
 module _ (g : Settings) (s : State) where
@@ -216,8 +219,8 @@ module _ (ws : List ℕ) (g : Settings) (pool : FitPool g ws) (i : ℕ) (li : i 
   abbrev Hops : Out → Type 0
   Hops o = leb (number_of o.answer) 4 ≡ true → finds_other g ws i ≡ true → get_or o.words (index_at at) 0 ≡ (get_or ws (index_at at) 0 + stride_of g) % g.width
 
-  refused_hops : (n : ℕ) → 4 < n → Hops (refuse n ws)
-  refused_hops n l few = absurd (false≢true (sym (lt-leb n 4 l) ∙ few))
+  refused_hops : (n : Refusal) → Hops (refuse n ws)
+  refused_hops n few = absurd (false≢true (sym (lt-leb (refusal_number n) 4 (number_high n)) ∙ few))
 
   rule_index : Hops (apply_of ws g at (get_or ws (index_at at) 0) (rule_of g (view_of ws g at)))
   unfolding rule_of hop_of
@@ -229,9 +232,9 @@ module _ (ws : List ℕ) (g : Settings) (pool : FitPool g ws) (i : ℕ) (li : i 
   step_hops : Hops (fit_step ws g i)
   unfolding fit_step slot_step
   step_hops =
-      cases Hops (leb g.workers i) _ _ (λ a. refused_hops no_such_worker (omega arith))
-      (λ a. cases Hops (idle_at ws at) _ _ (λ b. refused_hops worker_idle (omega arith))
-      (λ b. cases Hops (out_of_steps ws) _ _ (λ c. refused_hops steps_spent (omega arith)) (λ c. rule_index)))
+      cases Hops (leb g.workers i) _ _ (λ a. refused_hops NoSuchWorker)
+      (λ a. cases Hops (idle_at ws at) _ _ (λ b. refused_hops WorkerIdle)
+      (λ b. cases Hops (out_of_steps ws) _ _ (λ c. refused_hops StepsSpent) (λ c. rule_index)))
 
 pub hops_by_pool : HopsByPool
 unfolding call_of step_of checked_step

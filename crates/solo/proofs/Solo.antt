@@ -8,7 +8,7 @@ use Prim.Native.Nat.{ℕ, zero, suc, ◌+◌, ◌-◌, ◌≤◌, ◌<◌}
 use native.Mathlib.Decide.{ℕ_discrete, dec_le}
 use native.Mathlib.Omega.{arith}
 use Rattle.laws.specs.Choice.{cases}
-use Rattle.rules.specs.Answers.{number_of}
+use Rattle.rules.specs.Answers.{number_of, refusal_number}
 use Rattle.rules.specs.Limits.{settings_fit, step_limit, windowed}
 use Rattle.rules.specs.Make.{in_edition}
 use Rattle.rules.specs.Worker.{fresh, phase_of}
@@ -28,6 +28,8 @@ use Rattle.rules.proofs.Course.{At, settings_at, kind_at, next_at, HoldsAt, move
 use Rattle.rules.proofs.progress.Steps.{at_begun, Result, finishes, goes}
 use Rattle.solo.proofs.Law.{SoloLaw}
 use Rattle.solo.proofs.Moved.{begun_of, solo_of, left_moved}
+use Rattle.std.specs.Prelude.{Ok}
+use Rattle.rules.proofs.Numbered.{number_high}
 
 -- worker i's operation is open, and makes at most n of its steps before the final one, as far as the events go
 pub data Ending (i : ℕ) : ℕ → List Event → Type 0 where
@@ -64,7 +66,7 @@ module _ (g : Settings) (k : Kind g) {most : Side → ℕ} (law : SoloLaw g k mo
         by (goes x) = walks refl x.answer x.steps x.some x.left
 
     -- a begin of another worker, or a refused one
-    begins : (c : Call) (j : ℕ) (side : Side) (v : ℕ) (o : Next State) → c ≢ step i → Called s (Begins g s j) (next Moving (begun g s j side v)) o → After s i n c o
+    begins : (c : Call) (j : ℕ) (side : Side) (v : ℕ) (o : Next State) → c ≢ step i → Called s (Begins g s j) (next (Ok Moving) (begun g s j side v)) o → After s i n c o
     begins c j side v o u (refuses m l unable e) = unchanged c o u (ap (λ (x : Next State). x.state) e)
     begins c j side v o u (does able e) =
         let other : i ≢ j = λ z. busy (rw z able.idle) in
@@ -161,10 +163,10 @@ module _ (g : Settings) where
       s : State
       s = x.state
 
-      by : Called s (Begins (settings_at g x) s i) (next Moving (begun (settings_at g x) s i side v)) (begin_in (settings_at g x) s i side v) → Ending i (begun_of (settings_at g x) side) es
+      by : Called s (Begins (settings_at g x) s i) (next (Ok Moving) (begun (settings_at g x) s i side v)) (begin_in (settings_at g x) s i side v) → Ending i (begun_of (settings_at g x) side) es
       by (refuses m l unable e) =
-          let answer : number_of (next_in (settings_at g x) s c).answer ≡ m = ap (λ (o : Next State). number_of o.answer) (is ∙ e) in
-          absurd (omega arith)
+          let answer : number_of (next_in (settings_at g x) s c).answer ≡ refusal_number m = ap (λ (o : Next State). number_of o.answer) (is ∙ e) in
+          absurd (omega (arith, number_high m))
       by (does able e) =
           let t : (next_in (settings_at g x) s c).state ≡ begun (settings_at g x) s i side v = ap (λ (o : Next State). o.state) (is ∙ e) in
           let after = onward (settings_at g x) x.limits (kind_at g x) s q h c in

@@ -41,6 +41,7 @@ use Rattle.step.specs.Allowed.{Allowed, Commits}
 use Rattle.step_views.specs.ByPhase.{effect_by, rule_step}
 use Rattle.step.proofs.Numbers.{window_is, put_read_is, take_read_is, stack_read_is, queue_commit_is, stack_commit_is}
 use Rattle.step.proofs.Seen.{of_phase}
+use Rattle.std.specs.Prelude.{Ok}
 
 -- ---- the phases
 -- a queue alone has a shift phase of this name
@@ -216,6 +217,6 @@ module _ (ws : List ℕ) (g : Settings) (s : Slot) where
   commit_effect side e = either_kind _ (λ k. rw (queue_commit_is g s k side e) (queue_commit_ends g _ side _ _)) (λ k. rw (stack_commit_is g s k side e) (stack_commit_ends g _ side _))
 
 -- a step that moves the worker alone
-pub moving_step : (ws : List ℕ) (g : Settings) (at : ℕ) → (effect_by ws g (slot_at g ws at)).outcome ≡ Moving → out Answering (put_worker ws g at (effect_by ws g (slot_at g ws at))) ≡ rule_step ws g at
+pub moving_step : (ws : List ℕ) (g : Settings) (at : ℕ) → (effect_by ws g (slot_at g ws at)).outcome ≡ Moving → out (Ok Answering) (put_worker ws g at (effect_by ws g (slot_at g ws at))) ≡ rule_step ws g at
 unfolding rule_step apply_of apply_by view_of slot_at
 moving_step ws g at e = simp e

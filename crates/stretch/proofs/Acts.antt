@@ -14,7 +14,7 @@ use Rattle.rules.specs.Step.{rule_of}
 use Rattle.rules.specs.Sequential.{putting, taking, Contents}
 use Rattle.rules.specs.Run.{Call, begin_put, begin_take, step, set_size, Final}
 use Rattle.stretch.specs.Stretch.{counted_call}
-use Rattle.stretch.proofs.Types.{Settings, Size, Side, Putting, Taking, Idle, Window, Slot, Answer}
+use Rattle.stretch.proofs.Types.{Settings, Size, Side, Putting, Taking, Idle, Window, Slot, Answered}
 use Rattle.rules.specs.declared.Answer.TheVariants.{Moving}
 use Rattle.rules.proofs.counts.Sums.{upd_same, upd_other}
 use Rattle.rules.proofs.order.Law.{Next, refused, passes, opened, walks, tries, stays, loses, ends as ends-here, wins}
@@ -33,6 +33,7 @@ use Rattle.rules.proofs.progress.QueueResult.{open_put, put_in, Moved, Ended, Qu
 use Rattle.solo.proofs.QueueSteps.{queue_step}
 use Rattle.solo.proofs.Law.{twice}
 use Rattle.stretch.proofs.Owed.{OwesIn, most_owed, owes_most}
+use Rattle.std.specs.Prelude.{Ok}
 
 pub data Acts (g : Settings) (s : State) (c : Call) (o : Next State) : Type 0 where
   same : o.state ≡ s → Acts g s c o
@@ -110,17 +111,17 @@ module _ (g : Settings) (good : Good g) (kind : g.kind ≡ 0) (s : State) (q : C
 
   -- ---- a begin
   by_begin : (c : Call) (i : ℕ) (side : Side) (v : ℕ) (o' : Next State) → counted_call c o'.answer ≡ 0
-      → Called s (Begins g s i) (next Moving (begun g s i side v)) o' → Acts g s c o'
+      → Called s (Begins g s i) (next (Ok Moving) (begun g s i side v)) o' → Acts g s c o'
   by_begin c i side v o' z (refuses n l unable e) = same (ap (λ (x : Next State). x.state) e)
   by_begin c i side v o' z (does able e) =
       begins i side v able.worker (idle_phase g (s.slot i) able.idle) z (ap (λ (x : Next State). x.state) e)
 
   -- ---- a size call
-  by_size : (c : Call) (size : Size) → ((a : Answer) → counted_call c a ≡ 0) → Acts g s c (set_size_in g s size)
+  by_size : (c : Call) (size : Size) → ((a : Answered) → counted_call c a ≡ 0) → Acts g s c (set_size_in g s size)
   unfolding set_size_in
   by_size c size z =
       cases (Acts g s c) (windowed g) _ _
-      (λ a. cases (Acts g s c) _ _ _ (λ e. sizes size (z Moving) refl) (λ e. same refl))
+      (λ a. cases (Acts g s c) _ _ _ (λ e. sizes size (z (Ok Moving)) refl) (λ e. same refl))
       (λ a. same refl)
 
   pub acts : (c : Call) → Acts g s c (next_in g s c)

@@ -16,8 +16,8 @@ use Rattle.rules.specs.Step.{rule_of}
 use Rattle.rules.specs.Sequential.{Contents}
 use Rattle.rules.specs.Run.{Call, begin_put, begin_take, step, set_size, Final}
 use Rattle.stretch.specs.Stretch.{counted_call}
-use Rattle.stretch.proofs.Types.{Settings, Size, Side, Putting, Taking, Idle, Slot, Answer}
-use Rattle.rules.specs.declared.Answer.TheVariants.{Moving, Refused}
+use Rattle.stretch.proofs.Types.{Settings, Size, Side, Putting, Taking, Idle, Slot, Answered}
+use Rattle.rules.specs.declared.Answer.TheVariants.{Moving}
 use Rattle.rules.proofs.counts.Sums.{upd, upd_same, upd_other, upd_all, sum_n, sum_bump}
 use Rattle.rules.proofs.order.Law.{Next}
 use Rattle.rules.proofs.machine.Machine.{State, next, sub_in, view_in, phase_in, apply_in, with_size, set_size_in, next_in, apply_other}
@@ -33,11 +33,12 @@ use Rattle.rules.proofs.progress.QueueResult.{Moved, QueueResult, moves, ends}
 use Rattle.solo.proofs.QueueSteps.{queue_step}
 use Rattle.stretch.proofs.Owed.{Owes, OwesIn, Debts, begun_owes, begun_others}
 use Rattle.stretch.proofs.Kept.{owes_kept}
+use Rattle.std.specs.Prelude.{Ok, Err}
 
-counted_le : (i : ℕ) (a : Answer) → counted_call (step i) a ≤ 1
+counted_le : (i : ℕ) (a : Answered) → counted_call (step i) a ≤ 1
 counted_le i a = cases (λ (n : ℕ). n ≤ 1) (leb (number_of a) 4) 1 0 (λ e. omega arith) (λ e. omega arith)
 
-counted_none : (i : ℕ) (a : Answer) → 4 < number_of a → counted_call (step i) a ≡ 0
+counted_none : (i : ℕ) (a : Answered) → 4 < number_of a → counted_call (step i) a ≡ 0
 counted_none i a l = cases (λ (n : ℕ). n ≡ 0) (leb (number_of a) 4) 1 0 (λ e. absurd (omega (arith, leb-true (number_of a) 4 e))) (λ e. refl)
 
 -- ---- the debts after a call
@@ -77,7 +78,7 @@ module _ (g : Settings) (good : Good g) (kind : g.kind ≡ 0) (L : ℕ) (enough 
     ]
 
   by_begin : (c : Call) (i : ℕ) (side : Side) (v : ℕ) (o : Next State) → counted_call c o.answer ≡ 0
-      → Called s (Begins g s i) (next Moving (begun g s i side v)) o → Account g L s debt c o
+      → Called s (Begins g s i) (next (Ok Moving) (begun g s i side v)) o → Account g L s debt c o
   by_begin c i side v o z (refuses n l unable e) = unchanged c o (ap (λ (x : Next State). x.state) e) z
   by_begin c i side v o z (does able e) =
       let now : o.state ≡ begun g s i side v = ap (λ (x : Next State). x.state) e in
@@ -93,12 +94,12 @@ module _ (g : Settings) (good : Good g) (kind : g.kind ≡ 0) (L : ℕ) (enough 
   resized : (size : Size) → Debts g L (with_size s size) debt
   resized size = owed
 
-  by_size : (c : Call) (size : Size) → ((a : Answer) → counted_call c a ≡ 0) → Account g L s debt c (set_size_in g s size)
+  by_size : (c : Call) (size : Size) → ((a : Answered) → counted_call c a ≡ 0) → Account g L s debt c (set_size_in g s size)
   unfolding set_size_in
   by_size c size z =
       cases (Account g L s debt c) (windowed g) _ _
       (λ a. cases (Account g L s debt c) _ _ _
-      (λ e. pays (record { after = debt; owed = resized size; less = λ j. le_refl _; idle = λ j u. (u, refl); paid = omega (arith, z Moving) }))
+      (λ e. pays (record { after = debt; owed = resized size; less = λ j. le_refl _; idle = λ j u. (u, refl); paid = omega (arith, z (Ok Moving)) }))
       (λ e. unchanged c _ refl (z _)))
       (λ a. unchanged c _ refl (z _))
 
@@ -142,7 +143,7 @@ module _ (g : Settings) (good : Good g) (kind : g.kind ≡ 0) (L : ℕ) (enough 
         pays (record { after = after; owed = each x m; less = less x m; idle = still_idle x m; paid = omega (arith, total x m, counted_le i o.answer) })
 
   by_step : (i : ℕ) {o' : Next State} → Called s (Steps g s i) (apply_in g s i (rule_of g (view_in g s i))) o' → Account g L s debt (step i) o'
-  by_step i (refuses n l unable e) = rw e (unchanged (step i) (next (Refused n) s) refl (counted_none i (Refused n) (omega arith)))
+  by_step i (refuses n l unable e) = rw e (unchanged (step i) (next (Err n) s) refl (counted_none i (Err n) (omega arith)))
   by_step i (does able e) = rw e (by (owed i able.worker))
     where
       by : OwesIn g L s (debt i) i → Account g L s debt (step i) (apply_in g s i (rule_of g (view_in g s i)))

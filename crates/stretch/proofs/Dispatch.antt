@@ -20,7 +20,6 @@ use Rattle.rules.specs.Run.{Call, step, call_of, run, at, Final}
 use Rattle.rounds.specs.Dispatch.{DispatchOut, Busy, worker_after, turn_from, ended_by, turns_of, dispatch_of}
 use Rattle.stretch.specs.Stretch.{exact_stretch, counted_steps, FinishesIn, DispatchFinishes, DispatchK7}
 use Rattle.stretch.proofs.Types.{Settings}
-use Rattle.rules.specs.declared.Turn.TheVariants.{Worker}
 use Rattle.rules.proofs.machine.Machine.{State, next_in}
 use Rattle.rules.proofs.machine.Good.{Good, good}
 use Rattle.rules.proofs.BothKinds.{kind_of, inv_of}
@@ -35,6 +34,9 @@ use Rattle.stretch.proofs.Owed.{most_owed}
 use Rattle.stretch.proofs.Past.{Reached, reached}
 use Rattle.stretch.proofs.Theorem.{finishes_within, exact_k7}
 use Rattle.rounds.proofs.Turns.{HasTurn, has_turn, busy_found, turns_on, turns_end, turn_busy, fit_turns}
+use Rattle.std.specs.Prelude.{Err, Ok, Some}
+use Rattle.rules.specs.Answers.{Answered}
+use Rattle.rules.proofs.Numbered.{number_high}
 
 -- ---- steps none of which is final
 pub record Unfinished (ed : ℕ) (ws : List ℕ) (m : ℕ) : Type 0 where
@@ -68,7 +70,7 @@ module _ (g : Settings) (good : Good g) (kind : g.kind ≡ 0) (limits : settings
   Comes ws i k m = FinishesIn g (turns_of ws g i k) ⊎ Unfinished g.edition ws m
 
   -- ---- one turn, from how the next ones go on
-  module _ {ws : List ℕ} {s : State} (r : Rel ws s) (i j k m : ℕ) (turn : turn_from ws g i ≡ Worker j) (busy : HasTurn ws g j) (time : s.steps < step_limit)
+  module _ {ws : List ℕ} {s : State} (r : Rel ws s) (i j k m : ℕ) (turn : turn_from ws g i ≡ Some j) (busy : HasTurn ws g j) (time : s.steps < step_limit)
       (rest : (next_in g s (step j)).state.steps ≡ suc s.steps → Busy g (step_of g.edition ws j).words → Comes (step_of g.edition ws j).words (worker_after g j) k m) where
     abbrev x : NextRelated g limits (kind_of g limits) ws s r.list (step j)
     x = next_related g limits (kind_of g limits) r (step j)
@@ -82,16 +84,15 @@ module _ (g : Settings) (good : Good g) (kind : g.kind ≡ 0) (limits : settings
 
     -- a final answer
     ends : Final (step_of g.edition ws j).answer → FinishesIn g (turns_of ws g i (suc k))
-    unfolding ended_by cond
-    ends f =
-        let come = turns_end ws g i j (suc k) (omega arith) turn (step_of g.edition ws j) refl (λ z. omega (arith, f.low)) in
-        record {
-          worker = j;
-          among = busy.among;
-          answer = (step_of g.edition ws j).answer;
-          result = ap (λ (o : DispatchOut). o.result) come ∙ rw (le-leb (number_of (step_of g.edition ws j).answer) 4 f.high) refl;
-          final = f;
-        }
+    unfolding ended_by
+    ends f = by_answer (step_of g.edition ws j).answer refl f
+      where
+        come : (turns_of ws g i (suc k)).result ≡ ended_by j (step_of g.edition ws j).answer
+        come = ap (λ (o : DispatchOut). o.result) (turns_end ws g i j (suc k) (omega arith) turn (step_of g.edition ws j) refl (λ z. omega (arith, f.low)))
+
+        by_answer : (a : Answered) → (step_of g.edition ws j).answer ≡ a → Final a → FinishesIn g (turns_of ws g i (suc k))
+        by_answer (Ok a) is final = record { worker = j; among = busy.among; answer = a; result = come ∙ ap (ended_by j) is; final = final }
+        by_answer (Err r) is final = absurd (omega (arith, final.high, number_high r))
 
     by : Result g (queue_left g (2 * g.width)) s j (most_owed g (2 * g.width)) (next_in g s (step j)) → Comes ws i (suc k) (suc m)
     unfolding call_of

@@ -9,4 +9,4 @@ pub use Rattle.rules.specs.declared.Span.{Span}
 pub use Rattle.rules.specs.declared.Version.{Version}
 pub use Rattle.rules.specs.declared.Worker.{Worker}
 pub use Rattle.rules.specs.declared.Slot.{Slot}
-pub use Rattle.rules.specs.declared.Answer.{Answer}
+pub use Rattle.rules.specs.Answers.{Answered}

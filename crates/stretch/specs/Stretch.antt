@@ -1,9 +1,9 @@
 -- K7, the statement: "For a line from make, in all orders: of any 6 × n × (w + 1) + 1 counted steps in a row, begins between them allowed, at
 -- least one gives put, taken, empty or full." The field calls this lock freedom, with a bound: among the workers that step, some operation ends.
 -- How many steps in a row may go without a final answer is a parameter: K7 has its own number, and rows of crates/long_runs reach the closest one.
-use Rattle.std.specs.Prelude.{ℕ, ◌+◌, ◌-◌, ◌*◌, ◌<◌, max, ◌≡◌, List, [], ◌∷◌, get_or, take, drop, leb, eqb}
+use Rattle.std.specs.Prelude.{ℕ, ◌+◌, ◌-◌, ◌*◌, ◌<◌, max, ◌≡◌, List, [], ◌∷◌, get_or, take, drop, leb, eqb, Ok}
 use Rattle.laws.specs.Choice.{cond}
-use Rattle.rules.specs.Answers.{number_of}
+use Rattle.rules.specs.Answers.{Answered, number_of}
 use Rattle.rules.specs.Layout.{steps_at}
 use Rattle.rules.specs.Limits.{step_limit}
 use Rattle.rules.specs.Run.{Call, begin_put, begin_take, step, set_size, Event, run, at, Final, StepOf}
@@ -32,7 +32,7 @@ abbrev pub stretch : ℕ → ℕ → List Event → List Event
 stretch p m es = take m (drop p es)
 
 -- "counted": a step that was not refused; begins, size calls and refused calls may stand between
-abbrev pub counted_call : Call → Answer → ℕ
+abbrev pub counted_call : Call → Answered → ℕ
 counted_call (begin_put i v) a = 0
 counted_call (begin_take i) a = 0
 counted_call (step i) a = cond (leb (number_of a) 4) 1 0
@@ -68,8 +68,8 @@ pub record FinishesIn (g : Settings) (o : DispatchOut) : Type 0 where
   pub worker : ℕ
   pub among : worker < g.workers
   pub answer : Answer
-  pub result : o.result ≡ Finished worker answer
-  pub final : Final answer
+  pub result : o.result ≡ Ok (Finished worker answer)
+  pub final : Final (Ok answer)
 
 abbrev pub DispatchesWithin : Settings → ℕ → List ℕ → Type 0
 DispatchesWithin g n ws =

@@ -29,9 +29,10 @@ use Rattle.rules.specs.Measures.{measured, seen_size, places_after, places_of, m
 use Rattle.rules.specs.Run.{Call, begin_put, begin_take, step, set_size, measures_at}
 use Rattle.rules.specs.Make.{in_edition, with_stride}
 use Rattle.rules.specs.declared.Answer.TheVariants.{Taken}
-use Rattle.strides.proofs.Types.{Settings, Size, Sizes, Putting, Taking, Phase, Idle, Window, QueuePutRead, QueueTakeRead, StackRead, Check, QueueCommit, StackCommit, QueueShift, StackShift, QueueConfirm, StackConfirm, Slot, Worker, View, Row, Answer}
+use Rattle.strides.proofs.Types.{Settings, Size, Sizes, Putting, Taking, Phase, Idle, Window, QueuePutRead, QueueTakeRead, StackRead, Check, QueueCommit, StackCommit, QueueShift, StackShift, QueueConfirm, StackConfirm, Slot, Worker, View, Row, Answered}
 use Rattle.rules.proofs.Workers.{words_two, windows_none, windows_some, windowed_is, windowed_not, Read, read_low}
 use Rattle.rules.proofs.words.Writes.{slot_same}
+use Rattle.std.specs.Prelude.{Ok}
 
 -- settings by their words
 pub settings_alike : (ws vs : List ℕ) (y e : ℕ)
@@ -221,7 +222,7 @@ module _ (g : Settings) (y e : ℕ) where
       unfolding taken_of distance_of
       taken_same j row l =
           let it = item j row.0 l in
-          λ u. Taken (it u).value j row (record { 0 = (it u).stamp }) (count_items (reported g.kind (it u).stamp) (held_same g.width (omega arith) u))
+          λ u. Ok (Taken (it u).value j row (record { 0 = (it u).stamp }) (count_items (reported g.kind (it u).stamp) (held_same g.width (omega arith) u)))
 
     -- ---- the fitness
     level_bottom : (last : ℕ) → level_of h last (bottom_of vs h 0) ≡ level_of g last (bottom_of ws g 0)
@@ -283,7 +284,7 @@ module _ (g : Settings) (y e : ℕ) where
         (λ has. let w = windowed_in has in ap (λ (n : ℕ). places_after vs h (n - 1)) (live_same w) ∙ after_same w (live_of ws g - 1))
         (λ none u. g.width * (alike.top u - alike.mark u)))
 
-    pub measures_alike : settings_of ws ≡ g → settings_of vs ≡ h → (c : Call) (a : Answer) → measures_at vs c a ≡ measures_at ws c a
+    pub measures_alike : settings_of ws ≡ g → settings_of vs ≡ h → (c : Call) (a : Answered) → measures_at vs c a ≡ measures_at ws c a
     unfolding measures_at measures_of
     measures_alike one two (begin_put i v) a = refl
     measures_alike one two (begin_take i) a = refl

@@ -9,6 +9,7 @@ use Rattle.rules.specs.Resize.{checked_set_size, set_size_of}
 use Rattle.rules.specs.Step.{checked_step, step_of}
 use Rattle.rules.specs.Run.{Call, begin_put, begin_take, step, set_size, call_of}
 use Rattle.strides.proofs.Types.{Putting, Taking}
+use Rattle.rules.specs.declared.Refusal.{Refusal}
 
 abbrev pub checked_call : List ℕ → Checked → Call → Out
 checked_call ws k (begin_put i v) = checked_begin ws k i Putting v
@@ -23,7 +24,7 @@ call_is ed ws (begin_take i) = refl
 call_is ed ws (step i) = refl
 call_is ed ws (set_size width depth) = refl
 
-pub unfit_call : (ws : List ℕ) (n : ℕ) (c : Call) → checked_call ws (Unfit n) c ≡ refuse n ws
+pub unfit_call : (ws : List ℕ) (n : Refusal) (c : Call) → checked_call ws (Unfit n) c ≡ refuse n ws
 unfolding checked_begin checked_step checked_set_size
 unfit_call ws n (begin_put i v) = refl
 unfit_call ws n (begin_take i) = refl

@@ -12,7 +12,7 @@ use lib.Seq.{get_or-set_same, get_or-set_other, set_comm, set-set, sets}
 use lib.Dec.{eqb}
 use borrow.Author.Tests.{lt-ltb, le-ltb}
 use Rattle.laws.specs.Choice.{cond, cond_under}
-use Rattle.rules.specs.Answers.{Out, not_fit, out, number_of}
+use Rattle.rules.specs.Answers.{Out, out, number_of}
 use Rattle.rules.specs.Layout.{head_words, width_at, stride_at, edition_at, windows_at, needed, settings_of}
 use Rattle.rules.specs.Limits.{settings_fit, windowed}
 use Rattle.rules.specs.Fit.{Checked, Unfit, Fit, head_checked, checked_by, checked_of}
@@ -21,7 +21,7 @@ use Rattle.rules.specs.Run.{Call, call_of, measures_at, run}
 use Rattle.rules.specs.Consequences.{words_after}
 use Rattle.strides.specs.Stride.{StrideOneOnWords, AsStrideZero, StrideOne, WidthTwo}
 use Rattle.rules.specs.declared.Answer.TheVariants.{Moving}
-use Rattle.strides.proofs.Types.{Settings, Answer}
+use Rattle.strides.proofs.Types.{Settings, Answered}
 use Rattle.rules.proofs.Fitness.{settings_bounds, fit_pool}
 use Rattle.rules.proofs.Hops.{hops_alike}
 use Rattle.rules.proofs.words.Writes.{Still, still_low, still_high, set_kept}
@@ -30,6 +30,8 @@ use Rattle.strides.proofs.Alike.{measures_alike, settings_alike, in_other, body_
 use Rattle.strides.proofs.Stores.{windows_commute, indexed_commutes, reads_alike}
 use Rattle.strides.proofs.Checked.{checked_call, call_is, unfit_call}
 use Rattle.strides.proofs.Calls.{then_set, call_commutes, kept}
+use Rattle.std.specs.Prelude.{Ok}
+use Rattle.rules.specs.declared.Refusal.TheVariants.{NotFit}
 
 stride_still : Still stride_at
 stride_still = still_high stride_at (omega arith) (omega arith)
@@ -55,7 +57,7 @@ settings_by ws x y is =
 settings_set : (ws : List ℕ) (x : ℕ) → stride_at < length ws → settings_of (set ws stride_at x) ≡ with_stride (settings_of ws) x
 settings_set ws x l = settings_by ws x x (get_or-set_same ws stride_at x 0 l)
 
-measures_set : (ws : List ℕ) (x : ℕ) (c : Call) (a : Answer) → measures_at (set ws stride_at x) c a ≡ measures_at ws c a
+measures_set : (ws : List ℕ) (x : ℕ) (c : Call) (a : Answered) → measures_at (set ws stride_at x) c a ≡ measures_at ws c a
 measures_set ws x =
     let y = get_or (set ws stride_at x) stride_at 0 in
     measures_alike (settings_of ws) y (settings_of ws).edition ws (set ws stride_at x) (reads_alike stride_at stride_still x (settings_of ws) y ws) refl (settings_by ws x y refl)
@@ -68,7 +70,7 @@ module _ (ed : ℕ) (ws : List ℕ) (z : get_or ws stride_at 0 ≡ 0) (n : get_o
   abbrev in_one : Checked → Checked
   in_one = in_other (settings_of ws) 1 (settings_of ws).edition
 
-  head_alike : head_checked not_fit ed one (with_stride (settings_of ws) 1) ≡ in_one (head_checked not_fit ed ws (settings_of ws))
+  head_alike : head_checked NotFit ed one (with_stride (settings_of ws) 1) ≡ in_one (head_checked NotFit ed ws (settings_of ws))
   unfolding head_checked
   head_alike =
       rw (
@@ -134,7 +136,7 @@ stride_one_on_words ed ws cs n =
     record { answers = rw (set-set ws stride_at 0 1) at r.answers; words = rw (set-set ws stride_at 0 1) at r.words }
 
 -- ---- on a new pool
-made_is : (ws : List ℕ) (g : Settings) → settings_fit g ≡ true → needed g ≤ length ws → make_of ws g ≡ out Moving (made_words ws g)
+made_is : (ws : List ℕ) (g : Settings) → settings_fit g ≡ true → needed g ≤ length ws → make_of ws g ≡ out (Ok Moving) (made_words ws g)
 unfolding make_of cond
 made_is ws g limits enough = rw (limits, le-ltb (length ws) (needed g) enough) refl
 

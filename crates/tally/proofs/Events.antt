@@ -21,10 +21,10 @@ use Rattle.rules.specs.Run.{Call, begin_put, begin_take, step, set_size, call_of
 use Rattle.rules.specs.Sequential.{bound_by, demand3_rows, most_passed}
 use Rattle.rules.specs.declared.Settings.{Settings}
 use Rattle.rules.specs.declared.Size.{Size}
-use Rattle.rules.specs.declared.Answer.{Answer}
+use Rattle.rules.specs.Answers.{Answered}
 use Rattle.rules.specs.declared.Side.{Side}
 use Rattle.rules.specs.declared.Side.TheVariants.{Putting, Taking}
-use Rattle.rules.specs.declared.Answer.TheVariants.{Moving, Put, Taken, Empty, Full, Refused}
+use Rattle.rules.specs.declared.Answer.TheVariants.{Moving, Put, Taken, Empty, Full}
 use Rattle.rules.proofs.Corollaries.{within_bound, nothing_lost, stamps_once}
 use Rattle.sizes.proofs.KnownSizes.{sizes_known}
 use Rattle.rules.proofs.BothKinds.{kind_of}
@@ -46,10 +46,11 @@ use Rattle.tally.specs.Tally.{no_tally, bound_in, passed_in, bound_after, tally_
 use Rattle.tally.specs.Bound.{tally_over, with_size, sizes_set, most_in, bound_of}
 use Rattle.tally.specs.declared.Tally.{Tally}
 use Rattle.replay.proofs.Begins.{Late, AllLate, Makes, Opens, Begun, front_begins}
+use Rattle.std.specs.Prelude.{Ok, Err}
 
 -- ---- the calls among the events
 -- what is no call is answered 0
-abbrev pub Quiet : Asked → Answer → Type 0
+abbrev pub Quiet : Asked → Answered → Type 0
 Quiet nothing a = number_of a ≡ 0
 Quiet (making g) a = number_of a ≡ 0
 Quiet (calling c) a = Unit {0}
@@ -68,13 +69,13 @@ late_quiet (x ∷ xs) h = (by (asked_of x.event.item) h.0, late_quiet xs h.1)
 
 -- ---- distances
 -- only a take has a distance
-pub no_distance : (a : Answer) → number_of a ≢ 2 → distance_in a ≡ 0
-no_distance Moving ne = refl
-no_distance (Put value sub row stamp) ne = refl
-no_distance (Taken value sub row stamp distance) ne = absurd (ne refl)
-no_distance Empty ne = refl
-no_distance Full ne = refl
-no_distance (Refused k) ne = refl
+pub no_distance : (a : Answered) → number_of a ≢ 2 → distance_in a ≡ 0
+no_distance (Ok Moving) ne = refl
+no_distance (Ok (Put value sub row stamp)) ne = refl
+no_distance (Ok (Taken value sub row stamp distance)) ne = absurd (ne refl)
+no_distance (Ok Empty) ne = refl
+no_distance (Ok Full) ne = refl
+no_distance (Err k) ne = refl
 
 -- events none of which has a distance above a number
 abbrev pub Close : ℕ → List Happened → Type 0
@@ -89,7 +90,7 @@ Within t (x ∷ xs) = (distance_in x.event.answer ≤ (tally_after t x.event).bo
 abbrev CloseCalls : ℕ → List Event → Type 0
 CloseCalls most es = All (λ (e : Event). distance_in e.answer ≤ most) es
 
-close_more : (most : ℕ) (ws : List ℕ) (a : Answer) (q : Asked) (rest : List Event) → Quiet q a → CloseCalls most (with_call ws q a rest)
+close_more : (most : ℕ) (ws : List ℕ) (a : Answered) (q : Asked) (rest : List Event) → Quiet q a → CloseCalls most (with_call ws q a rest)
     → (distance_in a ≤ most) × CloseCalls most rest
 close_more most ws a nothing rest h c = (omega (arith, no_distance a (λ u. omega arith)), c)
 close_more most ws a (making g) rest h c = (omega (arith, no_distance a (λ u. omega arith)), c)
@@ -150,7 +151,7 @@ unfolding most_in
 most_more size sizes = refl
 
 -- after the pool's word it is raised by the sizes that are set
-bound_late : (bound : ℕ) (item : Saying) (a : Answer) (rest : List Size) → Late (asked_of item) a
+bound_late : (bound : ℕ) (item : Saying) (a : Answered) (rest : List Size) → Late (asked_of item) a
     → max (bound_after bound item (number_of a)) (most_in rest) ≡ max bound (most_in (with_size item a rest))
 bound_late bound (Open opening) a rest h = refl
 bound_late bound (Make g) a rest h = absurd h
@@ -179,7 +180,7 @@ within_fronts t (x ∷ xs) h =
 abbrev SetsAtMost : ℕ → List Event → Type 0
 SetsAtMost most es = (f width depth : ℕ) → (at es f).call ≡ set_size width depth → number_of (at es f).answer ≡ 0 → passed_in (record { width = width; depth = depth }) ≤ most
 
-sets_more : (item : Saying) (a : Answer) (ws : List ℕ) (rest : List Event) (sizes : List Size) → SetsAtMost (most_in sizes) rest
+sets_more : (item : Saying) (a : Answered) (ws : List ℕ) (rest : List Event) (sizes : List Size) → SetsAtMost (most_in sizes) rest
     → SetsAtMost (most_in (with_size item a sizes)) (with_call ws (asked_of item) a rest)
 sets_more (Open opening) a ws rest sizes h f width depth e z = h f width depth e z
 sets_more (Make g) a ws rest sizes h f width depth e z = h f width depth e z

@@ -5,7 +5,7 @@ use Rattle.rules.specs.Answers.{number_of}
 use Rattle.rules.specs.Sequential.{most_passed}
 use Rattle.rules.specs.declared.Settings.{Settings}
 use Rattle.rules.specs.declared.Size.{Size}
-use Rattle.rules.specs.declared.Answer.{Answer}
+use Rattle.rules.specs.Answers.{Answered}
 use Rattle.runfile.specs.declared.item.Item.{Item as Saying}
 use Rattle.runfile.specs.declared.item.Item.TheVariants.{Open, Make, BeginPut, BeginTake, Step, End, SetSize, Bad}
 use Rattle.replay.specs.Replay.{Happened}
@@ -18,7 +18,7 @@ tally_over t [] = t
 tally_over t (x ∷ xs) = tally_over (tally_after t x.event) xs
 
 -- the sizes that were set: those of its size words that were not refused
-abbrev pub with_size : Saying → Answer → List Size → List Size
+abbrev pub with_size : Saying → Answered → List Size → List Size
 with_size (Open opening) a rest = rest
 with_size (Make g) a rest = rest
 with_size (BeginPut worker value) a rest = rest

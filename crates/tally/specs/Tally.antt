@@ -8,7 +8,7 @@ use Rattle.rules.specs.Run.{distance_in}
 use Rattle.rules.specs.Sequential.{most_passed}
 use Rattle.rules.specs.declared.Settings.{Settings}
 use Rattle.rules.specs.declared.Size.{Size}
-use Rattle.rules.specs.declared.Answer.{Answer}
+use Rattle.rules.specs.Answers.{Answered}
 use Rattle.runfile.specs.declared.item.Item.{Item}
 use Rattle.runfile.specs.declared.item.Item.TheVariants.{Open, Make, BeginPut, BeginTake, Step, End, SetSize, Bad}
 use Rattle.replay.specs.Replay.{Event}
@@ -42,7 +42,7 @@ bound_after bound (SetSize width depth) n = cond (n == 0) (max bound (passed_in 
 bound_after bound Bad n = bound
 
 -- 1 put, 2 taken, 3 empty, 4 full; above these are the refusals
-abbrev pub is_refused : Answer → Bool
+abbrev pub is_refused : Answered → Bool
 is_refused a = nat_lt 4 (number_of a)
 
 -- a tally with an event, by a way of counting on where something is so

@@ -30,6 +30,7 @@ use Rattle.turnaround.proofs.Only.{copy_only, copied}
 use Rattle.turnaround.proofs.Words.{edition_word, moved_word}
 use Rattle.turnaround.proofs.Fits.{Movable, source_pool, source_long, few_live}
 use Rattle.turnaround.proofs.Moved.{new_zero, moved_is, move_accepted, move_accepts}
+use Rattle.std.specs.Prelude.{Ok}
 
 -- ---- where a needed word lies
 data Part (g : Settings) (m : ℕ) : Type 0 where
@@ -86,7 +87,7 @@ module _ (b : ℕ) (from : List ℕ) (g : Settings) (middle to : List ℕ) (old 
   movable_back : Movable g.edition there h to
   movable_back = record { fit = there_is.fit_after; leads_on = leads_back g.edition b on.leads_on; may = may; long = back }
 
-  goes_back : move_of b g.edition there to ≡ out Moving again
+  goes_back : move_of b g.edition there to ≡ out (Ok Moving) again
   goes_back = move_accepts g.edition there h to movable_back
 
   again_is_moved : Moved b g.edition there h to again
@@ -126,8 +127,8 @@ module _ (b : ℕ) (from : List ℕ) (g : Settings) (middle to : List ℕ) (old 
         beyond : Beyond (needed g) to again
         beyond = again_is_moved.beyond
 
-    pub there_and_back : move_of b g.edition there to ≡ out Moving (paste to 0 ws (needed g))
-    there_and_back = goes_back ∙ ap (out Moving) again_is
+    pub there_and_back : move_of b g.edition there to ≡ out (Ok Moving) (paste to 0 ws (needed g))
+    there_and_back = goes_back ∙ ap (out (Ok Moving)) again_is
 
 -- what the pool that was moved on has of a worker, where the editions have it
 pub word_kept : (b : ℕ) (from : List ℕ) (g : Settings) (middle : List ℕ) → Movable b from g middle
@@ -156,7 +157,7 @@ old_to_new_to_old from middle to none long =
     let few = words_none g.edition zero in
     let same = there_and_back 1 from g middle to old on long (may_low _ (in_edition 1 g) g (omega arith) old) from (source_long 1 from g middle on) (λ m l. refl)
     (λ i k l a. sym (word_kept 1 from g middle on i k l a (word_lt 1 k (omega arith)))) (λ m l. refl) in
-    rw w.is (subst (λ (a : ℕ). move_of 1 a (moved_words from g middle (in_edition 1 g)) to ≡ out Moving (paste to 0 from (needed g))) zero same)
+    rw w.is (subst (λ (a : ℕ). move_of 1 a (moved_words from g middle (in_edition 1 g)) to ≡ out (Ok Moving) (paste to 0 from (needed g))) zero same)
 
 -- ---- without cards
 module _ (from : List ℕ) (g : Settings) (cards : lost_word < worker_words g.edition) where
@@ -207,4 +208,4 @@ new_to_old_to_new from middle to none long =
     let same = there_and_back 0 from g middle to old on long (may_low _ (in_edition 0 g) g (omega arith) old) ws (rw (without_long from g cards g.workers) enough)
     (λ m l. without_off from g cards g.workers m (λ i a u. omega arith)) word
     (λ m l. without_off from g cards g.workers _ (λ i a u. omega (arith, worker_within g i a))) in
-    rw w.is (subst (λ (a : ℕ). move_of 0 a there to ≡ out Moving (paste to 0 ws (needed g))) one same)
+    rw w.is (subst (λ (a : ℕ). move_of 0 a there to ≡ out (Ok Moving) (paste to 0 ws (needed g))) one same)

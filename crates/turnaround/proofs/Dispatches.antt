@@ -13,12 +13,11 @@ use Rattle.rounds.specs.Dispatch.{DispatchOut, worker_after, busy_from, turn_fro
 use Rattle.rules.specs.Run.{step, call_of}
 use Rattle.rules.specs.Make.{in_edition}
 use Rattle.turnaround.specs.Turnaround.{SamePool, DispatchInStep, DispatchLockstep}
-use Rattle.rules.specs.declared.Turn.{Turn}
-use Rattle.rules.specs.declared.Turn.TheVariants.{NoneBusy, Worker}
 use Rattle.turnaround.proofs.Types.{Settings}
 use Rattle.rules.proofs.Fitness.{fit_pool}
 use Rattle.turnaround.proofs.Stores.{OnePool}
 use Rattle.turnaround.proofs.InStep.{number_same, found, checked_both, call_both}
+use Rattle.std.specs.Prelude.{None, Option, Some}
 
 module _ (g : Settings) (e : ℕ) where
   abbrev h : Settings
@@ -35,9 +34,9 @@ module _ (g : Settings) (e : ℕ) where
   abbrev Both : DispatchOut → DispatchOut → Type 0
   Both one two = DispatchInStep g one h two
 
-  if_busy_law : (ws vs : List ℕ) → OnePool g e ws vs → (t : Turn) (f f' : ℕ → DispatchOut) → ((j : ℕ) → Both (f j) (f' j)) → Both (if_busy ws t f) (if_busy vs t f')
-  if_busy_law ws vs pool NoneBusy f f' go = record { result = refl; later = pool }
-  if_busy_law ws vs pool (Worker j) f f' go = go j
+  if_busy_law : (ws vs : List ℕ) → OnePool g e ws vs → (t : Option ℕ) (f f' : ℕ → DispatchOut) → ((j : ℕ) → Both (f j) (f' j)) → Both (if_busy ws t f) (if_busy vs t f')
+  if_busy_law ws vs pool None f f' go = record { result = refl; later = pool }
+  if_busy_law ws vs pool (Some j) f f' go = go j
 
   turns_both : (k i : ℕ) (ws vs : List ℕ) → OnePool g e ws vs → i < g.workers → Both (turns_of ws g i k) (turns_of vs h i k)
   unfolding turns_of after_step call_of

@@ -10,7 +10,7 @@ use lib.Dec.{leb}
 use borrow.Author.Tests.{le-ltb, leb-false, eq-eqb}
 use Rattle.laws.specs.Choice.{cond, cond_true, cond_both, cond_under}
 use Rattle.laws.specs.Wrap.{sub32}
-use Rattle.rules.specs.Answers.{Out, not_fit, refuse}
+use Rattle.rules.specs.Answers.{Out, refuse}
 use Rattle.rules.specs.Layout.{head_words, steps_at, puts_at, top_at, mark_at, first_at, second_at, worker_at, index_at, phase_word, index_word, cell_words, cell_of, cells_at, needed}
 use Rattle.rules.specs.Limits.{windowed, Bounds, settings_fit}
 use Rattle.rules.specs.Fit.{Checked, Unfit, Fit, body_checked, head_checked, checked_by, checked_of, FitPool}
@@ -33,6 +33,8 @@ use Rattle.rules.proofs.Hops.{hops_same}
 use Rattle.strides.proofs.Alike.{Alike, in_other, measures_alike, rule_same, view_same, held_same, taken_same, body_same}
 use Rattle.strides.proofs.Checked.{checked_call, call_is, unfit_call}
 use Rattle.turnaround.proofs.Stores.{windowed_old, shared, reads, sub_stored, shifted_stored, raised_stored, dropped_stored, slot_stored, worker_stored, landed_stored, counted_stored}
+use Rattle.rules.specs.declared.Refusal.TheVariants.{NotFit}
+use Rattle.rules.specs.declared.Refusal.{Refusal}
 
 -- ---- what is read
 module _ (g : Settings) (e : ℕ) (ws vs : List ℕ) (pool : SamePool g ws (in_edition e g) vs) where
@@ -78,7 +80,7 @@ module _ (g : Settings) (e : ℕ) (ws vs : List ℕ) (pool : SamePool g ws (in_e
     pub answer : two.answer ≡ one.answer
     pub later : SamePool g one.words h two.words
 
-  refused_both : (n : ℕ) → Both (refuse n ws) (refuse n vs)
+  refused_both : (n : Refusal) → Both (refuse n ws) (refuse n vs)
   refused_both n = record { answer = refl; later = pool }
 
   module _ (fit : FitPool g ws) (i : ℕ) (li : i < g.workers) where
@@ -138,7 +140,7 @@ module _ (g : Settings) (e : ℕ) (ws vs : List ℕ) (pool : SamePool g ws (in_e
   -- a size is refused in both
   size_fit_law : (width depth : ℕ) → Both (fit_set_size ws g (record { width = width; depth = depth })) (fit_set_size vs h (record { width = width; depth = depth }))
   unfolding fit_set_size cond
-  size_fit_law width depth = rw (windowed_old h pool.old_two, windowed_old g pool.old_one) (refused_both not_fit)
+  size_fit_law width depth = rw (windowed_old h pool.old_two, windowed_old g pool.old_one) (refused_both NotFit)
 
   fit_both : FitPool g ws → (c : Call) → Both (checked_call ws (Fit g) c) (checked_call vs (Fit h) c)
   unfolding checked_begin checked_step checked_set_size
@@ -159,7 +161,7 @@ module _ (g : Settings) (e : ℕ) (ws vs : List ℕ) (pool : SamePool g ws (in_e
   unfolding settings_fit
   limits_both = rw none_sized refl
 
-  head_both : head_checked not_fit e vs h ≡ found (head_checked not_fit g.edition ws g)
+  head_both : head_checked NotFit e vs h ≡ found (head_checked NotFit g.edition ws g)
   unfolding head_checked
   head_both =
       rw (
@@ -168,8 +170,8 @@ module _ (g : Settings) (e : ℕ) (ws vs : List ℕ) (pool : SamePool g ws (in_e
         eq-eqb e e refl,
         eq-eqb g.edition g.edition refl,
         cond_under found (settings_fit (in_edition g.edition g)) _ _,
-        cond_true (found (body_checked ws g)) (Unfit not_fit),
-        cond_true (body_checked ws g) (Unfit not_fit),
+        cond_true (found (body_checked ws g)) (Unfit NotFit),
+        cond_true (body_checked ws g) (Unfit NotFit),
       )
       refl
 

@@ -9,7 +9,7 @@ use lib.ListN.{length}
 use lib.Dec.{ltb, eqb}
 use borrow.Author.Tests.{le-ltb, ltb-false, ne_eqb}
 use Rattle.laws.specs.Choice.{cond, cases, both}
-use Rattle.rules.specs.Answers.{Out, out, refuse, number_of, too_few_words, wrong_edition, excepted, not_fit}
+use Rattle.rules.specs.Answers.{Out, out, refuse, number_of}
 use Rattle.rules.specs.Layout.{settings_of, bottom_word, width_word, needed}
 use Rattle.rules.specs.Fit.{past_window, Checked, Unfit, Fit, source_checked, refusal_of}
 use Rattle.rules.specs.Make.{in_edition}
@@ -25,6 +25,8 @@ use Rattle.untouched.proofs.Untouched.{unchanged}
 use Rattle.turnaround.proofs.Words.{head_word, cell_word, moved_beyond, moved_long, moved_settings, kept_word, new_word_law, low_words}
 use Rattle.turnaround.proofs.May.{may_on, own_few}
 use Rattle.turnaround.proofs.Fits.{Movable, source_pool, source_long, few_live, fit_moved}
+use Rattle.std.specs.Prelude.{Ok}
+use Rattle.rules.specs.declared.Refusal.TheVariants.{Excepted, NotFit, TooFewWords, WrongEdition}
 
 -- ---- the words
 -- before edition 2 no new word of a worker is given anything
@@ -77,17 +79,17 @@ module _ (b : ℕ) (from : List ℕ) (g : Settings) (to : List ℕ) (m : Movable
 pub record MoveAccepted (a b : ℕ) (from to : List ℕ) : Type 0 where
   pub edition : (settings_of from).edition ≡ a
   pub movable : Movable b from (settings_of from) to
-  pub is : move_of a b from to ≡ out Moving (moved_words from (settings_of from) to (in_edition b (settings_of from)))
+  pub is : move_of a b from to ≡ out (Ok Moving) (moved_words from (settings_of from) to (in_edition b (settings_of from)))
 
 -- the pool moves, and the target was long enough
 fit_accepted : (from : List ℕ) (g : Settings) (to : List ℕ) (h : Settings) → number_of (fit_move from g to h).answer ≡ 0
-    → (may_move from g h ≡ true) × (needed h ≤ length to) × (fit_move from g to h ≡ out Moving (moved_words from g to h))
+    → (may_move from g h ≡ true) × (needed h ≤ length to) × (fit_move from g to h ≡ out (Ok Moving) (moved_words from g to h))
 unfolding fit_move cond
 fit_accepted from g to h none = by (may_move from g h) (ltb (length to) (needed h)) refl none
   where
     by : (may t : Bool) → ltb (length to) (needed h) ≡ t
-        → number_of (cond may (cond t (refuse too_few_words to) (out Moving (moved_words from g to h))) (refuse excepted to)).answer ≡ 0
-        → (may ≡ true) × (needed h ≤ length to) × (cond may (cond t (refuse too_few_words to) (out Moving (moved_words from g to h))) (refuse excepted to) ≡ out Moving (moved_words from g to h))
+        → number_of (cond may (cond t (refuse TooFewWords to) (out (Ok Moving) (moved_words from g to h))) (refuse Excepted to)).answer ≡ 0
+        → (may ≡ true) × (needed h ≤ length to) × (cond may (cond t (refuse TooFewWords to) (out (Ok Moving) (moved_words from g to h))) (refuse Excepted to) ≡ out (Ok Moving) (moved_words from g to h))
     by false t e z = absurd (omega arith)
     by true true e z = absurd (omega arith)
     by true false e z = (refl, ltb-false _ _ e, refl)
@@ -102,7 +104,7 @@ between : (a b : ℕ) (from to : List ℕ) → number_of (move_of a b from to).a
 unfolding move_of cond
 between a b from to none = by (leads a b) none
   where
-    by : (t : Bool) → number_of (cond t (checked_move b from (source_checked a from) to) (refuse wrong_edition to)).answer ≡ 0 → t ≡ true
+    by : (t : Bool) → number_of (cond t (checked_move b from (source_checked a from) to) (refuse WrongEdition to)).answer ≡ 0 → t ≡ true
     by true z = refl
     by false z = absurd (omega arith)
 
@@ -117,8 +119,8 @@ move_accepted a b from to none =
     let t = between a b from to none in
     let is = move_between a b from to t in
     let zero : number_of (checked_move b from (source_checked a from) to).answer ≡ 0 = rw is at none in
-    let found : source_checked a from ≡ Fit g = refusal_none_by wrong_edition a from (omega arith) (refusal_of_law b from to (source_checked a from) zero) in
-    let fit = fit_with_other wrong_edition not_fit a from g found in
+    let found : source_checked a from ≡ Fit g = refusal_none_by WrongEdition a from (refusal_of_law b from to (source_checked a from) zero) in
+    let fit = fit_with_other WrongEdition NotFit a from g found in
     let own = (fit_head a from g fit).1 in
     let moves = fit_accepted from g to (in_edition b g) (rw found at zero) in
     record {
@@ -134,11 +136,11 @@ move_accepted a b from to none =
 
 -- and the other way round
 pub move_accepts : (b : ℕ) (from : List ℕ) (g : Settings) (to : List ℕ) → Movable b from g to
-    → move_of g.edition b from to ≡ out Moving (moved_words from g to (in_edition b g))
+    → move_of g.edition b from to ≡ out (Ok Moving) (moved_words from g to (in_edition b g))
 unfolding checked_move fit_move cond
 move_accepts b from g to m =
     move_between g.edition b from to m.leads_on
-    ∙ (rw (fit_with_other not_fit wrong_edition g.edition from g m.fit, m.may, le-ltb (length to) (needed (in_edition b g)) m.long) refl)
+    ∙ (rw (fit_with_other NotFit WrongEdition g.edition from g m.fit, m.may, le-ltb (length to) (needed (in_edition b g)) m.long) refl)
 
 pub move_does : MoveDoes
 move_does a b from to none =
@@ -168,6 +170,6 @@ move_keeps a b from to =
     go : (k : Checked) → source_checked a from ≡ k → Beyond (needed (in_edition b (settings_of from))) to (checked_move b from k to).words
     go (Unfit n) e = unchanged _ to
     go (Fit g) e =
-        let pool = fit_pool a from g (fit_with_other wrong_edition not_fit a from g e) in
+        let pool = fit_pool a from g (fit_with_other WrongEdition NotFit a from g e) in
         subst (λ (h : Settings). Beyond (needed (in_edition b h)) to (fit_move from g to (in_edition b g)).words) (sym pool.settings)
         (fit_keeps b from g to pool.enough)

@@ -34,6 +34,7 @@ use Rattle.turnaround.proofs.Words.{new_word_law, first_kept, second_kept, moved
 use Rattle.turnaround.proofs.Fits.{Movable, source_pool, source_long, few_live, goes_on_law, slots_moved}
 use Rattle.turnaround.proofs.Moved.{move_accepted}
 use Rattle.turnaround.proofs.Back.{word_kept, there_and_back}
+use Rattle.std.specs.Prelude.{Ok}
 
 -- a worker that has not looked at the window is given none
 window_none : (g : Settings) (o : Slot) (k : ℕ) → past_window o.number ≡ false → new_word g o k ≡ 0
@@ -178,4 +179,4 @@ one_to_two_to_one from middle to none long =
     let eleven = words_two 2 (omega arith) in
     let same = there_and_back 2 from g middle to (omega arith) on long (goes_back from g middle on one) from (source_long 2 from g middle on) (λ m l. refl)
     (λ i k l a. sym (word_kept 2 from g middle on i k l a (omega arith))) (λ m l. refl) in
-    rw w.is (subst (λ (a : ℕ). move_of 2 a (moved_words from g middle (in_edition 2 g)) to ≡ out Moving (paste to 0 from (needed g))) one same)
+    rw w.is (subst (λ (a : ℕ). move_of 2 a (moved_words from g middle (in_edition 2 g)) to ≡ out (Ok Moving) (paste to 0 from (needed g))) one same)

@@ -1,11 +1,11 @@
 -- Paper 02, K6 and K8, a move: "Move edition 0 to 1 and back, between two lent word areas. Forward, the new words are zero; backward, they are dropped."
 -- "Pools move on from edition 1", to edition 2, "except a line" of some sorts; "they move back only if" nothing is lost. The source is only read. A move is one
 -- from an edition `a` to an edition `b`: `move_of 0 1`, `move_of 1 0`, `move_of 1 2` and `move_of 2 1` are the four that ship.
-use Rattle.std.specs.Prelude.{ℕ, zero, suc, ◌+◌, ◌-◌, ◌*◌, ◌/◌, ◌%◌, ◌≤◌, ◌<◌, ◌≡◌, Bool, true, List, [], ◌∷◌, get_or, set, drop, length, ltb, leb, eqb}
+use Rattle.std.specs.Prelude.{ℕ, zero, suc, ◌+◌, ◌-◌, ◌*◌, ◌/◌, ◌%◌, ◌≤◌, ◌<◌, ◌≡◌, Bool, true, List, [], ◌∷◌, get_or, set, drop, length, ltb, leb, eqb, Ok}
 use Rattle.std.proofs.Math.Seq.{paste}
 use Rattle.std.proofs.lemmas.List.Edits.{sets}
 use Rattle.laws.specs.Choice.{cond, both, all, all_below}
-use Rattle.rules.specs.Answers.{Out, out, refuse, too_few_words, wrong_edition, excepted}
+use Rattle.rules.specs.Answers.{Out, out, refuse, excepted}
 use Rattle.rules.specs.Layout.{top_at, mark_at, edition_at, first_of, second_of, worker_words, workers_at, worker_at, phase_at, window_at, cell_words, cells_at, windows_at, set_at, pair_at, windows_words, needed}
 use Rattle.rules.specs.Limits.{Bounds, most_live}
 use Rattle.rules.specs.Windows.{has_windows, next_size, live_of, nth_size}
@@ -17,6 +17,7 @@ use Rattle.rules.specs.declared.Settings.{Settings}
 use Rattle.rules.specs.declared.Size.{Size}
 use Rattle.rules.specs.declared.Slot.{Slot}
 use Rattle.rules.specs.declared.Answer.TheVariants.{Moving}
+use Rattle.rules.specs.declared.Refusal.TheVariants.{Excepted, TooFewWords, WrongEdition}
 
 -- ---- which pools move
 -- an edition on, or one back, up to the edition of the shipped calls
@@ -132,7 +133,7 @@ pub record Areas (from : List ℕ) (g : Settings) (to : List ℕ) (h : Settings)
 -- "any other move back, or an excepted move on, with 33 after the source's fitness"; "then the target's length"
 unfoldable pub fit_move : List ℕ → Settings → List ℕ → Settings → Out
 fit_move from g to h =
-    cond (may_move from g h) (cond (ltb (length to) (needed h)) (refuse too_few_words to) (out Moving (moved_words from g to h))) (refuse excepted to)
+    cond (may_move from g h) (cond (ltb (length to) (needed h)) (refuse TooFewWords to) (out (Ok Moving) (moved_words from g to h))) (refuse Excepted to)
 
 unfoldable pub checked_move : ℕ → List ℕ → Checked → List ℕ → Out
 checked_move b from (Unfit n) to = refuse n to
@@ -140,4 +141,4 @@ checked_move b from (Fit g) to = fit_move from g to (in_edition b g)
 
 -- the answer, and the target's words: "A move answers 0 and leaves the source as it was". No move leads past an edition
 unfoldable pub move_of : ℕ → ℕ → List ℕ → List ℕ → Out
-move_of a b from to = cond (leads a b) (checked_move b from (source_checked a from) to) (refuse wrong_edition to)
+move_of a b from to = cond (leads a b) (checked_move b from (source_checked a from) to) (refuse WrongEdition to)

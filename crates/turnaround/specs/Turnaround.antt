@@ -2,7 +2,7 @@
 -- and edition 1 give the same answers to the same later begins and steps." The move itself is in specs/Move; the rules before K5 are the same
 -- definitions at edition 0. What is said of going on in step speaks of these two editions, in which every window has the pool's own size. With moves to
 -- edition 2 and back (K8) answers may differ, and what goes on holding, demand 3 first, is said of the run over all moves itself, at the end.
-use Rattle.std.specs.Prelude.{ℕ, zero, suc, ◌+◌, ◌*◌, ◌≤◌, ◌<◌, ◌≡◌, ◌≢◌, Bool, true, List, [], ◌∷◌, ◌++◌, get_or, set, length, eqb}
+use Rattle.std.specs.Prelude.{ℕ, zero, suc, ◌+◌, ◌*◌, ◌≤◌, ◌<◌, ◌≡◌, ◌≢◌, Bool, true, List, [], ◌∷◌, ◌++◌, get_or, set, length, eqb, Ok}
 use Rattle.std.proofs.Math.Seq.{paste}
 use Rattle.laws.specs.Choice.{cond}
 use Rattle.rules.specs.Answers.{Out, out, number_of}
@@ -76,7 +76,7 @@ MoveKeeps = (a b : ℕ) (from to : List ℕ) → Beyond (needed (in_edition b (s
 abbrev pub OldToNewToOld : Type 0
 OldToNewToOld =
     (from middle to : List ℕ) → number_of (move_of 0 1 from middle).answer ≡ 0 → needed (settings_of from) ≤ length to
-    → move_of 1 0 (move_of 0 1 from middle).words to ≡ out Moving (paste to 0 from (needed (settings_of from)))
+    → move_of 1 0 (move_of 0 1 from middle).words to ≡ out (Ok Moving) (paste to 0 from (needed (settings_of from)))
 
 -- the words with the first n workers' cards 0
 unfoldable pub without_cards : List ℕ → Settings → ℕ → List ℕ
@@ -88,7 +88,7 @@ abbrev pub NewToOldToNew : Type 0
 NewToOldToNew =
     (from middle to : List ℕ) → number_of (move_of 1 0 from middle).answer ≡ 0 → needed (settings_of from) ≤ length to
     → move_of 0 1 (move_of 1 0 from middle).words to
-    ≡ out Moving (paste to 0 (without_cards from (settings_of from) (settings_of from).workers) (needed (settings_of from)))
+    ≡ out (Ok Moving) (paste to 0 (without_cards from (settings_of from) (settings_of from).workers) (needed (settings_of from)))
 
 -- ---- in step
 -- the same calls on one pool in two areas have the same answers, one by one, refusals included, and leave one pool

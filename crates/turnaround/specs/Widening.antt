@@ -1,7 +1,7 @@
 -- Paper 02, K8, its moves as facts about their words: "Forward, a line's next size, each live window and the seen window of a worker past its window phase get
 -- the pool's sizes, all else is kept and other new words are zero; backward, what edition 1 hasn't is dropped. Edition 1 to 2 to 1 gives the needed words
 -- exactly". Which pools move, and the moves, are in specs/Move; what every move keeps is in specs/Turnaround (`Moved`).
-use Rattle.std.specs.Prelude.{ℕ, ◌+◌, ◌-◌, ◌*◌, ◌≤◌, ◌<◌, ◌≡◌, ◌≢◌, true, false, List, get_or, length}
+use Rattle.std.specs.Prelude.{ℕ, ◌+◌, ◌-◌, ◌*◌, ◌≤◌, ◌<◌, ◌≡◌, ◌≢◌, true, false, List, get_or, length, Ok}
 use Rattle.std.proofs.Math.Seq.{paste}
 use Rattle.rules.specs.Answers.{out, number_of}
 use Rattle.rules.specs.Layout.{top_at, mark_at, settings_of, phase_at, window_at, bottom_at, seen_width_at, worker_at, windows_at, windows_words, set_at, needed}
@@ -48,4 +48,4 @@ MoveOnGives =
 abbrev pub OneToTwoToOne : Type 0
 OneToTwoToOne =
     (from middle to : List ℕ) → number_of (move_of 1 2 from middle).answer ≡ 0 → needed (settings_of from) ≤ length to
-    → move_of 2 1 (move_of 1 2 from middle).words to ≡ out Moving (paste to 0 from (needed (settings_of from)))
+    → move_of 2 1 (move_of 1 2 from middle).words to ≡ out (Ok Moving) (paste to 0 from (needed (settings_of from)))

@@ -7,16 +7,16 @@ use Rattle.rounds.specs.Dispatch.{dispatched, checked_dispatch, fit_dispatch, di
 use Rattle.rules.proofs.Fitness.{fit_pool, fit_head, refusal_none, refusal_some, fit_own}
 use Rattle.rules.specs.declared.Settings.{Settings}
 use Rattle.rules.specs.Layout.{settings_of}
-use Rattle.rules.specs.declared.Dispatched.TheVariants.{Refused}
 use Rattle.rules.specs.Make.{shipped}
 use Rattle.dispatcher.proofs.dispatch.Goals as goal
+use Rattle.std.specs.Prelude.{Err}
 
 pub returns-then-n-ne0 : goal.returns-then-n-ne0
 unfolding dispatch_of checked_dispatch
 returns-then-n-ne0 c =
     let a = c.args in
     let e = c.refusal-n.ensures in
-    ap (λ (m : ℕ). dispatched (Refused m) a.words.now) e
+    ap (λ (m : ℕ). dispatched (Err m) a.words.now) e
     ∙ ap (λ (k : Checked). checked_dispatch a.words.now k a.worker a.steps) (sym (refusal_some shipped a.words.now (λ z. c.if-n-ne0.true (e ∙ z))))
 
 pub shipped_settings-g-requires : goal.shipped_settings-g-requires

@@ -5,7 +5,6 @@ use Rattle.rounds.proofs.Loop.{stays_fit, left_settings, turns_left, turns_over}
 use Rattle.rounds.proofs.Turns.{has_turn, turns_none, turns_out}
 use Rattle.rules.proofs.machine.Slots.{has_queue}
 use Rattle.rules.proofs.Fitness.{fit_pool}
-use Rattle.rules.specs.declared.Turn.TheVariants.{Worker}
 use Rattle.rounds.specs.Dispatch.{dispatched, turn_from}
 use Rattle.rules.specs.Fit.{Fit, checked_of}
 use native.Mathlib.Omega.{arith}
@@ -13,6 +12,7 @@ use native.Mathlib.Nat.{mod-lt}
 use mathlib.Core.Path.{◌≡◌, sym, ap, subst, ◌∙◌}
 use Prim.Native.Nat.{ℕ}
 use Rattle.dispatcher.proofs.turns.Goals as goal
+use Rattle.std.specs.Prelude.{Some}
 
 pub turn_from-t-requires-clause-bounds : goal.turn_from-t-requires-clause-bounds
 turn_from-t-requires-clause-bounds c = let l = c.loop-left in let p = fit_pool _ _ _ l.invariant.2 in p.bounds
@@ -39,7 +39,7 @@ next_answer-n-requires c =
 
 pub returns-then-n-ne0 : goal.returns-then-n-ne0
 returns-then-n-ne0 c =
-    let turn : let l = c.loop-left in turn_from l.words c.args.g l.i ≡ Worker c.in-Worker.j = (sym c.turn_from-t.ensures ∙ c.in-Worker.is) in
+    let turn : let l = c.loop-left in turn_from l.words c.args.g l.i ≡ Some c.in-Worker.j = (sym c.turn_from-t.ensures ∙ c.in-Worker.is) in
     let l = c.loop-left in
     ap (λ r. dispatched r c.next_answer-n.new.words) c.ended.ensures
     ∙ turns_over l.words _ l.invariant.2 l.i _ l.left c.loop-left-test.true turn c.next_answer-n.ensures c.if-n-ne0.true
@@ -47,7 +47,7 @@ returns-then-n-ne0 c =
 
 pub overflow_add-i : goal.overflow_add-i
 overflow_add-i c =
-    let turn : let l = c.loop-left in turn_from l.words c.args.g l.i ≡ Worker c.in-Worker.j = (sym c.turn_from-t.ensures ∙ c.in-Worker.is) in
+    let turn : let l = c.loop-left in turn_from l.words c.args.g l.i ≡ Some c.in-Worker.j = (sym c.turn_from-t.ensures ∙ c.in-Worker.is) in
     let l = c.loop-left in
     let g = c.args.g in
     omega (arith, (has_turn l.words g l.i _ l.invariant.1 turn).among, (fit_pool _ l.words g l.invariant.2).bounds.workers32)
@@ -77,7 +77,7 @@ stopped-requires-clause-words_value c =
 
 pub returns-then-m-ne0 : goal.returns-then-m-ne0
 returns-then-m-ne0 c =
-    let turn : let l = c.loop-left in turn_from l.words c.args.g l.i ≡ Worker c.in-Worker.j = (sym c.turn_from-t.ensures ∙ c.in-Worker.is) in
+    let turn : let l = c.loop-left in turn_from l.words c.args.g l.i ≡ Some c.in-Worker.j = (sym c.turn_from-t.ensures ∙ c.in-Worker.is) in
     let l = c.loop-left in
     c.stopped.ensures
     ∙ turns_left l.words _ l.invariant.2 l.i _ l.left c.loop-left-test.true turn c.next_answer-n.ensures c.if-n-ne0.false
@@ -85,7 +85,7 @@ returns-then-m-ne0 c =
 
 pub loop-left-preserved : goal.loop-left-preserved
 loop-left-preserved c =
-    let turn : let l = c.loop-left in turn_from l.words c.args.g l.i ≡ Worker c.in-Worker.j = (sym c.turn_from-t.ensures ∙ c.in-Worker.is) in
+    let turn : let l = c.loop-left in turn_from l.words c.args.g l.i ≡ Some c.in-Worker.j = (sym c.turn_from-t.ensures ∙ c.in-Worker.is) in
     let l = c.loop-left in
     let g = c.args.g in
     let zero = c.if-n-ne0.false in

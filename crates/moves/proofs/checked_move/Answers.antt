@@ -3,7 +3,7 @@ use mathlib.Core.Path.{◌≡◌, ap, sym, ◌∙◌}
 use mathlib.Core.List.{List}
 use Prim.Native.Nat.{ℕ}
 use native.Mathlib.Omega.{arith}
-use Rattle.rules.specs.Answers.{refuse, not_fit, wrong_edition}
+use Rattle.rules.specs.Answers.{refuse}
 use Rattle.rules.specs.Fit.{Checked, Fit, source_checked, refusal_of, FitPool}
 use Rattle.rules.specs.Layout.{settings_of}
 use Rattle.rules.specs.Make.{in_edition}
@@ -11,13 +11,14 @@ use Rattle.turnaround.specs.Move.{fit_move, checked_move}
 use Rattle.rules.specs.declared.Settings.{Settings}
 use Rattle.rules.proofs.Fitness.{refusal_none_by, refusal_some_by, fit_with_other, fit_pool}
 use Rattle.moves.proofs.checked_move.Goals as goal
+use Rattle.rules.specs.declared.Refusal.TheVariants.{NotFit, WrongEdition}
 
 -- a source that is not refused is a fit pool
 source_none : (e : ℕ) (from : List ℕ) → refusal_of (source_checked e from) ≡ 0 → source_checked e from ≡ Fit (settings_of from)
-source_none e from = refusal_none_by wrong_edition e from (omega arith)
+source_none e from = refusal_none_by WrongEdition e from
 
 source_fit : (e : ℕ) (from : List ℕ) → refusal_of (source_checked e from) ≡ 0 → FitPool (settings_of from) from
-source_fit e from z = fit_pool e from (settings_of from) (fit_with_other wrong_edition not_fit e from (settings_of from) (source_none e from z))
+source_fit e from z = fit_pool e from (settings_of from) (fit_with_other WrongEdition NotFit e from (settings_of from) (source_none e from z))
 
 -- and one that is refused gives its number, whatever the target is
 source_some : (e b n : ℕ) (from to : List ℕ) → n ≡ refusal_of (source_checked e from) → ¬ (n ≡ 0) → refuse n to ≡ checked_move b from (source_checked e from) to

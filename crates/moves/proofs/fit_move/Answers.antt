@@ -7,7 +7,7 @@ use mathlib.Core.List.{List}
 use borrow.Author.Tests.{le-ltb, lt-ltb}
 use lib.ListN.{length}
 use Rattle.laws.specs.Choice.{cond}
-use Rattle.rules.specs.Answers.{out, refuse, too_few_words, excepted}
+use Rattle.rules.specs.Answers.{out, refuse}
 use Rattle.rules.specs.Layout.{needed}
 use Rattle.rules.specs.Make.{in_edition}
 use Rattle.turnaround.specs.Move.{may_move, moved_words, fit_move}
@@ -15,18 +15,20 @@ use Rattle.rules.specs.declared.Answer.TheVariants.{Moving}
 use Rattle.rules.specs.declared.Settings.{Settings}
 use Rattle.turnaround.proofs.May.{may_on}
 use Rattle.moves.proofs.fit_move.Goals as goal
+use Rattle.std.specs.Prelude.{Ok}
+use Rattle.rules.specs.declared.Refusal.TheVariants.{Excepted, TooFewWords}
 
 -- the three ways
 module _ (from : List ℕ) (g : Settings) (to : List ℕ) (h : Settings) where
-  short : may_move from g h ≡ true → length to < needed h → refuse too_few_words to ≡ fit_move from g to h
+  short : may_move from g h ≡ true → length to < needed h → refuse TooFewWords to ≡ fit_move from g to h
   unfolding fit_move cond
   short may l = rw (may, lt-ltb (length to) (needed h) l) refl
 
-  long : may_move from g h ≡ true → needed h ≤ length to → out Moving (moved_words from g to h) ≡ fit_move from g to h
+  long : may_move from g h ≡ true → needed h ≤ length to → out (Ok Moving) (moved_words from g to h) ≡ fit_move from g to h
   unfolding fit_move cond
   long may l = rw (may, le-ltb (length to) (needed h) l) refl
 
-  not_moved : may_move from g h ≡ false → refuse excepted to ≡ fit_move from g to h
+  not_moved : may_move from g h ≡ false → refuse Excepted to ≡ fit_move from g to h
   unfolding fit_move cond
   not_moved may = rw may refl
 
@@ -59,7 +61,7 @@ pub returns-then-may_move : goal.returns-then-may_move
 returns-then-may_move c =
     let a = c.args in
     let edition = c.in_edition-h.ensures in
-    ap (λ (ws : List ℕ). out Moving ws) (c.move_words.ensures ∙ ap (λ (h : Settings). moved_words a.from.now a.g a.to.now h) edition)
+    ap (λ (ws : List ℕ). out (Ok Moving) ws) (c.move_words.ensures ∙ ap (λ (h : Settings). moved_words a.from.now a.g a.to.now h) edition)
     ∙ long a.from.now a.g a.to.now (in_edition a.edition a.g)
     (may_is a.from.now a.g edition c.may_move.ensures c.if-may_move.true)
     (rw (needs_is edition c.words_needed.ensures) at c.if-to-words_needed.false)

@@ -13,7 +13,6 @@ use lib.Dec.{ltb, leb, eqb}
 use borrow.Author.Tests.{ltb-true, leb-false, eqb-true, eqb-false}
 use Rattle.laws.specs.Choice.{cond, cases, both, both_true}
 use Rattle.laws.specs.Wrap.{add32, sub32}
-use Rattle.rules.specs.Answers.{not_fit, worker_idle}
 use Rattle.rules.specs.Limits.{windowed, most_live, Bounds, step_limit}
 use Rattle.rules.specs.Windows.{has_windows, size_of, own_sizes, span_of, higher, level_of}
 use Rattle.rules.specs.Fit.{phase_fit, seen_fit, SizeFits}
@@ -39,6 +38,7 @@ use Rattle.rules.proofs.machine.Machine.{State, sizes_in, sub_in, view_in, apply
 use Rattle.rules.proofs.machine.Phases.{SpanTold, OfQueue, OfStack, WindowIn, scan_in}
 use Rattle.rules.proofs.machine.Turns.{Common, few_rows, LiveFits, ItemIn, Counts}
 use Rattle.rules.proofs.machine.Slots.{OfKind, phase_from, of_both, InSpan, Blank, has_windows_law, has_none, windowed_none, has_queue, PhaseFits, encode_fits, encode_blank, span_from, Working, encode_busy}
+use Rattle.rules.specs.declared.Refusal.TheVariants.{NotFit, WorkerIdle}
 
 -- no item came or went
 pub record SameItems (v : View) (e : Effect) : Type 0 where
@@ -107,7 +107,7 @@ pub record Drops (g : Settings) (v : View) (e : Effect) : Type 0 where
   pub below : v.mark < v.top
 
 abbrev pub SharedAfter : Settings → View → (ℕ → Type 0) → Effect → Outcome → Type 0
-SharedAfter g v Item e (Refused n) = (n ≡ not_fit) ⊎ (n ≡ worker_idle)
+SharedAfter g v Item e (Refused n) = (n ≡ NotFit) ⊎ (n ≡ WorkerIdle)
 SharedAfter g v Item e Moving = SameItems v e × SameWindow v e
 SharedAfter g v Item e Lost = SameItems v e × SameWindow v e
 SharedAfter g v Item e Shifted = SameItems v e × (g.kind ≡ 1)

@@ -9,7 +9,6 @@ use mathlib.Core.Bool.{Bool}
 use Prim.Native.Nat.{ℕ, suc, ◌+◌, ◌-◌, ◌*◌, ◌%◌}
 use lib.Dec.{ltb, leb, eqb}
 use Rattle.laws.specs.Choice.{cond, both}
-use Rattle.rules.specs.Answers.{no_such_worker, worker_busy, worker_idle, steps_spent, not_fit, off_size}
 use Rattle.rules.specs.Limits.{step_limit, windowed, size_fit}
 use Rattle.rules.specs.Held.{Item, rows_below, reported}
 use Rattle.rules.specs.Measures.{no_measures, measured, seen_size}
@@ -21,12 +20,14 @@ use Rattle.rules.specs.Commit.{lost_of}
 use Rattle.rules.specs.Shift.{shifted_of}
 use Rattle.rules.specs.Step.{rule_of}
 use Rattle.rules.specs.Run.{Call, begin_put, begin_take, step, set_size}
-use Rattle.rules.proofs.Types.{Settings, Size, Sizes, Side, Putting, Taking, Phase, Idle, Window, Slot, View, Effect, Outcome, Answer}
+use Rattle.rules.proofs.Types.{Settings, Size, Sizes, Side, Putting, Taking, Phase, Idle, Window, Slot, View, Effect, Outcome, Answered}
 use Rattle.rules.specs.declared.Outcome.TheVariants.{Refused as Stays, Moving as Moves, Lost, Shifted, Raised, Dropped, Landed, Removed, Empty as NoItem, Full as NoRoom}
-use Rattle.rules.specs.declared.Answer.TheVariants.{Moving, Put, Taken, Empty, Full, Refused}
+use Rattle.rules.specs.declared.Answer.TheVariants.{Moving, Put, Taken, Empty, Full}
 use Rattle.rules.proofs.counts.Sums.{upd, upd_other, upd_self, sum_n}
 use Rattle.rules.proofs.counts.Held.{rows_of}
 use Rattle.rules.proofs.order.Law.{Next}
+use Rattle.std.specs.Prelude.{Ok, Err}
+use Rattle.rules.specs.declared.Refusal.TheVariants.{NoSuchWorker, NotFit, OffSize, StepsSpent, WorkerBusy, WorkerIdle}
 
 pub record Frame : Type 0 where
   pub base : ℕ → ℕ
@@ -66,7 +67,7 @@ pub record State : Type 0 where
   pub item : ℕ → ℕ → Item
   pub slot : ℕ → Slot
 
-abbrev pub next : Answer → State → Next State
+abbrev pub next : Answered → State → Next State
 next a s = record { answer = a; measures = no_measures; state = s }
 
 -- ---- the windows' sizes
@@ -103,7 +104,7 @@ unfoldable pub places_in : Settings → State → ℕ
 places_in g s = cond (has_windows g) (places_after s.frame) (g.width * (s.top - s.mark))
 
 -- an answer of worker i's step in state s, with what it is held to
-abbrev pub answered : Settings → State → ℕ → Answer → State → Next State
+abbrev pub answered : Settings → State → ℕ → Answered → State → Next State
 answered g s i a t = record { answer = a; measures = measured (seen_size g (s.slot i)) (places_in g s) a; state = t }
 
 -- the sub that worker i is at
@@ -176,22 +177,22 @@ with_item s j row x =
       slot = s.slot;
     }
 
-abbrev pub taken_in : Settings → State → ℕ → ℕ → Answer
+abbrev pub taken_in : Settings → State → ℕ → ℕ → Answered
 taken_in g s j row =
-    Taken (s.item j row).value j (record { 0 = row }) (record { 0 = (s.item j row).stamp }) (distance_in g s (s.item j row).stamp)
+    Ok (Taken (s.item j row).value j (record { 0 = row }) (record { 0 = (s.item j row).stamp }) (distance_in g s (s.item j row).stamp))
 
 unfoldable pub apply_in_by : Settings → State → ℕ → Effect → Outcome → Next State
-apply_in_by g s i e (Stays n) = next (Refused n) s
-apply_in_by g s i e Moves = next Moving (after_in s i e)
-apply_in_by g s i e Lost = next Moving (after_in s i e)
-apply_in_by g s i e Shifted = next Moving (after_in s i e)
-apply_in_by g s i e Raised = next Moving (framed_in s i e (raised_of s.frame s.next.width e.top))
-apply_in_by g s i e Dropped = next Moving (framed_in s i e (dropped_of s.frame))
+apply_in_by g s i e (Stays n) = next (Err n) s
+apply_in_by g s i e Moves = next (Ok Moving) (after_in s i e)
+apply_in_by g s i e Lost = next (Ok Moving) (after_in s i e)
+apply_in_by g s i e Shifted = next (Ok Moving) (after_in s i e)
+apply_in_by g s i e Raised = next (Ok Moving) (framed_in s i e (raised_of s.frame s.next.width e.top))
+apply_in_by g s i e Dropped = next (Ok Moving) (framed_in s i e (dropped_of s.frame))
 apply_in_by g s i e (Landed value row stamp) =
-    next (Put value (sub_in s i) row stamp) (after_in (with_item s (sub_in s i) row.0 (record { value = value; stamp = stamp.0 })) i e)
+    next (Ok (Put value (sub_in s i) row stamp)) (after_in (with_item s (sub_in s i) row.0 (record { value = value; stamp = stamp.0 })) i e)
 apply_in_by g s i e (Removed row) = answered g s i (taken_in g s (sub_in s i) row.0) (after_in s i e)
-apply_in_by g s i e NoItem = next Empty (after_in s i e)
-apply_in_by g s i e NoRoom = answered g s i Full (after_in s i e)
+apply_in_by g s i e NoItem = next (Ok Empty) (after_in s i e)
+apply_in_by g s i e NoRoom = answered g s i (Ok Full) (after_in s i e)
 
 unfoldable pub apply_in : Settings → State → ℕ → Effect → Next State
 apply_in g s i e = apply_in_by g s i e e.outcome
@@ -199,9 +200,9 @@ apply_in g s i e = apply_in_by g s i e e.outcome
 -- ---- one call
 unfoldable pub step_in : Settings → State → ℕ → Next State
 step_in g s i =
-    cond (leb g.workers i) (next (Refused no_such_worker) s)
-    (cond (eqb (s.slot i).number idle_phase) (next (Refused worker_idle) s)
-    (cond (leb step_limit s.steps) (next (Refused steps_spent) s)
+    cond (leb g.workers i) (next (Err NoSuchWorker) s)
+    (cond (eqb (s.slot i).number idle_phase) (next (Err WorkerIdle) s)
+    (cond (leb step_limit s.steps) (next (Err StepsSpent) s)
     (apply_in g s i (rule_of g (view_in g s i)))))
 
 -- worker i in another slot, with the steps counted, the window words and the frame given; nothing else changed
@@ -226,11 +227,11 @@ with_slot s i x = slot_in s i s.steps s.top s.mark s.frame x
 
 unfoldable pub begin_in : Settings → State → ℕ → Side → ℕ → Next State
 begin_in g s i side value =
-    cond (leb g.workers i) (next (Refused no_such_worker) s)
+    cond (leb g.workers i) (next (Err NoSuchWorker) s)
     (cond (eqb (s.slot i).number idle_phase)
-    (cond (leb step_limit s.steps) (next (Refused steps_spent) s)
-    (next Moving (with_slot s i (fresh g value (sub_in s i) (Window side)))))
-    (next (Refused worker_busy) s))
+    (cond (leb step_limit s.steps) (next (Err StepsSpent) s)
+    (next (Ok Moving) (with_slot s i (fresh g value (sub_in s i) (Window side)))))
+    (next (Err WorkerBusy) s))
 
 -- another size of the next put window
 abbrev pub with_size : State → Size → State
@@ -251,7 +252,7 @@ with_size s size =
 
 unfoldable pub set_size_in : Settings → State → Size → Next State
 set_size_in g s size =
-    cond (windowed g) (cond (both (eqb g.kind 0) (size_fit g size)) (next Moving (with_size s size)) (next (Refused off_size) s)) (next (Refused not_fit) s)
+    cond (windowed g) (cond (both (eqb g.kind 0) (size_fit g size)) (next (Ok Moving) (with_size s size)) (next (Err OffSize) s)) (next (Err NotFit) s)
 
 unfoldable pub next_in : Settings → State → Call → Next State
 next_in g s (begin_put i v) = begin_in g s i Putting v
@@ -300,9 +301,9 @@ after_turned s i top mark f x = rw (upd_self s.first (sub_in s i), upd_self s.se
 module _ (g : Settings) (s : State) (i : ℕ) where
   pub apply_moved : (index : ℕ) (p : Phase) (kept : Slot)
       → apply_in g s i (moved_of g (view_in g s i) index p kept)
-      ≡ next Moving (turned_in s i s.top s.mark s.frame (encode g (record { value = (s.slot i).value; index = index; phase = p }) kept))
+      ≡ next (Ok Moving) (turned_in s i s.top s.mark s.frame (encode g (record { value = (s.slot i).value; index = index; phase = p }) kept))
   unfolding apply_in apply_in_by
-  apply_moved index p kept = ap (next Moving) (after_turned s i s.top s.mark s.frame _)
+  apply_moved index p kept = ap (next (Ok Moving)) (after_turned s i s.top s.mark s.frame _)
 
   -- a commit that failed is a restart: that it is counted is not seen here
   pub lost_restarts : (side : Side) → apply_in g s i (lost_of g (view_in g s i) side) ≡ apply_in g s i (restart_of g (view_in g s i) (hop_of g (sub_in s i)) side)
@@ -313,31 +314,31 @@ module _ (g : Settings) (s : State) (i : ℕ) where
   restarted side = encode g (record { value = (s.slot i).value; index = sub_in s i; phase = Window side }) (s.slot i)
 
   pub apply_shifted : (side : Side) (top mark : ℕ)
-      → apply_in g s i (shifted_of g (view_in g s i) Shifted side top mark) ≡ next Moving (turned_in s i top mark s.frame (restarted side))
+      → apply_in g s i (shifted_of g (view_in g s i) Shifted side top mark) ≡ next (Ok Moving) (turned_in s i top mark s.frame (restarted side))
   unfolding apply_in apply_in_by
-  apply_shifted side top mark = ap (next Moving) (after_turned s i top mark s.frame _)
+  apply_shifted side top mark = ap (next (Ok Moving)) (after_turned s i top mark s.frame _)
 
   pub apply_raised : (top : ℕ)
       → apply_in g s i (shifted_of g (view_in g s i) Raised Putting top s.mark)
-      ≡ next Moving (turned_in s i top s.mark (raised_of s.frame s.next.width top) (restarted Putting))
+      ≡ next (Ok Moving) (turned_in s i top s.mark (raised_of s.frame s.next.width top) (restarted Putting))
   unfolding apply_in apply_in_by
-  apply_raised top = ap (next Moving) (after_turned s i top s.mark (raised_of s.frame s.next.width top) _)
+  apply_raised top = ap (next (Ok Moving)) (after_turned s i top s.mark (raised_of s.frame s.next.width top) _)
 
   pub apply_dropped : (mark : ℕ)
       → apply_in g s i (shifted_of g (view_in g s i) Dropped Taking s.top mark)
-      ≡ next Moving (turned_in s i s.top mark (dropped_of s.frame) (restarted Taking))
+      ≡ next (Ok Moving) (turned_in s i s.top mark (dropped_of s.frame) (restarted Taking))
   unfolding apply_in apply_in_by
-  apply_dropped mark = ap (next Moving) (after_turned s i s.top mark (dropped_of s.frame) _)
+  apply_dropped mark = ap (next (Ok Moving)) (after_turned s i s.top mark (dropped_of s.frame) _)
 
   pub apply_empty : (index : ℕ)
-      → apply_in g s i (finished_of g (view_in g s i) NoItem index) ≡ next Empty (turned_in s i s.top s.mark s.frame (fresh g 0 index Idle))
+      → apply_in g s i (finished_of g (view_in g s i) NoItem index) ≡ next (Ok Empty) (turned_in s i s.top s.mark s.frame (fresh g 0 index Idle))
   unfolding apply_in apply_in_by
-  apply_empty index = ap (next Empty) (after_turned s i s.top s.mark s.frame _)
+  apply_empty index = ap (next (Ok Empty)) (after_turned s i s.top s.mark s.frame _)
 
   pub apply_full : (index : ℕ)
-      → apply_in g s i (finished_of g (view_in g s i) NoRoom index) ≡ answered g s i Full (turned_in s i s.top s.mark s.frame (fresh g 0 index Idle))
+      → apply_in g s i (finished_of g (view_in g s i) NoRoom index) ≡ answered g s i (Ok Full) (turned_in s i s.top s.mark s.frame (fresh g 0 index Idle))
   unfolding apply_in apply_in_by
-  apply_full index = ap (answered g s i Full) (after_turned s i s.top s.mark s.frame _)
+  apply_full index = ap (answered g s i (Ok Full)) (after_turned s i s.top s.mark s.frame _)
 
   -- ---- any step leaves the other workers' slots
   apply_other_by : (e : Effect) (j : ℕ) → j ≢ i → (o : Outcome) → (apply_in_by g s i e o).state.slot j ≡ s.slot j

@@ -46,6 +46,7 @@ use Rattle.rules.specs.Run.{Call, begin_put, begin_take, step, set_size, begin}
 use Rattle.rules.specs.Consequences.{NoWrap}
 use Rattle.rules.proofs.Types.{Settings, Size, Side, Putting, Taking, Idle, Window, QueueCommit, Span, Slot}
 use Rattle.rules.proofs.Fitness.{WorkerFits, size_fits}
+use Rattle.rules.proofs.Numbered.{number_high}
 use Rattle.rules.specs.declared.Answer.TheVariants.{Moving}
 use Rattle.rules.proofs.counts.Sums.{upd, upd_same, upd_other}
 use Rattle.rules.proofs.order.Law.{Next, Status, pending, Turn, refused, passes, opened, walks, tries, stays, loses, ends, wins}
@@ -54,6 +55,7 @@ use Rattle.rules.proofs.machine.Calls.{Called, refuses, does, Steps, Begins, ste
 use Rattle.rules.proofs.machine.Slots.{Blank}
 use Rattle.rules.proofs.machine.Phases.{operation_of, status_of, WindowIn, worker, idle_phase, window_phase, encode_value}
 use Rattle.rules.proofs.counts.Held.{Holds, held_count}
+use Rattle.std.specs.Prelude.{Ok}
 
 -- ---- what every pool from make has, of either kind
 pub record Common (g : Settings) (s : State) : Type 0 where
@@ -199,7 +201,7 @@ module _ (g : Settings) (k : Kind g) where
   turn_step s q common inv i = by (step_called g s i)
     where
       by : {o : Next State} → Called s (Steps g s i) (apply_in g s i (rule_of g (view_in g s i))) o → CallTurn s q (step i) o
-      by (refuses n l unable e) = rw e (refused (omega arith) refl)
+      by (refuses n l unable e) = rw e (refused (number_high n) refl)
       by (does able e) = rw e (k.steps s q common inv i able.worker able.time)
 
   begun_status : (side : Side) (v x : ℕ)
@@ -211,7 +213,7 @@ module _ (g : Settings) (k : Kind g) where
       → CallTurn s q c (begin_in g s i side v)
   turn_begin s q common inv i side v c u = by (begin_called g s i side v)
     where
-      opens : phase_in g s i ≡ Idle → CallTurn s q c (next Moving (begun g s i side v))
+      opens : phase_in g s i ≡ Idle → CallTurn s q c (next (Ok Moving) (begun g s i side v))
       opens p =
           opened i (operation_of side v) u refl (ap (status_of (s.slot i).value) p)
           (status_here g s.slot i _ ∙ begun_status side v (sub_in s i))
@@ -221,8 +223,8 @@ module _ (g : Settings) (k : Kind g) where
           })
           (k.begins s q common inv i p side v)
 
-      by : {o : Next State} → Called s (Begins g s i) (next Moving (begun g s i side v)) o → CallTurn s q c o
-      by (refuses n l unable e) = rw e (refused (omega arith) refl)
+      by : {o : Next State} → Called s (Begins g s i) (next (Ok Moving) (begun g s i side v)) o → CallTurn s q c o
+      by (refuses n l unable e) = rw e (refused (number_high n) refl)
       by (does able e) = rw e (opens (idle_phase g (s.slot i) able.idle))
 
   turn_size : (s : State) (q : Contents) → k.Inv s q → (width depth : ℕ) → CallTurn s q (set_size width depth) (set_size_in g s (record { width = width; depth = depth }))

@@ -5,9 +5,9 @@ use Rattle.rules.specs.Sequential.{Operation, Contents}
 use Rattle.rules.specs.Run.{Event}
 use Rattle.rules.specs.Statement.{GivesWithin, Done, AcceptedWithin, OneAtATimeWithin}
 use Rattle.rules.specs.Newer.{exact_rows}
-use Rattle.rules.proofs.Types.{Settings, Answer}
+use Rattle.rules.proofs.Types.{Settings, Answered}
 
-abbrev pub Gives : Settings → Contents → Operation → Answer → Measures → Contents → Type 0
+abbrev pub Gives : Settings → Contents → Operation → Answered → Measures → Contents → Type 0
 Gives g q o a m after = GivesWithin (exact_rows g) g q o a m after
 
 abbrev pub Accepted : Settings → Contents → List Done → Type 0

@@ -14,7 +14,7 @@ use Rattle.rules.specs.Run.{Call, begin, value_in}
 use Rattle.rules.specs.Consequences.{item_in}
 use Rattle.rules.specs.Newer.{exact_rows}
 use Rattle.rules.specs.Spacers.{NoSpacer}
-use Rattle.rules.proofs.Types.{Settings, Answer}
+use Rattle.rules.proofs.Types.{Settings, Answered}
 use Rattle.rules.proofs.order.Closest.{Gives}
 use Rattle.rules.proofs.order.Given.{item_of, item_not, gives_changed, gives_value}
 use Rattle.rules.proofs.order.Law.{Next, Status, idle, pending, tried, Others}
@@ -34,7 +34,7 @@ begun_no_spacer c i (putting v) e h = subst NoSpacer e h
 begun_no_spacer c i taking e h = tt
 
 -- ---- the list after an answer to such an operation
-module _ (g : Settings) (q : Contents) (a : Answer) (m : Measures) (q' : Contents) where
+module _ (g : Settings) (q : Contents) (a : Answered) (m : Measures) (q' : Contents) where
   no_spacer_put : (o : Operation) → NoSpacerPut o → Gives g q o a m q' → count_items is_spacer (item_in 1 a) ≡ 0
   no_spacer_put o plain e = elim (ℕ_discrete (number_of a) 1) [
     | yes one ↦

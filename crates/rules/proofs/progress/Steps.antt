@@ -23,6 +23,8 @@ use Rattle.rules.proofs.order.Gives.{final_empty, final_full}
 use Rattle.rules.proofs.machine.Machine.{Frame, State, next, sub_in, view_in, phase_in, apply_in, apply_in_by, turned_in, apply_moved}
 use Rattle.rules.proofs.machine.Phases.{worker, encode_index, window_phase}
 use Rattle.rules.proofs.machine.Calls.{begun}
+use Rattle.std.specs.Prelude.{Ok}
+use Rattle.rules.specs.declared.Refusal.TheVariants.{NotFit}
 
 abbrev pub Measure : Type 1
 Measure = State → ℕ → ℕ → Phase → Type 0
@@ -65,7 +67,7 @@ module _ (g : Settings) (M : Measure) (s : State) (i n : ℕ) where
 
   -- ---- on to phase p at an index: nothing that is shared changes, or the windows do
   turned_on : (top mark : ℕ) (f : Frame) (index : ℕ) (p : Phase) (kept : Slot) → phase_of g (written g s i index p kept) ≡ p → 1 ≤ n
-      → M (turned_in s i top mark f (written g s i index p kept)) (n - 1) index p → Goes (next Moving (turned_in s i top mark f (written g s i index p kept)))
+      → M (turned_in s i top mark f (written g s i index p kept)) (n - 1) index p → Goes (next (Ok Moving) (turned_in s i top mark f (written g s i index p kept)))
   turned_on top mark f index p kept back some left =
       let x : Slot = written g s i index p kept in
       record {
@@ -79,7 +81,7 @@ module _ (g : Settings) (M : Measure) (s : State) (i n : ℕ) where
       → M (turned_in s i s.top s.mark s.frame (written g s i index p kept)) (n - 1) index p → Goes (apply_in g s i (moved_of g (view_in g s i) index p kept))
   moves_on index p kept back some left = rw (apply_moved g s i index p kept) (turned_on s.top s.mark s.frame index p kept back some left)
 
-  pub shifts_on : (side : Side) (top mark : ℕ) (f : Frame) (o : Next State) → o ≡ next Moving (turned_in s i top mark f (restarted g s i side)) → 1 ≤ n
+  pub shifts_on : (side : Side) (top mark : ℕ) (f : Frame) (o : Next State) → o ≡ next (Ok Moving) (turned_in s i top mark f (restarted g s i side)) → 1 ≤ n
       → M (turned_in s i top mark f (restarted g s i side)) (n - 1) (sub_in s i) (Window side) → Goes o
   shifts_on side top mark f o is some left =
       rw is (turned_on top mark f (sub_in s i) (Window side) (s.slot i) (window_phase g side (s.slot i).value (sub_in s i) (s.slot i)) some left)
@@ -95,7 +97,7 @@ module _ (g : Settings) (s : State) (i : ℕ) (P : Next State → Type 0) where
   abbrev pub Unless : Effect → Type 0
   Unless e = number_of (apply_in g s i e).answer ≢ not_fit → P (apply_in g s i e)
 
-  pub unless_refused : Unless (refused_of (view_in g s i) not_fit)
+  pub unless_refused : Unless (refused_of (view_in g s i) NotFit)
   unfolding apply_in apply_in_by
   unless_refused able = absurd (able refl)
 

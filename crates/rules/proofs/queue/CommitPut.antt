@@ -5,7 +5,7 @@
 -- cell is free by the windows' room; the rows passed over are no places of this sub; and it gets the greatest stamp.
 use mathlib.Core.Path.{◌≡◌, refl, sym, ap, ◌∙◌, subst}
 use mathlib.Core.Logic.{◌≢◌, ◌⊎◌, inl, inr}
-use Prim.Native.Nat.{ℕ, suc, ◌+◌, ◌-◌, ◌≤◌, ◌<◌}
+use Prim.Native.Nat.{ℕ, suc, ◌+◌, ◌≤◌, ◌<◌}
 use native.Mathlib.Nat.{le_refl}
 use native.Mathlib.Decide.{ℕ_discrete, dec_lt}
 use native.Mathlib.Omega.{arith}
@@ -25,13 +25,14 @@ use Rattle.rules.proofs.Types.{Settings, Putting, Idle, Window, QueueCommit, Spa
 use Rattle.rules.specs.declared.Answer.TheVariants.{Put}
 use Rattle.rules.proofs.counts.Sums.{upd, upd_self, sum_bump}
 use Rattle.rules.proofs.counts.Stamps.{Added, added}
-use Rattle.rules.proofs.counts.Wraps.{add32_suc, sub32_is}
+use Rattle.rules.proofs.counts.Wraps.{add32_suc}
 use Rattle.rules.proofs.counts.Held.{holds_put}
 use Rattle.rules.proofs.order.Gives.{put_on, gives_put, final_put}
 use Rattle.rules.proofs.machine.Machine.{Frame, State, top_of, next, sub_in, view_in, phase_in, apply_in, apply_in_by, lost_restarts}
-use Rattle.rules.proofs.queue.Inv.{Windows, Subs, Place, Items, Plain, first_high, second_high, Pool, PutCommits, Knows, Inv, Grown, base_le, earlier, bottom_few, put_few}
+use Rattle.rules.proofs.queue.Inv.{Windows, Subs, Place, Items, Plain, first_high, Pool, PutCommits, Knows, Inv, Grown, base_le, earlier, bottom_few, put_few}
 use Rattle.rules.proofs.queue.Moves.{Stepped, walk, end}
 use Rattle.rules.proofs.queue.View.{put_level, free_level}
+use Rattle.std.specs.Prelude.{Ok}
 
 -- the item, and the state, of a put by worker i that lands in a row
 abbrev new_item : State → ℕ → Item
@@ -55,7 +56,7 @@ landed_in g s i row =
 
 apply_landed : (g : Settings) (s : State) (i row : ℕ) → s.puts < 4294967295
     → apply_in g s i (landed_of g (view_in g s i) row (s.second (sub_in s i)) (record { 0 = row }))
-    ≡ next (Put (s.slot i).value (sub_in s i) (record { 0 = row }) (record { 0 = suc s.puts })) (landed_in g s i row)
+    ≡ next (Ok (Put (s.slot i).value (sub_in s i) (record { 0 = row }) (record { 0 = suc s.puts }))) (landed_in g s i row)
 unfolding apply_in apply_in_by
 apply_landed g s i row b = rw (add32_suc s.puts b, upd_self s.second (sub_in s i)) refl
 

@@ -17,9 +17,9 @@ use Rattle.rules.specs.Sequential.{Contents}
 use Rattle.rules.proofs.Types.{Settings}
 use Rattle.rules.proofs.counts.Sums.{sum_n, sum_ext, sum_none, sum_more, sum_zero, sum_same, up_to_law, rows_more, rows_all, rows_flat}
 use Rattle.rules.proofs.counts.Wraps.{multiple_le}
-use Rattle.rules.proofs.counts.Held.{real, rows_of, real_row, blank_row, held_least}
+use Rattle.rules.proofs.counts.Held.{real, rows_of, blank_row, held_least}
 use Rattle.rules.proofs.machine.Machine.{Frame, State, top_of, mark_of, places_at, places_from, places_after}
-use Rattle.rules.proofs.queue.Inv.{Windows, Subs, Items, Plain, Old, Pool, base_le}
+use Rattle.rules.proofs.queue.Inv.{Windows, Plain, Old, Pool, base_le}
 
 -- ---- sums
 -- d for a sub that is within m, else 0

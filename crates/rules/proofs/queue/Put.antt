@@ -14,7 +14,7 @@ use lib.ListN.{length}
 use borrow.Author.Tests.{ltb-true, ltb-false, leb-true, eqb-true, eqb-false, leb-false}
 use Rattle.rules.proofs.machine.Slots.{windowed_none}
 use Rattle.laws.specs.Choice.{cond, cases, both, both_true, both_one}
-use Rattle.laws.specs.Wrap.{add32, sub32}
+use Rattle.laws.specs.Wrap.{add32}
 use Rattle.rules.specs.Limits.{Bounds, windowed, most_live}
 use Rattle.rules.specs.Worker.{zero_slot}
 use Rattle.rules.specs.Effects.{next_of, put_window, queue_view}
@@ -30,7 +30,7 @@ use Rattle.rules.proofs.machine.Machine.{Frame, State, top_of, sizes_in, places_
 use Rattle.rules.proofs.figures.Figures.{full_queue}
 use Rattle.rules.proofs.machine.Turns.{FullAt}
 use Rattle.rules.proofs.machine.Phases.{OfQueue}
-use Rattle.rules.proofs.queue.Inv.{Windows, Pool, Sees, PutReads, PutShifts, Knows, Inv, same_top_law, base_le, top_few}
+use Rattle.rules.proofs.queue.Inv.{Windows, PutReads, PutShifts, Knows, Inv, same_top_law, base_le, top_few}
 use Rattle.rules.proofs.queue.Moves.{Stepped, walk, raise_window, end_full}
 use Rattle.rules.proofs.queue.View.{of_now, window_told, next_depth, live_is, put_window_is, take_bottom, places_same}
 use Rattle.rules.proofs.queue.Raise.{raise}

@@ -7,7 +7,7 @@ use mathlib.Core.Path.{◌≡◌, refl, ap, ◌∙◌, subst, sym}
 use mathlib.Core.Logic.{◌≢◌, inl}
 use mathlib.Core.List.{[]}
 use mathlib.Core.Bool.{Bool, true, false}
-use Prim.Native.Nat.{ℕ, suc, ◌+◌, ◌-◌, ◌*◌, ◌%◌, ◌≤◌, ◌<◌}
+use Prim.Native.Nat.{ℕ, suc, ◌+◌, ◌-◌, ◌%◌, ◌≤◌, ◌<◌}
 use native.Mathlib.Nat.{le_refl, mod-lt}
 use native.Mathlib.Omega.{arith}
 use lib.Dec.{ltb, leb, eqb}
@@ -32,7 +32,7 @@ use Rattle.rules.proofs.counts.Passes.{summed_start, pass_more, pass_near, pass_
 use Rattle.rules.proofs.machine.Machine.{Frame, State, top_of, mark_of, sizes_in, sub_in, view_in, phase_in, apply_in, dropped_of}
 use Rattle.rules.proofs.machine.Phases.{OfQueue}
 use Rattle.rules.proofs.machine.Ways.{SnapAt}
-use Rattle.rules.proofs.queue.Inv.{Windows, Pool, Sees, Read, TakeReads, TakeShifts, Confirms, count_in, Knows, Inv, same_top_law, base_le, top_few, put_few, first_high}
+use Rattle.rules.proofs.queue.Inv.{Windows, Sees, Read, TakeReads, TakeShifts, Confirms, count_in, Knows, Inv, same_top_law, base_le, top_few, put_few, first_high}
 use Rattle.rules.proofs.queue.Moves.{Stepped, walk, try, stay, lose, drop_window, end_empty, win}
 use Rattle.rules.proofs.queue.View.{of_now, window_told, plain, after_size, take_window_is, put_level}
 use Rattle.rules.proofs.queue.Drop.{drop}

@@ -8,7 +8,6 @@ use native.Mathlib.Nat.{le_refl}
 use native.Mathlib.Omega.{arith}
 use lib.Dec.{eqb}
 use Rattle.laws.specs.Choice.{cond, cond_true, both_true}
-use Rattle.rules.specs.Answers.{worker_idle}
 use Rattle.rules.specs.Limits.{windowed}
 use Rattle.rules.specs.Windows.{has_windows}
 use Rattle.rules.specs.Worker.{zero_slot}
@@ -27,12 +26,13 @@ use Rattle.rules.proofs.machine.Turns.{Common, Kind}
 use Rattle.rules.proofs.machine.Calls.{begun}
 use Rattle.rules.proofs.machine.Ways.{Snap, Written, others_after}
 use Rattle.rules.proofs.queue.Inv.{Windows, Knows, Inv, Grown, knows_grown, puts_in}
-use Rattle.rules.proofs.queue.Moves.{Stepped, written, inv_after}
+use Rattle.rules.proofs.queue.Moves.{Stepped, inv_after}
 use Rattle.rules.proofs.queue.Put.{put_window_law, put_read, put_shift}
 use Rattle.rules.proofs.queue.Take.{take_window_law, take_read, take_shift, take_confirm}
 use Rattle.rules.proofs.queue.CommitPut.{put_commit}
 use Rattle.rules.proofs.queue.CommitTake.{take_commit, holds_below}
 use Rattle.rules.proofs.queue.Safe.{queue_counts, queue_safe}
+use Rattle.rules.specs.declared.Refusal.TheVariants.{WorkerIdle}
 
 module _ (g : Settings) (good : Good g) (kind : g.kind ≡ 0) where
   -- ---- a new pool
@@ -179,7 +179,7 @@ module _ (g : Settings) (good : Good g) (kind : g.kind ≡ 0) where
 
   -- ---- a step
   module _ (s : State) (q : Contents) (common : Common g s) (inv : Inv g s q) (i : ℕ) where
-    rests : Stepped g s q i (apply_in g s i (refused_of (view_in g s i) worker_idle))
+    rests : Stepped g s q i (apply_in g s i (refused_of (view_in g s i) WorkerIdle))
     unfolding apply_in apply_in_by
     rests = record { turn = λ few. refused (omega arith) refl; able = omega arith; full = λ e. absurd (omega arith) }
 

@@ -7,8 +7,8 @@ use Prim.Native.Nat.{ℕ, suc, ◌+◌, ◌-◌, ◌*◌, ◌≤◌, ◌<◌}
 use native.Mathlib.Nat.{le_refl}
 use native.Mathlib.Omega.{arith}
 use borrow.Author.Tests.{lt-ltb, le-ltb}
-use Rattle.laws.specs.Choice.{cond, cases, both_true}
-use Rattle.laws.specs.Wrap.{add32, sub32}
+use Rattle.laws.specs.Choice.{cond, cases}
+use Rattle.laws.specs.Wrap.{sub32}
 use Rattle.rules.specs.Limits.{windowed, Bounds}
 use Rattle.rules.specs.Windows.{has_windows, size_of, no_size, own_sizes, span_of, higher, level_of}
 use Rattle.rules.specs.Worker.{seen_by}
@@ -17,11 +17,11 @@ use Rattle.rules.specs.Measures.{seen_size}
 use Rattle.rules.specs.Effects.{queue_view, put_window, take_window}
 use Rattle.rules.specs.Window.{window_for}
 use Rattle.rules.specs.Sequential.{Contents}
-use Rattle.rules.proofs.Types.{Settings, Size, Sizes, Side, Putting, Taking, Phase, QueueCommit, Span, Slot}
-use Rattle.rules.proofs.counts.Wraps.{add32_is, sub32_is}
+use Rattle.rules.proofs.Types.{Settings, Size, Sizes, Side, Putting, Taking, Phase, QueueCommit, Span}
+use Rattle.rules.proofs.counts.Wraps.{sub32_is}
 use Rattle.rules.proofs.machine.Machine.{Frame, State, top_of, mark_of, size_at, sizes_at, sizes_in, places_after, places_in, view_in, phase_in}
 use Rattle.rules.proofs.machine.Phases.{SpanTold, OfQueue, WindowIn}
-use Rattle.rules.proofs.machine.Slots.{FromSlot, phase_from, has_windows_law, has_none}
+use Rattle.rules.proofs.machine.Slots.{phase_from, has_windows_law, has_none}
 use Rattle.rules.proofs.queue.Inv.{Windows, Plain, Pool, Sees, base_le, top_few, first_high, second_high}
 use Rattle.rules.proofs.queue.Full.{times_less, places_are}
 

@@ -9,7 +9,6 @@ use lib.ListN.{length, get_or}
 use lib.Dec.{eqb}
 use borrow.Author.Tests.{le-ltb, le-leb, lt-ltb, eq-eqb, eqb-true, eqb-false}
 use Rattle.laws.specs.Choice.{cond, cases, all, all_below}
-use Rattle.rules.specs.Answers.{not_fit}
 use Rattle.rules.specs.Layout.{head_words, top_at, mark_at, worker_at, set_at, windows_at, windows_words, needed, settings_of}
 use Rattle.rules.specs.Make.{in_edition}
 use Rattle.rules.specs.Limits.{settings_fit, size_fit, most_live}
@@ -22,6 +21,7 @@ use Rattle.rules.proofs.machine.Machine.{State}
 use Rattle.rules.proofs.machine.Slots.{windowed_none}
 use Rattle.rules.proofs.machine.Turns.{Common, bottom_in, LiveFits}
 use Rattle.rules.proofs.words.Says.{Says, WindowsSay, bottoms}
+use Rattle.rules.specs.declared.Refusal.TheVariants.{NotFit}
 
 -- a test that holds at each number below the bound
 pub all_below_law : (n : ℕ) (p : ℕ → Bool) → ((i : ℕ) → i < n → p i ≡ true) → all_below n p ≡ true
@@ -35,7 +35,7 @@ module _ (g : Settings) (ws : List ℕ) (limits : settings_fit g ≡ true) (long
   unfolding body_checked cond
   body_fit_law = rw (le-ltb (length ws) (needed g) long, parts.windows, parts.subs, parts.workers) refl
 
-  head_fit : head_checked not_fit g.edition ws g ≡ Fit g
+  head_fit : head_checked NotFit g.edition ws g ≡ Fit g
   unfolding head_checked cond
   head_fit = let own : settings_fit (in_edition g.edition g) ≡ true = limits in rw (own, eq-eqb g.edition g.edition refl) body_fit_law
 

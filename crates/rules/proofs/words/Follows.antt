@@ -12,7 +12,7 @@ use lib.Dec.{leb, eqb}
 use borrow.Author.Tests.{leb-false, eqb-true, eqb-false}
 use Rattle.laws.specs.Choice.{cond, cases, both, both_true, cond_both}
 use Rattle.laws.specs.Wrap.{add32, sub32}
-use Rattle.rules.specs.Answers.{Out, refuse, no_such_worker, worker_busy, worker_idle, steps_spent, not_fit, off_size}
+use Rattle.rules.specs.Answers.{Out, refuse}
 use Rattle.rules.specs.Limits.{settings_fit, windowed, size_fit, most_live, Bounds, step_limit}
 use Rattle.rules.specs.Layout.{worker_at, index_at}
 use Rattle.rules.specs.Windows.{has_windows, higher, level_of}
@@ -27,7 +27,7 @@ use Rattle.rules.specs.Step.{rule_of, slot_step, fit_step, checked_step, step_of
 use Rattle.rules.specs.Run.{Call, begin_put, begin_take, step, set_size, call_of}
 use Rattle.rules.proofs.Types.{Settings, Size, Sizes, Side, Putting, Taking, Window, Row, Effect, Outcome}
 use Rattle.rules.specs.declared.Outcome.TheVariants.{Refused, Moving, Lost, Shifted, Raised, Dropped, Landed, Removed, Empty, Full}
-use Rattle.rules.specs.declared.Answer.TheVariants.{Moving as Moves, Taken, Refused as NotDone}
+use Rattle.rules.specs.declared.Answer.TheVariants.{Moving as Moves, Taken}
 use Rattle.rules.proofs.order.Law.{Next}
 use Rattle.rules.proofs.Fitness.{settings_bounds}
 use Rattle.rules.proofs.Cells.{queue_below}
@@ -42,6 +42,9 @@ use Rattle.rules.proofs.words.Fit.{checked_fit}
 use Rattle.rules.proofs.words.After.{after_says}
 use Rattle.rules.proofs.words.Stores.{begun_says, counted_says, sized_says, index_same, number_same, view_same, puts_as, top_as, stores, stores_worker, stores_shifted, stores_raised, stores_dropped}
 use Rattle.rules.proofs.words.Landed.{Floor, landed_says, landed_cells}
+use Rattle.std.specs.Prelude.{Ok, Err}
+use Rattle.rules.specs.declared.Refusal.TheVariants.{NoSuchWorker, NotFit, OffSize, StepsSpent, WorkerBusy, WorkerIdle}
+use Rattle.rules.specs.declared.Refusal.{Refusal}
 
 pub record Follows (g : Settings) (o : Out) (n : Next State) : Type 0 where
   pub answer : o.answer ≡ n.answer
@@ -51,7 +54,7 @@ module _ (g : Settings) (limits : settings_fit g ≡ true) (ws : List ℕ) (s : 
   bounds : Bounds g
   bounds = settings_bounds g limits
 
-  refuses : (n : ℕ) → Follows g (refuse n ws) (next (NotDone n) s)
+  refuses : (n : Refusal) → Follows g (refuse n ws) (next (Err n) s)
   refuses n = record { answer = refl; says = says }
 
   live : has_windows g ≡ true → LiveFits g s
@@ -84,8 +87,8 @@ module _ (g : Settings) (limits : settings_fit g ≡ true) (ws : List ℕ) (s : 
           → taken_of ws g (sub_in s i) (record { 0 = r }) ≡ taken_in g s (sub_in s i) r
       unfolding taken_of
       taken_same r a b there =
-          ap (λ (x : Item). Taken x.value (sub_in s i) (record { 0 = r }) (record { 0 = x.stamp }) (distance_of ws g (record { 0 = x.stamp }))) (says.cell (sub_in s i) r lj a b there)
-          ∙ ap (λ (d : ℕ). Taken (s.item (sub_in s i) r).value (sub_in s i) (record { 0 = r }) (record { 0 = (s.item (sub_in s i) r).stamp }) d)
+          ap (λ (x : Item). Ok (Taken x.value (sub_in s i) (record { 0 = r }) (record { 0 = x.stamp }) (distance_of ws g (record { 0 = x.stamp })))) (says.cell (sub_in s i) r lj a b there)
+          ∙ ap (λ (d : ℕ). Ok (Taken (s.item (sub_in s i) r).value (sub_in s i) (record { 0 = r }) (record { 0 = (s.item (sub_in s i) r).stamp }) d))
           (distance_same g ws s says counts (record { 0 = (s.item (sub_in s i) r).stamp }))
 
       -- a window moves where the words have its pair, and no top wraps
@@ -186,25 +189,25 @@ module _ (g : Settings) (limits : settings_fit g ≡ true) (ws : List ℕ) (s : 
         follow_apply few (rule_of g (view_in g s i)) does.blank (rule_of g (view_in g s i)).outcome does.shared)
 
     follow_step : Follows g (slot_step ws g (worker_at g i))
-        (cond (eqb (s.slot i).number idle_phase) (next (NotDone worker_idle) s)
-        (cond (leb step_limit s.steps) (next (NotDone steps_spent) s) (apply_in g s i (rule_of g (view_in g s i)))))
+        (cond (eqb (s.slot i).number idle_phase) (next (Err WorkerIdle) s)
+        (cond (leb step_limit s.steps) (next (Err StepsSpent) s) (apply_in g s i (rule_of g (view_in g s i)))))
     unfolding slot_step
     follow_step =
         rw (number_same g ws s says i li, says.steps)
-        (cond_both (Follows g) (eqb (s.slot i).number idle_phase) (λ a. refuses worker_idle)
-        (λ a. cond_both (Follows g) (leb step_limit s.steps) (λ b. refuses steps_spent) (λ b. follow_rule (leb-false _ _ b))))
+        (cond_both (Follows g) (eqb (s.slot i).number idle_phase) (λ a. refuses WorkerIdle)
+        (λ a. cond_both (Follows g) (leb step_limit s.steps) (λ b. refuses StepsSpent) (λ b. follow_rule (leb-false _ _ b))))
 
     -- ---- a begin
     follow_begin : (side : Side) (v : ℕ) → Follows g (slot_begin ws g (worker_at g i) side v)
         (cond (eqb (s.slot i).number idle_phase)
-        (cond (leb step_limit s.steps) (next (NotDone steps_spent) s) (next Moves (with_slot s i (fresh g v (sub_in s i) (Window side)))))
-        (next (NotDone worker_busy) s))
+        (cond (leb step_limit s.steps) (next (Err StepsSpent) s) (next (Ok Moves) (with_slot s i (fresh g v (sub_in s i) (Window side)))))
+        (next (Err WorkerBusy) s))
     unfolding slot_begin
     follow_begin side v =
         rw (number_same g ws s says i li, says.steps, index_same g ws s says i li)
         (cond_both (Follows g) (eqb (s.slot i).number idle_phase)
-        (λ a. cond_both (Follows g) (leb step_limit s.steps) (λ b. refuses steps_spent) (λ b. record { answer = refl; says = begun_says g ws s says i li _ (encode_blank g v (sub_in s i) (Window side) zero_slot ((λ k. tt), (λ n. tt)) (λ none. (refl, refl))) }))
-        (λ a. refuses worker_busy))
+        (λ a. cond_both (Follows g) (leb step_limit s.steps) (λ b. refuses StepsSpent) (λ b. record { answer = refl; says = begun_says g ws s says i li _ (encode_blank g v (sub_in s i) (Window side) zero_slot ((λ k. tt), (λ n. tt)) (λ none. (refl, refl))) }))
+        (λ a. refuses WorkerBusy))
 
   -- ---- a call
   checked : checked_of g.edition ws ≡ Fit g
@@ -212,11 +215,11 @@ module _ (g : Settings) (limits : settings_fit g ≡ true) (ws : List ℕ) (s : 
 
   step_follows : (i : ℕ) → Follows g (step_of g.edition ws i) (step_in g s i)
   unfolding step_of checked_step fit_step step_in
-  step_follows i = rw checked (cond_both (Follows g) (leb g.workers i) (λ a. refuses no_such_worker) (λ a. follow_step i (leb-false _ _ a)))
+  step_follows i = rw checked (cond_both (Follows g) (leb g.workers i) (λ a. refuses NoSuchWorker) (λ a. follow_step i (leb-false _ _ a)))
 
   begin_follows : (i : ℕ) (side : Side) (v : ℕ) → Follows g (begin_of g.edition ws i side v) (begin_in g s i side v)
   unfolding begin_of checked_begin fit_begin begin_in
-  begin_follows i side v = rw checked (cond_both (Follows g) (leb g.workers i) (λ a. refuses no_such_worker) (λ a. follow_begin i (leb-false _ _ a) side v))
+  begin_follows i side v = rw checked (cond_both (Follows g) (leb g.workers i) (λ a. refuses NoSuchWorker) (λ a. follow_begin i (leb-false _ _ a) side v))
 
   size_follows : (size : Size) → Follows g (set_size_of g.edition ws size) (set_size_in g s size)
   unfolding set_size_of checked_set_size fit_set_size set_size_in
@@ -225,8 +228,8 @@ module _ (g : Settings) (limits : settings_fit g ≡ true) (ws : List ℕ) (s : 
       (cond_both (Follows g) (windowed g)
       (λ a. cond_both (Follows g) (both (eqb g.kind 0) (size_fit g size))
       (λ t. record { answer = refl; says = sized_says g bounds ws s says (has_windows_law g a (eqb-true _ _ (both_true (eqb g.kind 0) _ t).0)) size })
-      (λ t. refuses off_size))
-      (λ a. refuses not_fit))
+      (λ t. refuses OffSize))
+      (λ a. refuses NotFit))
 
   pub follows : (c : Call) → Follows g (call_of g.edition ws c) (next_in g s c)
   unfolding call_of next_in

@@ -19,8 +19,7 @@ use Rattle.rules.proofs.counts.Sums.{upd, upd_same, upd_other}
 use Rattle.rules.proofs.counts.Stamps.{item_new, item_old}
 use Rattle.rules.proofs.machine.Machine.{State, sub_in, view_in, below_in, after_in, with_item}
 use Rattle.rules.proofs.machine.Does.{Lands}
-use Rattle.rules.proofs.machine.Turns.{few_rows}
-use Rattle.rules.proofs.Workers.{slot_within, worker_within}
+use Rattle.rules.proofs.Workers.{worker_within}
 use Rattle.rules.proofs.words.Says.{Says}
 use Rattle.rules.proofs.words.Writes.{settings_kept, slot_kept}
 use Rattle.rules.proofs.words.Places.{place, places_apart, item_length, item_off, item_here, item_there}

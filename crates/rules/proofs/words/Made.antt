@@ -12,7 +12,7 @@ use lib.Seq.{get_or-set_same, get_or-set_other, sets, length-sets}
 use lib.Dec.{ltb}
 use borrow.Author.Tests.{ltb-false}
 use Rattle.laws.specs.Choice.{cond, cases, both_true}
-use Rattle.rules.specs.Answers.{out, refuse, number_of, too_few_words, off_limits}
+use Rattle.rules.specs.Answers.{out, refuse, number_of}
 use Rattle.rules.specs.Layout.{worker_at, cells_at, needed, kind_at, width_at, depth_at, shift_at, rows_at, worker_count_at, steps_at, puts_at, top_at, mark_at, stride_at, edition_at, head_words, phase_word, value_word, index_word, window_word, extra_word, scan_word, seen_word, sum_word, slot_words, lost_word, bottom_word, width_word, index_at, lost_at, worker_words, windows_at, next_width_at, next_depth_at, pair_words, pair_at}
 use Rattle.rules.specs.Limits.{settings_fit, windowed, most_live}
 use Rattle.rules.specs.Windows.{has_windows, no_size, nth_size}
@@ -24,6 +24,8 @@ use Rattle.rules.proofs.Workers.{slot_within, word_lt, words_two, windows_some, 
 use Rattle.rules.proofs.machine.Machine.{made_in}
 use Rattle.rules.proofs.words.Lists.{sets_out, sets_in}
 use Rattle.rules.proofs.words.Says.{Says, WindowsSay}
+use Rattle.std.specs.Prelude.{Ok}
+use Rattle.rules.specs.declared.Refusal.TheVariants.{OffLimits, TooFewWords}
 
 -- ---- a make that was not refused
 pub record Accepted (ws : List ℕ) (g : Settings) : Type 0 where
@@ -32,8 +34,8 @@ pub record Accepted (ws : List ℕ) (g : Settings) : Type 0 where
   pub words : (make_of ws g).words ≡ made_words ws g
 
 accepted_by : (ws : List ℕ) (g : Settings) (a b : Bool)
-    → number_of (cond a (cond b (refuse too_few_words ws) (out Moving (made_words ws g))) (refuse off_limits ws)).answer ≡ 0
-    → (a ≡ true) × (b ≡ false) × ((cond a (cond b (refuse too_few_words ws) (out Moving (made_words ws g))) (refuse off_limits ws)).words ≡ made_words ws g)
+    → number_of (cond a (cond b (refuse TooFewWords ws) (out (Ok Moving) (made_words ws g))) (refuse OffLimits ws)).answer ≡ 0
+    → (a ≡ true) × (b ≡ false) × ((cond a (cond b (refuse TooFewWords ws) (out (Ok Moving) (made_words ws g))) (refuse OffLimits ws)).words ≡ made_words ws g)
 unfolding cond
 accepted_by ws g true true e = absurd (omega arith)
 accepted_by ws g true false e = (refl, refl, refl)

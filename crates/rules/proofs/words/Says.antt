@@ -10,7 +10,6 @@ use native.Mathlib.Decide.{dec_lt, dec_le}
 use native.Mathlib.Numerals.{add-one}
 use native.Mathlib.Omega.{arith}
 use lib.ListN.{length, get_or}
-use lib.Dec.{ltb}
 use borrow.Author.Tests.{lt-ltb, le-ltb}
 use Rattle.laws.specs.Choice.{cond}
 use Rattle.rules.specs.Layout.{steps_at, puts_at, top_at, mark_at, set_at, windows_at, windows_words, needed, settings_of, first_of, second_of, worker_at}
@@ -20,7 +19,7 @@ use Rattle.rules.specs.Worker.{slot_at}
 use Rattle.rules.specs.Held.{Item, item_at, items_above, sub_band, band_count, band_of, held_bands, held_sub, held_below, held_items, count_items, reported, distance_of}
 use Rattle.rules.proofs.Types.{Settings, Size, Stamp}
 use Rattle.rules.proofs.counts.Sums.{sum_n, sum_none, sum_more, up_to_law, up_to_suc, rows_flat, bit}
-use Rattle.rules.proofs.machine.Machine.{Frame, State, top_of, size_at, below_in, count_in, distance_in}
+use Rattle.rules.proofs.machine.Machine.{Frame, State, size_at, below_in, count_in, distance_in}
 use Rattle.rules.proofs.machine.Slots.{has_queue}
 use Rattle.rules.proofs.machine.Turns.{InLive, LiveFits, Framed, Counts}
 use Rattle.rules.proofs.Cells.{count_append, held_order, queue_below}

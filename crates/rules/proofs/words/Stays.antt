@@ -4,7 +4,7 @@
 -- a moved window may leave a damaged pool unfit, where P wraps, or where a sub has rows that the new bottom cuts off. Moved or not, the settings are as
 -- they were, and the worker is still busy: its words are stored last.
 use mathlib.Core.Path.{◌≡◌, refl, sym, ap, ◌∙◌, subst}
-use mathlib.Core.Logic.{◌≢◌, inl, inr}
+use mathlib.Core.Logic.{◌≢◌}
 use mathlib.Core.Bool.{Bool, true, false, false≢true}
 use mathlib.Core.List.{List}
 use Prim.Native.Nat.{ℕ, suc, ◌+◌, ◌-◌, ◌≤◌, ◌<◌}
@@ -27,10 +27,10 @@ use Rattle.rules.specs.Fit.{Fit, phase_fit, windows_fit, checked_of, SubFits, Si
 use Rattle.rules.specs.Begin.{out_of_steps}
 use Rattle.rules.specs.Apply.{count_lost, put_shifted, put_raised, put_dropped, put_worker, taken_of, apply_by, apply_of}
 use Rattle.rules.specs.Step.{rule_of, slot_step, fit_step}
-use Rattle.rules.proofs.Types.{Settings, Sizes, Slot, Effect, Outcome, Answer}
+use Rattle.rules.proofs.Types.{Settings, Sizes, Slot, Effect, Outcome}
 use Rattle.rules.specs.declared.Outcome.TheVariants.{Refused as Stopped, Moving as Moves, Lost, Shifted, Raised, Dropped, Landed, Removed, Empty as NoItem, Full as NoRoom}
-use Rattle.rules.specs.declared.Answer.TheVariants.{Moving, Put, Taken, Empty, Full, Refused}
 use Rattle.rules.proofs.Fitness.{WorkerFits, fit_pool, fit_head, fit_parts, fit_worker}
+use Rattle.rules.proofs.Numbered.{number_high}
 use Rattle.rules.proofs.Workers.{worker_within}
 use Rattle.rules.proofs.counts.Sums.{upd_all, upd_self}
 use Rattle.rules.proofs.machine.Machine.{Frame, State, size_at, sizes_at, sizes_in, sub_in, view_in, framed_in, after_in}
@@ -41,15 +41,6 @@ use Rattle.rules.proofs.words.Says.{Says}
 use Rattle.rules.proofs.words.Fit.{sub_anywhere, checked_fit}
 use Rattle.rules.proofs.words.Writes.{HeadKept, settings_kept, slot_off, slot_on, slot_read, raised_length, raised_below, raised_top, dropped_length, dropped_below, dropped_mark}
 use Rattle.rules.proofs.words.Stores.{counted_says, index_same, view_same, stores_worker, stores_shifted, stores_raised, stores_dropped}
-
--- a refusal's number is none of an answer's
-abbrev pub Numbered : Answer → Type 0
-Numbered Moving = Unit {0}
-Numbered (Put value sub row stamp) = Unit {0}
-Numbered (Taken value sub row stamp distance) = Unit {0}
-Numbered Empty = Unit {0}
-Numbered Full = Unit {0}
-Numbered (Refused n) = 4 < n
 
 -- P and T are where they were, where a queue's windows have sizes of their own
 abbrev pub Standing : Settings → List ℕ → List ℕ → Type 0
@@ -276,8 +267,7 @@ module _ (ws : List ℕ) (g : Settings) (fit : checked_of g.edition ws ≡ Fit g
         → number_of (apply_by ws g (worker_at g i) (sub_in state i) e o).answer ≡ 0 → Standing g ws (apply_by ws g (worker_at g i) (sub_in state i) e o).words
         → checked_of g.edition (apply_by ws g (worker_at g i) (sub_in state i) e o).words ≡ Fit g
     unfolding apply_by taken_of
-    by_outcome (Stopped n) (inl u) z same = absurd (omega arith)
-    by_outcome (Stopped n) (inr u) z same = absurd (omega arith)
+    by_outcome (Stopped n) shared z same = absurd (omega (arith, number_high n))
     by_outcome Moves shared z same = stays _ frame (λ has. (refl, shared.1)) shared.0 (stores_worker g ws state says i li lj few e does.blank shared)
     by_outcome Lost shared z same =
         stays _ frame (λ has. (refl, shared.1)) shared.0 (stores_worker g (count_lost ws g (worker_at g i)) state (counted_says g ws state says i li) i li lj few e does.blank shared)
@@ -316,8 +306,7 @@ module _ (ws : List ℕ) (g : Settings) (fit : checked_of g.edition ws ≡ Fit g
     left_by : (o : Outcome) → BusyAfter e.slot o → SharedAfter g (view_in g state i) (ItemIn g state i) e o
         → number_of (apply_by ws g (worker_at g i) (sub_in state i) e o).answer ≡ 0 → Left g i (apply_by ws g (worker_at g i) (sub_in state i) e o).words
     unfolding apply_by taken_of
-    left_by (Stopped n) busy (inl u) z = absurd (omega arith)
-    left_by (Stopped n) busy (inr u) z = absurd (omega arith)
+    left_by (Stopped n) busy shared z = absurd (omega (arith, number_high n))
     left_by Moves busy shared z = worker_left ws refl (λ m s. refl) busy
     left_by Lost busy shared z = worker_left _ (lost_length ws g (worker_at g i)) (λ m s. lost_above ws g (worker_at g i) m (omega (arith, s.below))) busy
     left_by Shifted busy shared z = worker_left _ (shifted_length ws e) (λ m s. shifted_off ws e m s.top s.mark) busy
@@ -327,25 +316,6 @@ module _ (ws : List ℕ) (g : Settings) (fit : checked_of g.edition ws ≡ Fit g
     left_by (Removed row) busy shared z = absurd (omega arith)
     left_by NoItem busy shared z = absurd (omega arith)
     left_by NoRoom busy shared z = absurd (omega arith)
-
-    numbered_by : (o : Outcome) → SharedAfter g (view_in g state i) (ItemIn g state i) e o → Numbered (apply_by ws g (worker_at g i) (sub_in state i) e o).answer
-    unfolding apply_by taken_of
-    numbered_by (Stopped n) (inl u) = omega arith
-    numbered_by (Stopped n) (inr u) = omega arith
-    numbered_by Moves shared = tt
-    numbered_by Lost shared = tt
-    numbered_by Shifted shared = tt
-    numbered_by Raised shared = tt
-    numbered_by Dropped shared = tt
-    numbered_by (Landed value row stamp) shared = tt
-    numbered_by (Removed row) shared = tt
-    numbered_by NoItem shared = tt
-    numbered_by NoRoom shared = tt
-
-    rule_numbered : Numbered (apply_of ws g (worker_at g i) (get_or ws (index_at (worker_at g i)) 0) (rule_of g (view_of ws g (worker_at g i)))).answer
-    unfolding apply_of
-    rule_numbered =
-        rw (view_same g ws state says i li lj live, index_same g ws state says i li) (numbered_by e.outcome does.shared)
 
     rule_stays : number_of (apply_of ws g (worker_at g i) (get_or ws (index_at (worker_at g i)) 0) (rule_of g (view_of ws g (worker_at g i)))).answer ≡ 0
         → Standing g ws (apply_of ws g (worker_at g i) (get_or ws (index_at (worker_at g i)) 0) (rule_of g (view_of ws g (worker_at g i)))).words
@@ -384,13 +354,3 @@ module _ (ws : List ℕ) (g : Settings) (fit : checked_of g.edition ws ≡ Fit g
 
   pub step_settings : (i : ℕ) → number_of (fit_step ws g i).answer ≡ 0 → settings_of (fit_step ws g i).words ≡ g
   step_settings i z = (step_left i z).settings
-
-  pub step_numbered : (i : ℕ) → Numbered (fit_step ws g i).answer
-  unfolding fit_step slot_step
-  step_numbered i =
-      cases Of (leb g.workers i) _ _ (λ a. omega arith)
-      (λ a. cases Of (eqb (get_or ws (worker_at g i) 0) 0) _ _ (λ b. omega arith)
-      (λ b. cases Of (out_of_steps ws) _ _ (λ c. omega arith) (λ c. rule_numbered i (leb-false _ _ a) (leb-false _ _ c))))
-    where
-      Of : Out → Type 0
-      Of o = Numbered o.answer

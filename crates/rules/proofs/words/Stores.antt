@@ -1,12 +1,11 @@
 -- What a worker reads of words that say the machine's state, and what they say after a begin, with a failed commit counted, after a size call, with a
 -- queue's window moved, and after a step that adds no held row, whatever the counts. An outcome stores less than all that a step may store, and leaves
 -- the same words (Writes).
-use mathlib.Core.Path.{◌≡◌, refl, sym, ap, ◌∙◌, subst}
+use mathlib.Core.Path.{◌≡◌, refl, sym, ap, ◌∙◌}
 use mathlib.Core.Logic.{◌≢◌, ◌⊎◌, inl, inr}
 use mathlib.Core.Bool.{Bool, true, false, false≢true}
 use mathlib.Core.List.{List}
-use Prim.Native.Nat.{ℕ, zero, suc, ◌+◌, ◌-◌, ◌≤◌, ◌<◌}
-use native.Mathlib.Nat.{le_refl}
+use Prim.Native.Nat.{ℕ, suc, ◌+◌, ◌-◌, ◌≤◌, ◌<◌}
 use native.Mathlib.Decide.{ℕ_discrete, dec_lt}
 use native.Mathlib.Omega.{arith}
 use lib.ListN.{length, get_or, set, length-set}
@@ -14,10 +13,9 @@ use lib.Seq.{get_or-set_other}
 use lib.Dec.{ltb}
 use borrow.Author.Tests.{ltb-true, lt-ltb, le-ltb}
 use Rattle.laws.specs.Choice.{cond, cases, both_true}
-use Rattle.laws.specs.Wrap.{add32}
 use Rattle.rules.specs.Limits.{step_limit, windowed, most_live, Bounds}
-use Rattle.rules.specs.Layout.{head_words, steps_at, puts_at, top_at, mark_at, sub_at, workers_at, worker_at, cells_at, windows_at, windows_words, next_width_at, next_depth_at, set_at, live_at, pair_at, worker_words, lost_word, index_at, lost_at, second_at, needed}
-use Rattle.rules.specs.Windows.{has_windows, no_size, next_size, live_of, nth_size, sizes_of}
+use Rattle.rules.specs.Layout.{steps_at, puts_at, top_at, mark_at, sub_at, workers_at, worker_at, cells_at, windows_at, next_width_at, next_depth_at, set_at, live_at, pair_at, worker_words, lost_word, index_at, lost_at, second_at}
+use Rattle.rules.specs.Windows.{has_windows, no_size, live_of, nth_size, sizes_of}
 use Rattle.rules.specs.Worker.{slot_at, put_slot, decode}
 use Rattle.rules.specs.Effects.{view_of}
 use Rattle.rules.specs.Apply.{count_lost, put_shifted, put_raised, put_dropped, put_worker}
@@ -25,12 +23,11 @@ use Rattle.rules.specs.Resize.{put_size}
 use Rattle.rules.proofs.Types.{Settings, Size, Slot, Effect}
 use Rattle.rules.proofs.Workers.{Read, windows_none, windows_some, windowed_is, windowed_not, worker_within, slots_apart, lost_apart}
 use Rattle.rules.proofs.counts.Sums.{upd, upd_same, upd_other}
-use Rattle.rules.proofs.counts.Wraps.{add32_is}
-use Rattle.rules.proofs.machine.Machine.{Frame, State, top_of, mark_of, size_at, sizes_in, raised_of, dropped_of, with_slot, with_size, sub_in, view_in, framed_in, after_in}
-use Rattle.rules.proofs.machine.Slots.{Blank, has_windows_law, has_none, windowed_none}
+use Rattle.rules.proofs.machine.Machine.{Frame, State, top_of, size_at, sizes_in, raised_of, dropped_of, with_slot, with_size, sub_in, view_in, framed_in, after_in}
+use Rattle.rules.proofs.machine.Slots.{Blank, has_none, windowed_none}
 use Rattle.rules.proofs.machine.Turns.{LiveFits}
 use Rattle.rules.proofs.machine.Does.{SameItems, SameWindow, Keeps, same_keeps, Rises, Drops}
-use Rattle.rules.proofs.words.Says.{Says, WindowsSay, rises}
+use Rattle.rules.proofs.words.Says.{Says, WindowsSay}
 use Rattle.rules.proofs.words.Writes.{settings_kept, slot_length, slot_off, slot_on, slot_kept, item_kept, item_kept_below, size_same, next_same, shared_set, SamePuts, SameTop, SameSub, still_shared, shifted_shared, raised_length, raised_below, raised_top, raised_live, raised_size, raised_last, dropped_length, dropped_below, dropped_mark, dropped_live, dropped_size, dropped_last, sized_length, sized_off, sized_set, sized_next}
 use Rattle.rules.proofs.words.After.{windows_kept, after_says, keeps_cells}
 

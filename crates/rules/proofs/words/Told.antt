@@ -8,22 +8,22 @@ use native.Mathlib.Omega.{arith}
 use lib.Dec.{leb, eqb}
 use borrow.Author.Tests.{le-leb}
 use Rattle.laws.specs.Choice.{cond, cases, both}
-use Rattle.rules.specs.Answers.{no_such_worker}
 use Rattle.rules.specs.Limits.{step_limit, windowed, size_fit}
 use Rattle.rules.specs.Layout.{settings_of, worker_at}
 use Rattle.rules.specs.Windows.{has_windows, live_of, nth_size}
 use Rattle.rules.specs.Worker.{slot_at, idle_phase}
-use Rattle.rules.specs.Measures.{Measures, no_measures, measured, seen_size, places_after, places_of, measures_of}
+use Rattle.rules.specs.Measures.{no_measures, measured, seen_size, places_after, places_of, measures_of}
 use Rattle.rules.specs.Step.{rule_of}
 use Rattle.rules.specs.Run.{Call, begin_put, begin_take, step, set_size, measures_at}
-use Rattle.rules.proofs.Types.{Settings, Size, Side, Putting, Taking, Slot, Effect, Outcome, Answer}
+use Rattle.rules.proofs.Types.{Settings, Size, Side, Putting, Taking, Slot, Effect, Outcome, Answered}
 use Rattle.rules.specs.declared.Outcome.TheVariants.{Refused as Stays, Moving, Lost, Shifted, Raised, Dropped, Landed, Removed, Empty, Full}
-use Rattle.rules.specs.declared.Answer.TheVariants.{Refused}
 use Rattle.rules.proofs.counts.Sums.{sum_n}
 use Rattle.rules.proofs.order.Law.{Next}
 use Rattle.rules.proofs.machine.Machine.{State, next, size_at, places_at, places_from, places_in, view_in, apply_in, apply_in_by, step_in, begin_in, set_size_in, next_in}
 use Rattle.rules.proofs.machine.Turns.{LiveFits}
 use Rattle.rules.proofs.words.Says.{Says}
+use Rattle.std.specs.Prelude.{Err}
+use Rattle.rules.specs.declared.Refusal.TheVariants.{NoSuchWorker}
 
 module _ (g : Settings) (s : State) where
   -- a step tells what its answer is held to
@@ -69,7 +69,7 @@ module _ (g : Settings) (s : State) where
       None o = o.measures ≡ no_measures
 
   -- a step of no worker of the pool's is refused
-  step_none : (i : ℕ) → g.workers ≤ i → step_in g s i ≡ next (Refused no_such_worker) s
+  step_none : (i : ℕ) → g.workers ≤ i → step_in g s i ≡ next (Err NoSuchWorker) s
   unfolding step_in cond
   step_none i l = rw (le-leb g.workers i l) refl
 
@@ -94,7 +94,7 @@ module _ (g : Settings) (s : State) where
             rw (e, few) (places_windows e (s.frame.tail - s.frame.head) (omega (arith, (live e).order)))
         go false e = rw (e, says.top, says.mark) refl
 
-    measures_said : (i : ℕ) → i < g.workers → (a : Answer) → measures_of ws (settings_of ws) (worker_at (settings_of ws) i) a ≡ measured (seen_size g (s.slot i)) (places_in g s) a
+    measures_said : (i : ℕ) → i < g.workers → (a : Answered) → measures_of ws (settings_of ws) (worker_at (settings_of ws) i) a ≡ measured (seen_size g (s.slot i)) (places_in g s) a
     unfolding measures_of
     measures_said i l a =
         ap (λ (h : Settings). measured (seen_size h (slot_at h ws (worker_at h i))) (places_of ws h) a) says.settings

@@ -13,26 +13,27 @@ use Rattle.printing.specs.declared.printed.Printed.TheVariants.{Nothing}
 use Rattle.tally.specs.declared.Tally.{Tally}
 use Rattle.turns.specs.declared.Printer.{Printer}
 use Rattle.turns.proofs.print_told.Goals as goal
+use Rattle.std.specs.Prelude.{Ok}
 
 -- the answer 0 counts nothing
-moving_tally : (t : Tally) (position : ℕ) (item : Item) → tallied t (event position item Moving) ≡ with_bound t (bound_after t.bound item 0)
+moving_tally : (t : Tally) (position : ℕ) (item : Item) → tallied t (event position item (Ok Moving)) ≡ with_bound t (bound_after t.bound item 0)
 unfolding tallied cond
 moving_tally t position item = let worst : max t.worst 0 ≡ t.worst = omega arith in rw worst refl
 
 -- and has no line
-moving_quiet : (m : Mode) (t : Tally) (position : ℕ) (item : Item) → event_printed m t (event position item Moving) ≡ Nothing
+moving_quiet : (m : Mode) (t : Tally) (position : ℕ) (item : Item) → event_printed m t (event position item (Ok Moving)) ≡ Nothing
 unfolding event_printed listed_of answer_printed cond
 moving_quiet Listing t position item = rw (le-ltb t.bound 0 (omega arith)) refl
 moving_quiet Summing t position item = refl
 
 head_turned : (m : Mode) (ws : List ℕ) (p : Printer) (position : ℕ) (item : Item)
-    → turn_by m ws p (goes (event position item Moving))
+    → turn_by m ws p (goes (event position item (Ok Moving)))
     ≡ record {
-      printer = record { place = place_after item Moving; position = (p.position + 1) % 2 ^ 64; tally = with_bound p.tally (bound_after p.tally.bound item 0) };
+      printer = record { place = place_after item (Ok Moving); position = (p.position + 1) % 2 ^ 64; tally = with_bound p.tally (bound_after p.tally.bound item 0) };
       printed = Nothing;
     }
 unfolding turn_by
-head_turned m ws p position item = rw (moving_quiet m (tallied p.tally (event position item Moving)) position item, moving_tally p.tally position item) refl
+head_turned m ws p position item = rw (moving_quiet m (tallied p.tally (event position item (Ok Moving))) position item, moving_tally p.tally position item) refl
 
 pub returns-in-Opens : goal.returns-in-Opens
 returns-in-Opens c = λ ws. simp (c.head_turn.ensures, c.in-Opens.is, head_turned)

@@ -5,6 +5,7 @@ use Rattle.rules.specs.Answers.{out}
 use Rattle.rules.specs.Begin.{slot_begin}
 use Rattle.rules.specs.declared.Answer.TheVariants.{Moving}
 use Rattle.calls.proofs.begin.slot_begin.Goals as goal
+use Rattle.std.specs.Prelude.{Ok}
 
 pub returns-then-out_of_steps : goal.returns-then-out_of_steps
 unfolding slot_begin cond
@@ -13,7 +14,7 @@ returns-then-out_of_steps c = simp (sym c.idle_at.ensures ∙ c.if-idle_at.true,
 pub returns-then-idle_at : goal.returns-then-idle_at
 unfolding slot_begin cond
 returns-then-idle_at c =
-    ap (out Moving) c.store.ensures
+    ap (out (Ok Moving)) c.store.ensures
     ∙ simp (
       c.fresh_slot-slot.ensures,
       c.index_of-index.ensures,

@@ -8,7 +8,7 @@ use Rattle.limits.proofs.Shipped.{shipped_windowed}
 use Rattle.rules.proofs.Workers.{windowed_is, windows_some}
 use Rattle.rules.specs.Fit.{body_checked, subs_fit}
 use Rattle.shared_fitness.proofs.Bottoms.{subs_by}
-use Rattle.fitness.proofs.Bodies.{body_by}
+use Rattle.fitness.proofs.Bodies.{fitness_by}
 use Rattle.fitness.proofs.quick.quick_body.Goals as goal
 
 pub returns-then-words-words_needed : goal.returns-then-words-words_needed
@@ -25,4 +25,4 @@ returns-then-plain_windows c =
     let long = rw c.words_needed.ensures at (le-ltb _ _ c.if-words-words_needed.false) in
     let windows = c.plain_windows.ensures c.if-plain_windows.true in
     let subs : subs_fit a.words.now a.g ≡ true = sym (subs_by a.words.now a.g _ windows.1) ∙ c.plain_subs.ensures c.if-plain_subs.true in
-    rw (body_by a.words.now a.g true true long (rw (windows.0, subs) refl) (sym c.if-every_fit.true ∙ c.every_fit.ensures)) refl
+    fitness_by a.words.now a.g true true long (rw (windows.0, subs) refl) (sym c.if-every_fit.true ∙ c.every_fit.ensures)

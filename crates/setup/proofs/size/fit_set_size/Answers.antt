@@ -10,6 +10,7 @@ use Rattle.rules.specs.declared.Answer.TheVariants.{Moving}
 use Rattle.rules.specs.Resize.{fit_set_size}
 use Rattle.rules.proofs.Workers.{windows_some}
 use Rattle.setup.proofs.size.fit_set_size.Goals as goal
+use Rattle.std.specs.Prelude.{Ok}
 
 pub returns-then-g-ne0 : goal.returns-then-g-ne0
 unfolding fit_set_size windowed cond
@@ -21,7 +22,7 @@ put_size-requires-clause-g_in_bounds c = omega (arith, c.requires.fit_pool.enoug
 pub returns-then-size_fit : goal.returns-then-size_fit
 unfolding fit_set_size windowed cond
 returns-then-size_fit c =
-    ap (out Moving) c.put_size.ensures
+    ap (out (Ok Moving)) c.put_size.ensures
     ∙ simp (c.requires.edition_value, eq-eqb _ _ c.if-g-ne0.false, sym c.size_fit.ensures ∙ c.if-size_fit.true)
 
 pub returns : goal.returns
