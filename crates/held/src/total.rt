@@ -7,11 +7,10 @@ ghost use Rattle.rules.specs.Make.{shipped};
 ghost use Rattle.rules.specs.Windows.{has_windows};
 
 use bands::{reach_of, whole_band, window_band};
-use fitness::refusal;
-use image::{settings, sub_of};
+use fitness::fit_settings;
+use image::sub_of;
 use queue_windows::{live_of, nth_size, take_bottom};
 use rules::Settings;
-use rules::numbers::SHIPPED;
 
 // How many rows sub `j` holds, window by window, from the lowest on.
 fn windows_held(words: &[u32], g: Settings, j: u32) -> u32
@@ -60,9 +59,8 @@ fn fit_items(words: &[u32], g: Settings) -> u32
 pub fn items(words: &[u32]) -> u32
     ensures { result ≡ held_of shipped words.now }
 {
-    if refusal(words, SHIPPED) != 0 {
-        return 0;
+    match fit_settings(words) {
+        Ok(g) => fit_items(words, g),
+        Err(_) => 0,
     }
-    let g = settings(words);
-    fit_items(words, g)
 }

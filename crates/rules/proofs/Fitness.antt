@@ -17,7 +17,7 @@ use Rattle.rules.specs.Make.{in_edition}
 use Rattle.rules.specs.Limits.{limits, queue_limits, settings_fit, windowed, size_limits, size_fit, most_live, Bounds}
 use Rattle.rules.specs.Windows.{has_windows, no_size, live_of, nth_size, level_of}
 use Rattle.rules.specs.Worker.{slot_at}
-use Rattle.rules.specs.Fit.{Checked, Unfit, Fit, sub_fit, subs_fit, phase_fit, past_window, span_limits, seen_fit, worker_limits, worker_fit, workers_fit, no_size_fit, pair_fit, sizes_fit, tops_fit, windows_fit, body_fit, body_checked, head_checked, checked_by, checked_of, refusal_of, SubFits, SizeFits, SpanFits, WindowsFit, FitPool, fitness_of}
+use Rattle.rules.specs.Fit.{Checked, Unfit, Fit, sub_fit, subs_fit, phase_fit, past_window, span_limits, seen_fit, worker_limits, worker_fit, workers_fit, no_size_fit, pair_fit, sizes_fit, tops_fit, windows_fit, body_fit, body_checked, head_checked, checked_by, checked_of, refusal_of, SubFits, SizeFits, SpanFits, WindowsFit, FitPool, fitness_of, settings_found}
 use Rattle.rules.specs.declared.Settings.{Settings}
 use Rattle.rules.specs.declared.Size.{Size}
 use Rattle.rules.specs.declared.Slot.{Slot}
@@ -294,3 +294,12 @@ found_fit other ed ws = go (checked_by other ed ws) (numbered other ed ws)
 pub found_unfit : (c : Checked) (refusal : Refusal) → Err refusal ≡ fitness_of c → c ≡ Unfit refusal
 found_unfit (Unfit n) refusal e = ap Unfit cc
 found_unfit (Fit g) refusal e = let z : ◌≡◌ {A = ℕ} 0 1 = cc in absurd (omega arith)
+
+-- or its settings
+pub found_settings : (c : Checked) (g : Settings) → Ok g ≡ settings_found c → c ≡ Fit g
+found_settings (Unfit n) g e = let z : ◌≡◌ {A = ℕ} 0 1 = cc in absurd (omega arith)
+found_settings (Fit h) g e = ap Fit cc
+
+pub found_refusal : (c : Checked) (refusal : Refusal) → Err refusal ≡ settings_found c → c ≡ Unfit refusal
+found_refusal (Unfit n) refusal e = ap Unfit cc
+found_refusal (Fit g) refusal e = let z : ◌≡◌ {A = ℕ} 0 1 = cc in absurd (omega arith)

@@ -1,61 +1,47 @@
-// An answer's number, and its five fields.
+// The number of an answer or of a refusal, and its five fields.
 ghost use Rattle.std.specs.Prelude.{◌≡◌};
 ghost use Rattle.rules.specs.Answers.{number_of, fields_of, final_of};
 
-use rules::{Answer, Row, Stamp};
+use rules::{Answer, Refusal, Row, Stamp};
 
-// The number of an answer.
-pub fn number(a: Answer) -> u32
+// The number of what a call comes to.
+pub fn number(a: Result<Answer, Refusal>) -> u32
     ensures { result ≡ number_of a }
 {
     match a {
-        Answer::Moving => 0,
-        Answer::Put {
-            value: _,
-            sub: _,
-            row: _,
-            stamp: _,
-        } => 1,
-        Answer::Taken {
-            value: _,
-            sub: _,
-            row: _,
-            stamp: _,
-            distance: _,
-        } => 2,
-        Answer::Empty => 3,
-        Answer::Full => 4,
-        Answer::Refused(n) => n,
+        Ok(Answer::Moving) => 0,
+        Ok(Answer::Put { .. }) => 1,
+        Ok(Answer::Taken { .. }) => 2,
+        Ok(Answer::Empty) => 3,
+        Ok(Answer::Full) => 4,
+        Err(refusal) => refusal.number(),
     }
 }
 
-// Value, sub, row, stamp and distance; zeros where the answer names none.
-pub fn fields(a: Answer) -> [u32; 5]
+// Value, sub, row, stamp and distance; zeros where it names none.
+pub fn fields(a: Result<Answer, Refusal>) -> [u32; 5]
     ensures { result ≡ fields_of a }
 {
     match a {
-        Answer::Moving => [0, 0, 0, 0, 0],
-        Answer::Put {
+        Ok(Answer::Put {
             value,
             sub,
             row,
             stamp,
-        } => [value, sub, row.0, stamp.0, 0],
-        Answer::Taken {
+        }) => [value, sub, row.0, stamp.0, 0],
+        Ok(Answer::Taken {
             value,
             sub,
             row,
             stamp,
             distance,
-        } => [value, sub, row.0, stamp.0, distance],
-        Answer::Empty => [0, 0, 0, 0, 0],
-        Answer::Full => [0, 0, 0, 0, 0],
-        Answer::Refused(_) => [0, 0, 0, 0, 0],
+        }) => [value, sub, row.0, stamp.0, distance],
+        _ => [0; 5],
     }
 }
 
-// Writes the five fields of an answer; its number.
-pub fn answered(a: Answer, five: &mut [u32; 5]) -> u32
+// Writes the five fields of what a call comes to; its number.
+pub fn answered(a: Result<Answer, Refusal>, five: &mut [u32; 5]) -> u32
     ensures { (result ≡ number_of a) × (five.new ≡ fields_of a) }
 {
     *five = fields(a);
@@ -66,25 +52,24 @@ pub fn answered(a: Answer, five: &mut [u32; 5]) -> u32
 pub fn final_answer(n: u32, five: [u32; 5]) -> Answer
     ensures { result ≡ final_of n five }
 {
-    if n == 1 {
-        return Answer::Put {
-            value: five[0],
-            sub: five[1],
-            row: Row(five[2]),
-            stamp: Stamp(five[3]),
-        };
+    let [value, sub, row, stamp, distance] = five;
+    let row = Row(row);
+    let stamp = Stamp(stamp);
+    match n {
+        1 => Answer::Put {
+            value,
+            sub,
+            row,
+            stamp,
+        },
+        2 => Answer::Taken {
+            value,
+            sub,
+            row,
+            stamp,
+            distance,
+        },
+        3 => Answer::Empty,
+        _ => Answer::Full,
     }
-    if n == 2 {
-        return Answer::Taken {
-            value: five[0],
-            sub: five[1],
-            row: Row(five[2]),
-            stamp: Stamp(five[3]),
-            distance: five[4],
-        };
-    }
-    if n == 3 {
-        return Answer::Empty;
-    }
-    Answer::Full
 }

@@ -14,7 +14,7 @@ use phases::read::{queue_put_read, queue_take_read, stack_read};
 use phases::rule::rule;
 use phases::window::window;
 use rules::numbers::{COMMIT, READ, TAKE_COMMIT, TAKE_READ, TAKE_WINDOW, WINDOW};
-use rules::{Answer, Effect, Phase, Settings, Side, Slot, Version};
+use rules::{Answer, Effect, Phase, Refusal, Settings, Side, Slot, Version};
 use slots::{index_of, load, phase_number, put_worker};
 use step_views::{commit_sizes, look_sizes, no_sizes, view, view_in};
 use worker::{seen_by, side_of};
@@ -30,7 +30,7 @@ fn look_effect(words: &[u32], g: Settings, kept: Slot, side: Side) -> Effect
     window(g, v, side)
 }
 
-fn look(words: &mut [u32], g: Settings, at: usize, side: Side) -> Answer
+fn look(words: &mut [u32], g: Settings, at: usize, side: Side) -> Result<Answer, Refusal>
     requires ready { Ready g words.old at }
     requires at_value { get_or words.old (phase_at at) 0 ≡ number_for side window_phase }
     ensures { out result words.new ≡ rule_step words.old g at }
@@ -38,7 +38,7 @@ fn look(words: &mut [u32], g: Settings, at: usize, side: Side) -> Answer
     let kept = load(words, g, at);
     let e = look_effect(words, g, kept, side);
     put_worker(words, g, at, e);
-    Answer::Moving
+    Ok(Answer::Moving)
 }
 
 // The read phase: the worker reads a sub.
@@ -108,7 +108,7 @@ fn read_effect(words: &[u32], g: Settings, kept: Slot, side: Side) -> Effect
     }
 }
 
-fn read(words: &mut [u32], g: Settings, at: usize, side: Side) -> Answer
+fn read(words: &mut [u32], g: Settings, at: usize, side: Side) -> Result<Answer, Refusal>
     requires ready { Ready g words.old at }
     requires at_value { get_or words.old (phase_at at) 0 ≡ number_for side read_phase }
     ensures { out result words.new ≡ rule_step words.old g at }
@@ -116,7 +116,7 @@ fn read(words: &mut [u32], g: Settings, at: usize, side: Side) -> Answer
     let kept = load(words, g, at);
     let e = read_effect(words, g, kept, side);
     put_worker(words, g, at, e);
-    Answer::Moving
+    Ok(Answer::Moving)
 }
 
 // The commit phase.
@@ -156,7 +156,7 @@ fn commit_effect(words: &[u32], g: Settings, kept: Slot, side: Side) -> Effect
     }
 }
 
-fn commit(words: &mut [u32], g: Settings, at: usize, side: Side) -> Answer
+fn commit(words: &mut [u32], g: Settings, at: usize, side: Side) -> Result<Answer, Refusal>
     requires ready { Ready g words.old at }
     requires at_value { get_or words.old (phase_at at) 0 ≡ number_for side commit_phase }
     ensures { out result words.new ≡ rule_step words.old g at }
@@ -167,7 +167,7 @@ fn commit(words: &mut [u32], g: Settings, at: usize, side: Side) -> Answer
 }
 
 // A late phase: the shift and the confirm, after a pass that found no sub, and a stack's check.
-fn late(words: &mut [u32], g: Settings, at: usize) -> Answer
+fn late(words: &mut [u32], g: Settings, at: usize) -> Result<Answer, Refusal>
     requires ready { Ready g words.old at }
     requires late { Late (phase_of g (slot_at g words.old at)) }
     ensures { out result words.new ≡ rule_step words.old g at }
@@ -179,7 +179,7 @@ fn late(words: &mut [u32], g: Settings, at: usize) -> Answer
 }
 
 // The phase's rule, and what it writes.
-pub fn phase_step(words: &mut [u32], g: Settings, at: usize) -> Answer
+pub fn phase_step(words: &mut [u32], g: Settings, at: usize) -> Result<Answer, Refusal>
     requires { Ready g words.old at }
     ensures { out result words.new ≡ rule_step words.old g at }
 {

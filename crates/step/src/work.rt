@@ -9,33 +9,32 @@ ghost use Rattle.step_views.specs.ByPhase.{Ready};
 
 use crate::answers::answered;
 use crate::by_phase::phase_step;
-use fitness::refusal;
+use fitness::fit_settings;
 use image::{out_of_steps, shipped_settings, worker_at};
-use rules::numbers::{NO_SUCH_WORKER, SHIPPED, STEPS_SPENT, WORKER_IDLE};
-use rules::{Answer, Settings};
+use rules::{Answer, Refusal, Settings};
 use slots::idle_at;
 
 // A step of the worker whose words start at `at`.
-fn slot_step(words: &mut [u32], g: Settings, at: usize) -> Answer
+fn slot_step(words: &mut [u32], g: Settings, at: usize) -> Result<Answer, Refusal>
     requires { Ready g words.old at }
     ensures { out result words.new ≡ slot_step words.old g at }
 {
     if idle_at(words, at) {
-        return Answer::Refused(WORKER_IDLE);
+        return Err(Refusal::WorkerIdle);
     }
     if out_of_steps(words) {
-        return Answer::Refused(STEPS_SPENT);
+        return Err(Refusal::StepsSpent);
     }
     phase_step(words, g, at)
 }
 
 // A step of worker `i` of a fit pool.
-fn fit_step(words: &mut [u32], g: Settings, i: u32) -> Answer
+fn fit_step(words: &mut [u32], g: Settings, i: u32) -> Result<Answer, Refusal>
     requires { FitPool g words.old }
     ensures { out result words.new ≡ fit_step words.old g i }
 {
     if g.workers <= i {
-        return Answer::Refused(NO_SUCH_WORKER);
+        return Err(Refusal::NoSuchWorker);
     }
     slot_step(words, g, worker_at(g, i))
 }
@@ -47,18 +46,13 @@ pub fn fit_answer(words: &mut [u32], i: u32, five: &mut [u32; 5]) -> u32
     ensures { returned result words.new five.new ≡ returned_of (fit_step words.old (settings_of words.old) i) }
 {
     let g = shipped_settings(words);
-    let a = fit_step(words, g, i);
-    answered(a, five)
+    answered(fit_step(words, g, i), five)
 }
 
 // One step of a worker.
-pub fn step(words: &mut [u32], worker: u32) -> Answer
+pub fn step(words: &mut [u32], worker: u32) -> Result<Answer, Refusal>
     ensures { out result words.new ≡ step_of shipped words.old worker }
 {
-    let n = refusal(words, SHIPPED);
-    if n != 0 {
-        return Answer::Refused(n);
-    }
-    let g = shipped_settings(words);
+    let g = fit_settings(words)?;
     fit_step(words, g, worker)
 }

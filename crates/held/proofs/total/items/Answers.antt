@@ -1,36 +1,19 @@
 -- `held::total::items` meets its contract: words that are fit are counted sub by sub; of other words none.
-use mathlib.Core.Path.{◌≡◌, ap, sym, ◌∙◌}
-use native.Mathlib.Omega.{arith}
-use lib.ListN.{length}
-use Rattle.rules.proofs.Fitness.{fit_pool, refusal_none, refusal_some}
-use Rattle.rules.specs.Fit.{Checked, Fit, checked_of}
-use Rattle.rules.specs.Held.{held_by, held_items, held_of}
-use Rattle.rules.specs.declared.Settings.{Settings}
-use Rattle.rules.specs.Layout.{settings_of}
+use Rattle.std.proofs.Common.{sym, ap, ◌∙◌}
+use Rattle.rules.proofs.Fitness.{fit_pool, found_settings, found_refusal}
+use Rattle.rules.specs.Fit.{Checked, checked_of}
+use Rattle.rules.specs.Held.{held_by, held_of}
 use Rattle.rules.specs.Make.{shipped}
 use Rattle.held.proofs.total.items.Goals as goal
 
-pub returns-then-refusal-ne0 : goal.returns-then-refusal-ne0
-unfolding held_of held_by
-returns-then-refusal-ne0 c =
-    let ws = c.args.words.now in
-    ap (λ (k : Checked). held_by ws k) (sym (refusal_some shipped ws (λ z. c.if-refusal-ne0.true (c.refusal.ensures ∙ z))))
-
-pub settings-g-requires : goal.settings-g-requires
-settings-g-requires c =
-    let fit : let ws = c.args.words.now in checked_of shipped ws ≡ Fit (settings_of ws) = (refusal_none shipped _ (sym c.refusal.ensures ∙ c.if-refusal-ne0.false)) in
-    omega (arith, (fit_pool shipped _ _ fit).enough)
-
 pub fit_items-requires : goal.fit_items-requires
-fit_items-requires c =
-    let fit : let ws = c.args.words.now in checked_of shipped ws ≡ Fit (settings_of ws) = (refusal_none shipped _ (sym c.refusal.ensures ∙ c.if-refusal-ne0.false)) in
-    rw c.settings-g.ensures (fit_pool shipped _ _ fit)
+fit_items-requires c = fit_pool shipped _ _ (found_settings (checked_of shipped c.args.words.now) _ c.in-Ok.ensures)
 
-pub returns : goal.returns
+pub returns-in-Ok : goal.returns-in-Ok
 unfolding held_of held_by
-returns c =
-    let fit : let ws = c.args.words.now in checked_of shipped ws ≡ Fit (settings_of ws) = (refusal_none shipped _ (sym c.refusal.ensures ∙ c.if-refusal-ne0.false)) in
-    let ws = c.args.words.now in
-    c.fit_items.ensures
-    ∙ ap (λ (g : Settings). length (held_items ws g)) c.settings-g.ensures
-    ∙ ap (λ (k : Checked). held_by ws k) (sym fit)
+returns-in-Ok c =
+    c.fit_items.ensures ∙ ap (λ (k : Checked). held_by c.args.words.now k) (sym (found_settings (checked_of shipped c.args.words.now) _ c.in-Ok.ensures))
+
+pub returns-in-Err : goal.returns-in-Err
+unfolding held_of held_by
+returns-in-Err c = ap (λ (k : Checked). held_by c.args.words.now k) (sym (found_refusal (checked_of shipped c.args.words.now) _ c.in-Err.ensures))
