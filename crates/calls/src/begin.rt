@@ -13,7 +13,13 @@ use slots::{idle_at, index_of, store};
 use worker::fresh_slot;
 
 // Begins the worker whose words start at `at`.
-fn slot_begin(words: &mut [u32], g: Settings, at: usize, side: Side, value: u32) -> Result<Answer, Refusal>
+fn slot_begin(
+    words: &mut [u32],
+    g: Settings,
+    at: usize,
+    side: Side,
+    value: u32,
+) -> Result<Answer, Refusal>
     requires { Lent g words.old at }
     ensures { out result words.new ≡ slot_begin words.old g at side value }
 {
@@ -30,7 +36,13 @@ fn slot_begin(words: &mut [u32], g: Settings, at: usize, side: Side, value: u32)
 }
 
 // Begins worker `i` of a fit pool.
-pub fn fit_begin(words: &mut [u32], g: Settings, i: u32, side: Side, value: u32) -> Result<Answer, Refusal>
+pub fn fit_begin(
+    words: &mut [u32],
+    g: Settings,
+    i: u32,
+    side: Side,
+    value: u32,
+) -> Result<Answer, Refusal>
     requires { FitPool g words.old }
     ensures { out result words.new ≡ fit_begin words.old g i side value }
 {

@@ -23,19 +23,23 @@ pub fn fields(a: Result<Answer, Refusal>) -> [u32; 5]
     ensures { result ≡ fields_of a }
 {
     match a {
-        Ok(Answer::Put {
-            value,
-            sub,
-            row,
-            stamp,
-        }) => [value, sub, row.0, stamp.0, 0],
-        Ok(Answer::Taken {
-            value,
-            sub,
-            row,
-            stamp,
-            distance,
-        }) => [value, sub, row.0, stamp.0, distance],
+        Ok(
+            Answer::Put {
+                value,
+                sub,
+                row,
+                stamp,
+            },
+        ) => [value, sub, row.0, stamp.0, 0],
+        Ok(
+            Answer::Taken {
+                value,
+                sub,
+                row,
+                stamp,
+                distance,
+            },
+        ) => [value, sub, row.0, stamp.0, distance],
         _ => [0; 5],
     }
 }

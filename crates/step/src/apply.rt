@@ -42,31 +42,32 @@ pub fn apply_commit(
     requires j_lt_width { (j < g.width) × Commits e.outcome }
     ensures { out result words.new ≡ apply_of words.old g at j e }
 {
-    let answer = match e.outcome {
-        Outcome::Refused(refusal) => return Err(refusal),
+    match e.outcome {
+        Outcome::Refused(refusal) => Err(refusal),
         Outcome::Lost => {
             count_lost(words, g, at);
-            Answer::Moving
+            put_worker(words, g, at, e);
+            Ok(Answer::Moving)
         }
         Outcome::Landed { value, row, stamp } => {
             put_landed(words, g, j, value, row, stamp, e);
-            Answer::Put {
+            put_worker(words, g, at, e);
+            Ok(Answer::Put {
                 value,
                 sub: j,
                 row,
                 stamp,
-            }
+            })
         }
         Outcome::Removed { row } => {
             let answer = taken(words, g, j, row);
             put_sub(words, j, e);
-            answer
+            put_worker(words, g, at, e);
+            Ok(answer)
         }
         // No commit ends in another way.
         _ => unreachable!(),
-    };
-    put_worker(words, g, at, e);
-    Ok(answer)
+    }
 }
 
 // Writes a late phase's effect of the worker whose words start at `at` and whose sub is `j`.
@@ -82,26 +83,36 @@ pub fn apply(
     requires allowed { Allowed words.old g e.outcome }
     ensures { out result words.new ≡ apply_of words.old g at j e }
 {
-    let answer = match e.outcome {
-        Outcome::Refused(refusal) => return Err(refusal),
-        Outcome::Moving => Answer::Moving,
+    match e.outcome {
+        Outcome::Refused(refusal) => Err(refusal),
+        Outcome::Moving => {
+            put_worker(words, g, at, e);
+            Ok(Answer::Moving)
+        }
         Outcome::Shifted => {
             put_shifted(words, e);
-            Answer::Moving
+            put_worker(words, g, at, e);
+            Ok(Answer::Moving)
         }
         Outcome::Raised => {
             put_raised(words, g, e);
-            Answer::Moving
+            put_worker(words, g, at, e);
+            Ok(Answer::Moving)
         }
         Outcome::Dropped => {
             put_dropped(words, g, e);
-            Answer::Moving
+            put_worker(words, g, at, e);
+            Ok(Answer::Moving)
         }
-        Outcome::Empty => Answer::Empty,
-        Outcome::Full => Answer::Full,
+        Outcome::Empty => {
+            put_worker(words, g, at, e);
+            Ok(Answer::Empty)
+        }
+        Outcome::Full => {
+            put_worker(words, g, at, e);
+            Ok(Answer::Full)
+        }
         // Only a commit ends in another way.
         _ => unreachable!(),
-    };
-    put_worker(words, g, at, e);
-    Ok(answer)
+    }
 }

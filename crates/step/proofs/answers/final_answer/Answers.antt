@@ -1,21 +1,21 @@
--- `step::answers::final_answer` meets its contract: at each return the tests that led there pick the same branch of `final_of`.
-use borrow.Author.Tests.{eq-eqb, ne_eqb}
-use Rattle.rules.specs.Answers.{final_of}
+-- `step::answers::final_answer` meets its contract: each number picks its branch of `final_of`, and a number that is none of them the last one.
 use Rattle.laws.specs.Choice.{cond}
+use Rattle.laws.specs.Tests.{tests}
+use Rattle.rules.specs.Answers.{final_of}
 use Rattle.step.proofs.answers.final_answer.Goals as goal
 
-pub returns-then-n-eq1 : goal.returns-then-n-eq1
+pub returns-in-1 : goal.returns-in-1
 unfolding final_of cond
-returns-then-n-eq1 c = simp (eq-eqb _ _ c.if-n-eq1.true)
+returns-in-1 c = simp c.in-1.is
 
-pub returns-then-n-eq2 : goal.returns-then-n-eq2
+pub returns-in-2 : goal.returns-in-2
 unfolding final_of cond
-returns-then-n-eq2 c = simp (ne_eqb _ _ c.if-n-eq1.false, eq-eqb _ _ c.if-n-eq2.true)
+returns-in-2 c = simp c.in-2.is
 
-pub returns-then-n-eq3 : goal.returns-then-n-eq3
+pub returns-in-3 : goal.returns-in-3
 unfolding final_of cond
-returns-then-n-eq3 c = simp (ne_eqb _ _ c.if-n-eq1.false, ne_eqb _ _ c.if-n-eq2.false, eq-eqb _ _ c.if-n-eq3.true)
+returns-in-3 c = simp c.in-3.is
 
-pub returns : goal.returns
+pub returns-in_default : goal.returns-in_default
 unfolding final_of cond
-returns c = simp (ne_eqb _ _ c.if-n-eq1.false, ne_eqb _ _ c.if-n-eq2.false, ne_eqb _ _ c.if-n-eq3.false)
+returns-in_default c = search (tests, c.in_default)

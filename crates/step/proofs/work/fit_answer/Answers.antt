@@ -9,5 +9,5 @@ shipped_settings-g-requires c =
     let fit = c.requires in
     (omega (arith, (fit_pool shipped _ _ fit).enough), (fit_head shipped _ _ fit).1)
 
-pub fit_step-a-requires : goal.fit_step-a-requires
-fit_step-a-requires c = rw c.shipped_settings-g.ensures (fit_pool shipped _ _ c.requires)
+pub fit_step-requires : goal.fit_step-requires
+fit_step-requires c = rw c.shipped_settings-g.ensures (fit_pool shipped _ _ c.requires)

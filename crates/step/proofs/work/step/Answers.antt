@@ -1,39 +1,23 @@
--- `step::work::step` meets its contract: at each return the tests that led there pick the same branch of `step_of`, and each call stands for what it ensures.
-use mathlib.Core.Path.{ap, sym, ◌∙◌}
-use Prim.Native.Nat.{ℕ}
-use native.Mathlib.Omega.{arith}
-use Rattle.rules.specs.Fit.{Checked}
-use Rattle.rules.specs.Step.{checked_step, fit_step, step_of}
-use Rattle.rules.proofs.Fitness.{fit_pool, fit_head, refusal_none, refusal_some}
-use Rattle.rules.specs.declared.Settings.{Settings}
-use Rattle.rules.specs.Layout.{settings_of}
-use Rattle.rules.specs.Answers.{refuse}
+-- `step::work::step` meets its contract: a pool that is not fit is refused, and the step of a fit one is `fit_step`'s.
+use Rattle.std.proofs.Common.{sym, ap, ◌∙◌}
+use Rattle.std.proofs.lemmas.Result.{err_from_is_err_and}
+use Rattle.rules.proofs.Fitness.{fit_pool, found_settings, found_refusal}
+use Rattle.rules.specs.Fit.{Checked, checked_of}
+use Rattle.rules.specs.Step.{checked_step, step_of}
 use Rattle.rules.specs.Make.{shipped}
 use Rattle.step.proofs.work.step.Goals as goal
 
-pub returns-then-n-ne0 : goal.returns-then-n-ne0
-unfolding step_of checked_step
-returns-then-n-ne0 c =
-    let a = c.args in
-    let e = c.refusal-n.ensures in
-    ap (λ (m : ℕ). refuse m a.words.now) e
-    ∙ ap (λ (k : Checked). checked_step a.words.now k a.worker) (sym (refusal_some shipped a.words.now (λ z. c.if-n-ne0.true (e ∙ z))))
-
-pub shipped_settings-g-requires : goal.shipped_settings-g-requires
-shipped_settings-g-requires c =
-    let ws = c.args.words.now in
-    let fit = refusal_none shipped ws (sym c.refusal-n.ensures ∙ c.if-n-ne0.false) in
-    (omega (arith, (fit_pool shipped ws (settings_of ws) fit).enough), (fit_head shipped ws (settings_of ws) fit).1)
-
 pub fit_step-requires : goal.fit_step-requires
-fit_step-requires c =
-    let ws = c.args.words.now in
-    rw c.shipped_settings-g.ensures (fit_pool shipped ws (settings_of ws) (refusal_none shipped ws (sym c.refusal-n.ensures ∙ c.if-n-ne0.false)))
+fit_step-requires c = fit_pool shipped _ _ (found_settings (checked_of shipped c.args.words.now) _ c.in_ok-g.ensures)
 
 pub returns : goal.returns
 unfolding step_of checked_step
 returns c =
-    let a = c.args in
     c.fit_step.ensures
-    ∙ ap (λ (g : Settings). fit_step a.words.now g a.worker) c.shipped_settings-g.ensures
-    ∙ ap (λ (k : Checked). checked_step a.words.now k a.worker) (sym (refusal_none shipped a.words.now (sym c.refusal-n.ensures ∙ c.if-n-ne0.false)))
+    ∙ ap (λ (k : Checked). checked_step c.args.words.now k c.args.worker) (sym (found_settings (checked_of shipped c.args.words.now) _ c.in_ok-g.ensures))
+
+pub returns-in_err-g : goal.returns-in_err-g
+unfolding step_of checked_step
+returns-in_err-g c =
+    let p = err_from_is_err_and c.from_residual.result c.from_residual.ensures.1 in
+    rw (p.1, p.2) (ap (λ (k : Checked). checked_step c.args.words.now k c.args.worker) (sym (found_refusal (checked_of shipped c.args.words.now) _ c.in_err-g.ensures)))
