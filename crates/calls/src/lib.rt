@@ -1,8 +1,10 @@
 // Begins and steps: what is asked of a worker, and the one function behind them all.
 #![tactic(auto)]
 
+mod asked;
 mod begin;
 mod entry;
 
+pub use asked::Asked;
 pub use begin::{begin_put, begin_take};
-pub use entry::{PUT, STEP, TAKE, call, next_answer};
+pub use entry::{call, next_answer};

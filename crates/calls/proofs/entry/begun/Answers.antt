@@ -9,5 +9,5 @@ shipped_settings-g-requires c =
     let fit = c.requires in
     (omega (arith, (fit_pool shipped _ _ fit).enough), (fit_head shipped _ _ fit).1)
 
-pub fit_begin-a-requires : goal.fit_begin-a-requires
-fit_begin-a-requires c = rw c.shipped_settings-g.ensures (fit_pool shipped _ _ c.requires)
+pub fit_begin-requires : goal.fit_begin-requires
+fit_begin-requires c = rw c.shipped_settings-g.ensures (fit_pool shipped _ _ c.requires)

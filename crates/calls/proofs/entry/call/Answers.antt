@@ -1,38 +1,58 @@
 -- `calls::entry::call` meets its contract: the check's refusal, or of a fit pool what is asked for.
-use Prim.Native.Nat.{ℕ}
-use mathlib.Core.Path.{ap, sym, ◌∙◌}
-use Rattle.rules.specs.Answers.{refuse, returned_of}
-use Rattle.rules.specs.Begin.{fit_begin}
+use Rattle.std.proofs.Common.{ℕ, List, ◌≡◌, sym, ap, refl, ◌∙◌, ◌⊎◌, inl, inr}
+use Rattle.rules.proofs.Fitness.{found_fit, found_unfit}
+use Rattle.rules.specs.Answers.{Out, refuse, returned_of}
+use Rattle.rules.specs.Begin.{fit_begin, checked_begin, begin_of}
+use Rattle.rules.specs.Fit.{Checked, Fit, Unfit, checked_of}
 use Rattle.rules.specs.Layout.{settings_of}
 use Rattle.rules.specs.Make.{shipped}
+use Rattle.rules.specs.Step.{fit_step, checked_step, step_of}
+use Rattle.rules.specs.declared.Refusal.{Refusal}
+use Rattle.rules.specs.declared.Refusal.TheVariants.{NotFit}
 use Rattle.rules.specs.declared.Side.{Side}
-use Rattle.rules.proofs.Fitness.{refusal_none}
-use Rattle.calls.proofs.Asked.{called_refused, called_step, called_begin}
+use Rattle.calls.specs.Called.{called}
+use Rattle.calls.specs.declared.asked.Asked.{Asked}
+use Rattle.calls.specs.declared.asked.Asked.TheVariants.{Put, Take, Step, CheckedStep}
 use Rattle.calls.proofs.entry.call.Goals as goal
+use Rattle.calls.proofs.entry.call.Goals.{in-Put, in-Take}
 
-pub returns-then-n-ne0 : goal.returns-then-n-ne0
-returns-then-n-ne0 c =
+called_refused : (asked : Asked) (ws : List ℕ) (i value : ℕ) (refusal : Refusal) → checked_of shipped ws ≡ Unfit refusal → refuse refusal ws ≡ called asked ws i value
+unfolding begin_of checked_begin step_of checked_step
+called_refused Put ws i value refusal e = rw e refl
+called_refused Take ws i value refusal e = rw e refl
+called_refused Step ws i value refusal e = rw e refl
+called_refused CheckedStep ws i value refusal e = rw e refl
+
+called_step : (asked : Asked) (ws : List ℕ) (i value : ℕ) → checked_of shipped ws ≡ Fit (settings_of ws) → (asked ≡ Step) ⊎ (asked ≡ CheckedStep)
+    → fit_step ws (settings_of ws) i ≡ called asked ws i value
+unfolding step_of checked_step
+called_step asked ws i value fit (inl e) = rw (e, fit) refl
+called_step asked ws i value fit (inr e) = rw (e, fit) refl
+
+pub returns-in-Err : goal.returns-in-Err
+returns-in-Err c =
     let a = c.args in
-    let e = c.check-n.ensures in
-    let is = ap (λ (m : ℕ). refuse m a.words.now) e ∙ called_refused a.what a.words.now a.i a.value (λ z. c.if-n-ne0.true (e ∙ z)) in
-    rw (c.answered.ensures.0, c.answered.ensures.1) (ap returned_of is)
+    rw (c.answered.ensures.0, c.answered.ensures.1)
+    (ap returned_of (called_refused a.asked a.words.now a.i a.value c.in-Err.refusal (found_unfit _ _ c.in-Err.ensures)))
 
 pub fit_answer-requires : goal.fit_answer-requires
-fit_answer-requires c = refusal_none shipped _ (sym c.check-n.ensures ∙ c.if-n-ne0.false)
+fit_answer-requires c = found_fit NotFit shipped _ c.in_default.ensures
 
-pub returns-then-what-ge-STEP : goal.returns-then-what-ge-STEP
-returns-then-what-ge-STEP c =
+pub returns-in-Step : goal.returns-in-Step
+returns-in-Step c =
     let a = c.args in
-    let fit = refusal_none shipped a.words.now (sym c.check-n.ensures ∙ c.if-n-ne0.false) in
-    c.fit_answer.ensures ∙ ap returned_of (called_step a.what a.words.now a.i a.value fit c.if-what-ge-STEP.true)
+    c.fit_answer.ensures ∙ ap returned_of (called_step a.asked a.words.now a.i a.value (found_fit NotFit shipped _ c.in_default.ensures) c.in-Step.is)
 
 pub begun-requires : goal.begun-requires
-begun-requires c = refusal_none shipped _ (sym c.check-n.ensures ∙ c.if-n-ne0.false)
+begun-requires c = found_fit NotFit shipped _ c.in_default.ensures
 
 pub returns : goal.returns
+unfolding begin_of checked_begin
 returns c =
     let a = c.args in
-    let fit = refusal_none shipped a.words.now (sym c.check-n.ensures ∙ c.if-n-ne0.false) in
-    c.begun.ensures
-    ∙ ap (λ (s : Side). returned_of (fit_begin a.words.now (settings_of a.words.now) a.i s a.value)) c.side_for.ensures
-    ∙ ap returned_of (called_begin a.what a.words.now a.i a.value fit c.if-what-ge-STEP.false)
+    let begun = λ (s : Side). returned_of (fit_begin a.words.now (settings_of a.words.now) a.i s a.value) in
+    let fit = found_fit NotFit shipped a.words.now c.in_default.ensures in
+    elim c.match-asked.branch [
+      | in-Put w ↦ c.begun.ensures ∙ ap begun w.side-is ∙ (rw (w.in-Put.is, fit) refl)
+      | in-Take w ↦ c.begun.ensures ∙ ap begun w.side-is ∙ (rw (w.in-Take.is, fit) refl)
+    ]

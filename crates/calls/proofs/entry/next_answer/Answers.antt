@@ -1,10 +1,10 @@
 -- `calls::entry::next_answer` meets its contract: a step of a pool that is known to be fit is asked for.
-use mathlib.Core.Path.{ap, sym, ◌∙◌}
-use native.Mathlib.Omega.{arith}
+use Rattle.std.proofs.Common.{sym, ap, ◌∙◌}
 use Rattle.rules.specs.Answers.{returned_of}
-use Rattle.calls.proofs.Asked.{called_step}
+use Rattle.rules.specs.Fit.{Checked}
+use Rattle.rules.specs.Step.{checked_step, step_of}
 use Rattle.calls.proofs.entry.next_answer.Goals as goal
 
 pub returns : goal.returns
-returns c =
-    c.call.ensures ∙ ap returned_of (sym (called_step 3 c.args.words.now c.args.i 0 c.requires (omega arith)))
+unfolding step_of checked_step
+returns c = c.call.ensures ∙ ap (λ (k : Checked). returned_of (checked_step c.args.words.now k c.args.i)) c.requires
