@@ -1,46 +1,28 @@
--- `dispatcher::dispatch` meets its contract: at each return the tests that led there pick the same branch of `dispatch_of`, and each call stands for what it ensures.
-use mathlib.Core.Path.{ap, sym, ◌∙◌}
-use Prim.Native.Nat.{ℕ}
-use native.Mathlib.Omega.{arith}
-use Rattle.rules.specs.Fit.{Checked}
-use Rattle.rounds.specs.Dispatch.{dispatched, checked_dispatch, fit_dispatch, dispatch_of}
-use Rattle.rules.proofs.Fitness.{fit_pool, fit_head, refusal_none, refusal_some, fit_own}
-use Rattle.rules.specs.declared.Settings.{Settings}
-use Rattle.rules.specs.Layout.{settings_of}
+-- `dispatcher::dispatch` meets its contract: a pool that is not fit is refused, and of a fit one the turns are `fit_dispatch`'s.
+use Rattle.std.proofs.Common.{sym, ap, ◌∙◌}
+use Rattle.std.proofs.lemmas.Result.{err_from_is_err_and}
+use Rattle.rounds.specs.Dispatch.{checked_dispatch, dispatch_of}
+use Rattle.rules.proofs.Fitness.{fit_head, fit_own, found_settings, found_refusal}
+use Rattle.rules.specs.Fit.{Checked, checked_of}
 use Rattle.rules.specs.Make.{shipped}
 use Rattle.dispatcher.proofs.dispatch.Goals as goal
-use Rattle.std.specs.Prelude.{Err}
 
-pub returns-then-n-ne0 : goal.returns-then-n-ne0
-unfolding dispatch_of checked_dispatch
-returns-then-n-ne0 c =
-    let a = c.args in
-    let e = c.refusal-n.ensures in
-    ap (λ (m : ℕ). dispatched (Err m) a.words.now) e
-    ∙ ap (λ (k : Checked). checked_dispatch a.words.now k a.worker a.steps) (sym (refusal_some shipped a.words.now (λ z. c.if-n-ne0.true (e ∙ z))))
-
-pub shipped_settings-g-requires : goal.shipped_settings-g-requires
-shipped_settings-g-requires c =
-    let ws = c.args.words.now in
-    let fit = refusal_none shipped ws (sym c.refusal-n.ensures ∙ c.if-n-ne0.false) in
-    (omega (arith, (fit_pool shipped ws (settings_of ws) fit).enough), (fit_head shipped ws (settings_of ws) fit).1)
-
-pub fit_dispatch-requires-clause-words_value : goal.fit_dispatch-requires-clause-words_value
-fit_dispatch-requires-clause-words_value c =
-    let ws = c.args.words.now in
-    let fit = refusal_none shipped ws (sym c.refusal-n.ensures ∙ c.if-n-ne0.false) in
-    rw c.shipped_settings-g.ensures (fit_own shipped ws (settings_of ws) fit)
+pub fit_dispatch-requires-clause-fit : goal.fit_dispatch-requires-clause-fit
+fit_dispatch-requires-clause-fit c = fit_own shipped _ _ (found_settings (checked_of shipped c.args.words.now) _ c.in_ok-g.ensures)
 
 pub fit_dispatch-requires-clause-edition_value : goal.fit_dispatch-requires-clause-edition_value
-fit_dispatch-requires-clause-edition_value c =
-    let ws = c.args.words.now in
-    let fit = refusal_none shipped ws (sym c.refusal-n.ensures ∙ c.if-n-ne0.false) in
-    rw c.shipped_settings-g.ensures ((fit_head shipped ws (settings_of ws) fit).1)
+fit_dispatch-requires-clause-edition_value c = (fit_head shipped _ _ (found_settings (checked_of shipped c.args.words.now) _ c.in_ok-g.ensures)).1
 
 pub returns : goal.returns
 unfolding dispatch_of checked_dispatch
 returns c =
     let a = c.args in
     c.fit_dispatch.ensures
-    ∙ ap (λ (g : Settings). fit_dispatch a.words.now g a.worker a.steps) c.shipped_settings-g.ensures
-    ∙ ap (λ (k : Checked). checked_dispatch a.words.now k a.worker a.steps) (sym (refusal_none shipped a.words.now (sym c.refusal-n.ensures ∙ c.if-n-ne0.false)))
+    ∙ ap (λ (k : Checked). checked_dispatch a.words.now k a.worker a.steps) (sym (found_settings (checked_of shipped a.words.now) _ c.in_ok-g.ensures))
+
+pub returns-in_err-g : goal.returns-in_err-g
+unfolding dispatch_of checked_dispatch
+returns-in_err-g c =
+    let a = c.args in
+    let p = err_from_is_err_and c.from_residual.result c.from_residual.ensures.1 in
+    rw (p.1, p.2) (ap (λ (k : Checked). checked_dispatch a.words.now k a.worker a.steps) (sym (found_refusal (checked_of shipped a.words.now) _ c.in_err-g.ensures)))

@@ -10,4 +10,4 @@ returns-then-n-le4 c = simp (le-leb _ _ c.if-n-le4.true, ← c.final_answer.ensu
 
 pub returns-else-n-le4 : goal.returns-else-n-le4
 unfolding ended_of cond
-returns-else-n-le4 c = simp (lt-leb _ _ c.if-n-le4.false)
+returns-else-n-le4 c = simp (lt-leb _ _ c.if-n-le4.false, c.numbered.ensures)

@@ -4,12 +4,9 @@ use Rattle.rounds.specs.Dispatch.{turns_of}
 use Rattle.rules.specs.Fit.{Fit, checked_of}
 use lib.ListN.{length}
 use mathlib.Core.Path.{◌≡◌}
-use Prim.Native.Nat.{◌<◌}
+use Prim.Native.Nat.{◌<◌, ◌-◌}
 use Rattle.dispatcher.proofs.turns.Given as goal
 
-abbrev pub invariant-loop-left : goal.invariant-loop-left
-invariant-loop-left l =
-    (length l.words ≡ length l.initial.words) × (l.i < l.g.workers) × (checked_of l.g.edition l.words ≡ Fit l.g) × (turns_of l.words l.g l.i l.left ≡ turns_of l.initial.words l.g l.first l.steps)
-
-abbrev pub decreases-loop-left : goal.decreases-loop-left
-decreases-loop-left l = l.left
+abbrev pub invariant-loop-made : goal.invariant-loop-made
+invariant-loop-made l =
+    (length l.words ≡ length l.initial.words) × (l.i < l.g.workers) × (checked_of l.g.edition l.words ≡ Fit l.g) × (turns_of l.words l.g l.i (l.steps - l.made) ≡ turns_of l.initial.words l.g l.first l.steps)
