@@ -3,7 +3,6 @@ ghost use Rattle.std.specs.Prelude.{◌≡◌, ◌+◌, ◌<◌, ◌≤◌};
 ghost use Rattle.rules.specs.Layout.{cell_words, sub_at, worker_words, worker_at, sub_cells_at, cell_at, windows_at, windows_words, needed};
 ghost use Rattle.rules.specs.Limits.{Bounds, windowed};
 
-use laws::num::minus;
 use rules::numbers::{MOST_CELLS, MOST_WORKERS, WIDEST, WINDOWED};
 use rules::{Row, Settings};
 
@@ -110,12 +109,12 @@ pub fn worker_words(edition: u32) -> usize
     ensures { result ≡ worker_words edition }
 {
     if edition == 0 {
-        return LOST;
+        LOST
+    } else if edition < WINDOWED {
+        BOTTOM
+    } else {
+        WORKER_WORDS
     }
-    if edition < WINDOWED {
-        return BOTTOM;
-    }
-    WORKER_WORDS
 }
 
 // Where worker `i` lies: behind the subs.
@@ -140,7 +139,7 @@ pub fn cell_at(g: Settings, j: u32, row: Row) -> usize
     requires j_lt_width { j < g.width }
     ensures { (result ≡ cell_at g j row.0) × (result + cell_words ≤ needed g) }
 {
-    let below = minus(row.0, 1) % g.rows;
+    let below = row.0.wrapping_sub(1) % g.rows;
     sub_cells_at(g, j) + CELL_WORDS * (below as usize)
 }
 

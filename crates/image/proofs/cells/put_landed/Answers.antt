@@ -1,5 +1,5 @@
 -- `image::cells::put_landed` meets its contract: the calls' promises put together are `put_landed`.
-use mathlib.Core.Path.{◌∙◌}
+use Rattle.std.proofs.Common.{◌∙◌}
 use Rattle.rules.specs.Apply.{put_landed}
 use Rattle.image.proofs.cells.put_landed.Goals as goal
 

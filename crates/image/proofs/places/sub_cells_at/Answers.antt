@@ -1,7 +1,5 @@
 -- `image::places::sub_cells_at` meets its contract: the cells before a sub are among the pool's, so the sums fit.
-use Prim.Native.Nat.{◌*◌, ◌≤◌}
-use native.Mathlib.Nat.{mul-le-mul_right}
-use native.Mathlib.Omega.{arith}
+use Rattle.std.proofs.Common.{◌*◌, ◌≤◌, mul-le-mul_right, arith}
 use Rattle.rules.proofs.Workers.{cells_low}
 use Rattle.image.proofs.places.sub_cells_at.Goals as goal
 

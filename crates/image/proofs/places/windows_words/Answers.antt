@@ -1,5 +1,5 @@
 -- `image::places::windows_words` meets its contract: its test is the table's.
-use mathlib.Core.Path.{sym}
+use Rattle.std.proofs.Common.{sym}
 use Rattle.rules.proofs.Workers.{windows_none, windows_some}
 use Rattle.image.proofs.places.windows_words.Goals as goal
 

@@ -1,5 +1,5 @@
 -- `image::places::words_needed` meets its contract: the windows' words come behind the cells, and the sum fits.
-use native.Mathlib.Omega.{arith}
+use Rattle.std.proofs.Common.{arith}
 use Rattle.rules.proofs.Workers.{cells_low, windows_few}
 use Rattle.image.proofs.places.words_needed.Goals as goal
 

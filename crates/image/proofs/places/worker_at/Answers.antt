@@ -1,7 +1,5 @@
 -- `image::places::worker_at` meets its contract: a worker has few words, so the product and the sum fit.
-use Prim.Native.Nat.{◌+◌, ◌*◌, ◌≤◌}
-use native.Mathlib.Nat.{mul-le-mul_right}
-use native.Mathlib.Omega.{arith}
+use Rattle.std.proofs.Common.{◌+◌, ◌*◌, ◌≤◌, mul-le-mul_right, arith}
 use Rattle.rules.specs.Layout.{width_word}
 use Rattle.rules.proofs.Workers.{words_few}
 use Rattle.image.proofs.places.worker_at.Goals as goal

@@ -1,6 +1,5 @@
 -- `image::places::worker_words` meets its contract: its tests are the table's.
-use mathlib.Core.Path.{◌≡◌, sym}
-use native.Mathlib.Omega.{arith}
+use Rattle.std.proofs.Common.{◌≡◌, sym, arith}
 use Rattle.rules.proofs.Workers.{words_none, words_one, words_two}
 use Rattle.image.proofs.places.worker_words.Goals as goal
 
@@ -12,5 +11,5 @@ returns-then-edition-lt-WINDOWED c =
     let one : c.args.edition ≡ 1 = omega (arith, c.if-edition-eq0.false, c.if-edition-lt-WINDOWED.true) in
     sym (words_one _ one)
 
-pub returns : goal.returns
-returns c = sym (words_two _ c.if-edition-lt-WINDOWED.false)
+pub returns-else-edition-lt-WINDOWED : goal.returns-else-edition-lt-WINDOWED
+returns-else-edition-lt-WINDOWED c = sym (words_two _ c.if-edition-lt-WINDOWED.false)
