@@ -77,6 +77,7 @@ pub fn count_step(words: &mut [u32])
 }
 
 // Writes the two words of a stack's window.
+#[tactic(auto, unfolding(rules::specs::Apply::put_shifted))]
 pub fn put_shifted(words: &mut [u32], e: Effect)
     requires { head_words ≤ length words.old }
     ensures { words.new ≡ put_shifted words.old e }
@@ -86,6 +87,7 @@ pub fn put_shifted(words: &mut [u32], e: Effect)
 }
 
 // T of a new pool, or the version of G.
+#[tactic(auto, using(laws::specs::Tests::tests), unfolding(laws::specs::Choice::cond))]
 fn new_mark(g: Settings) -> u32
     ensures { result ≡ new_mark g }
 {
