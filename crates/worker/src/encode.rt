@@ -18,6 +18,7 @@ fn number_of(side: Side, phase: u32) -> u32
 }
 
 // A window seen as the words hold it: an edition that has no words for its bottom and its width drops them.
+#[tactic(auto, using(laws::specs::Tests::tests), unfolding(laws::specs::Choice::cond, rules::specs::Limits::windowed))]
 fn kept_window(g: Settings, window: Span) -> Span
     ensures { result ≡ record { top = window.top; bottom = kept g window.bottom; width = kept g window.width } }
 {
@@ -72,6 +73,7 @@ fn words(
 }
 
 // The words of a worker. What its phase holds goes before the old words, which are kept where it holds none.
+#[tactic(auto, unfolding(rules::specs::Worker::encode, rules::specs::Worker::encode_phase))]
 pub fn slot_of(g: Settings, k: Worker, old: Slot) -> Slot
     ensures { result ≡ encode g k old }
 {
