@@ -11,7 +11,7 @@ use rules::numbers::{
 use rules::{Phase, Settings, Side, Slot, Span, Version, Worker};
 
 // Whose phase a number is.
-#[tactic(auto, using(laws::specs::Tests::tests), unfolding(laws::specs::Choice::cond))]
+#[tactic(auto, unfolding(laws::specs::Choice::cond))]
 pub fn side_of(number: u32) -> Side
     ensures { result ≡ cond (ltb number (side_base Side.Taking)) Side.Putting Side.Taking }
 {
@@ -23,7 +23,7 @@ pub fn side_of(number: u32) -> Side
 }
 
 // The window that a queue's worker has seen, in an edition that has no words for its bottom and its width by its top.
-#[tactic(auto, using(laws::specs::Tests::tests), unfolding(laws::specs::Choice::cond, rules::specs::Limits::windowed, rules::specs::Worker::seen_by))]
+#[tactic(auto, unfolding(laws::specs::Choice::cond, rules::specs::Limits::windowed, rules::specs::Worker::seen_by))]
 pub fn seen_by(g: Settings, s: Slot) -> Span
     ensures { result ≡ seen_by g s }
 {
@@ -38,7 +38,7 @@ pub fn seen_by(g: Settings, s: Slot) -> Span
     }
 }
 
-#[tactic(auto, using(laws::specs::Tests::tests), unfolding(laws::specs::Choice::cond, rules::specs::Worker::queue_phase))]
+#[tactic(auto, unfolding(laws::specs::Choice::cond, rules::specs::Worker::queue_phase))]
 fn queue_phase(g: Settings, s: Slot) -> Phase
     ensures { result ≡ queue_phase g s }
 {
@@ -68,7 +68,7 @@ fn queue_phase(g: Settings, s: Slot) -> Phase
     }
 }
 
-#[tactic(auto, using(laws::specs::Tests::tests), unfolding(laws::specs::Choice::cond, rules::specs::Worker::stack_phase))]
+#[tactic(auto, unfolding(laws::specs::Choice::cond, rules::specs::Worker::stack_phase))]
 fn stack_phase(s: Slot) -> Phase
     ensures { result ≡ stack_phase s }
 {
@@ -108,7 +108,7 @@ fn stack_phase(s: Slot) -> Phase
     }
 }
 
-#[tactic(auto, using(laws::specs::Tests::tests), unfolding(laws::specs::Choice::cond, rules::specs::Worker::phase_of))]
+#[tactic(auto, unfolding(laws::specs::Choice::cond, rules::specs::Worker::phase_of))]
 fn phase_of(g: Settings, s: Slot) -> Phase
     ensures { result ≡ phase_of g s }
 {

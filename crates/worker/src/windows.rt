@@ -27,7 +27,7 @@ pub fn span_of(top: u32, size: Size) -> Span
 }
 
 // The higher of a sub's last row and a window's bottom. Where a sub's words are counts, the row above so many items is the next.
-#[tactic(auto, using(laws::specs::Tests::tests), unfolding(laws::specs::Choice::cond, rules::specs::Limits::windowed, rules::specs::Windows::level_of))]
+#[tactic(auto, unfolding(laws::specs::Choice::cond, rules::specs::Limits::windowed, rules::specs::Windows::level_of))]
 pub fn level_of(g: Settings, last: u32, bottom: u32) -> u32
     ensures { result ≡ level_of g last bottom }
 {
