@@ -1,9 +1,9 @@
 // The limits of the settings, and of a window's size.
 #![tactic(auto)]
 
-ghost use Rattle.std.specs.Prelude.{true, ◌≡◌, ◌≤◌};
+ghost use Rattle.std.specs.Prelude.{◌≡◌, ◌≤◌};
 ghost use Rattle.laws.specs.Choice.{all};
-ghost use Rattle.rules.specs.Limits.{limits, queue_limits, settings_fit, size_fit};
+ghost use Rattle.rules.specs.Limits.{queue_limits, settings_fit, size_fit};
 
 use image::is_windowed;
 use rules::numbers::{DEEPEST, MOST_CELLS, MOST_ROWS, MOST_WORKERS, WIDEST};
@@ -25,16 +25,11 @@ pub fn settings_fit(g: Settings) -> bool
     ensures { result ≡ settings_fit g }
 {
     g.kind <= 1
-        && 1 <= g.width
-        && g.width <= WIDEST
-        && 1 <= g.depth
-        && g.depth <= DEEPEST
-        && 1 <= g.shift
-        && g.shift <= g.depth
-        && 2 * g.depth <= g.rows
-        && g.rows <= MOST_ROWS
-        && 1 <= g.workers
-        && g.workers <= MOST_WORKERS
+        && (1 <= g.width && g.width <= WIDEST)
+        && (1 <= g.depth && g.depth <= DEEPEST)
+        && (1 <= g.shift && g.shift <= g.depth)
+        && (2 * g.depth <= g.rows && g.rows <= MOST_ROWS)
+        && (1 <= g.workers && g.workers <= MOST_WORKERS)
         && g.width * g.rows <= MOST_CELLS
         && g.stride < g.width
         && (g.kind != 0 || queue_fit(g))
