@@ -2,7 +2,7 @@
 ghost use Rattle.std.specs.Prelude.{◌≡◌, leb};
 ghost use Rattle.laws.specs.Choice.{both};
 ghost use Rattle.laws.specs.Wrap.{sub32};
-ghost use Rattle.rules.specs.Shift.{shift_by, may_rise, queue_put_shift, queue_take_shift, queue_shift, stack_shift};
+ghost use Rattle.rules.specs.Shift.{shift_by, may_rise, queue_shift, stack_shift};
 
 use commits::views::{queue_view, stack_view};
 use effects::{finished, moved, nothing_for, restart, shifted};
@@ -46,47 +46,27 @@ fn room_for(g: Settings, q: QueueView, top: u32) -> bool
     top.wrapping_sub(q.take.bottom) <= g.rows && may_rise(g, q)
 }
 
-// The put window moves on where the rows from the take window's bottom to its new top have a cell each.
-fn queue_put_shift(g: Settings, v: View, q: QueueView, window: Span) -> Effect
-    ensures { result ≡ queue_put_shift g v q window }
-{
-    let side = Side::Putting;
-    let put = q.put.top;
-    let top = put.wrapping_add(q.next);
-    let able = room_for(g, q, top);
-    let moved = shifted(g, v, Outcome::Raised, side, top, v.mark);
-    let stuck = finished(g, v, nothing_for(side), v.worker.index);
-    shift_by(g, v, side, put == window.top, able, moved, stuck)
-}
-
-// The take window follows the put window.
-fn queue_take_shift(g: Settings, v: View, q: QueueView, window: Span) -> Effect
-    ensures { result ≡ queue_take_shift g v q window }
-{
-    let side = Side::Taking;
-    let put = q.put.top;
-    let take = q.take.top;
-    let moved = shifted(
-        g,
-        v,
-        Outcome::Dropped,
-        side,
-        v.top,
-        take.wrapping_add(q.after),
-    );
-    let stuck = finished(g, v, nothing_for(side), v.worker.index);
-    shift_by(g, v, side, take == window.top, take < put, moved, stuck)
-}
-
+// The put window moves on where the rows from the take window's bottom to its new top have a cell each, and the take window follows it.
 #[tactic(auto, unfolding(rules::specs::Shift::queue_shift))]
 pub fn queue_shift(g: Settings, v: View, side: Side, window: Span) -> Effect
     ensures { result ≡ queue_shift g v side window }
 {
     let q = queue_view(v);
-    match side {
-        Side::Putting => queue_put_shift(g, v, q, window),
-        Side::Taking => queue_take_shift(g, v, q, window),
-    }
+    let (put, take) = (q.put.top, q.take.top);
+    let (same, able, moved) = match side {
+        Side::Putting => {
+            let top = put.wrapping_add(q.next);
+            let moved = shifted(g, v, Outcome::Raised, side, top, v.mark);
+            (put == window.top, room_for(g, q, top), moved)
+        }
+        Side::Taking => {
+            let top = take.wrapping_add(q.after);
+            let moved = shifted(g, v, Outcome::Dropped, side, v.top, top);
+            (take == window.top, take < put, moved)
+        }
+    };
+    let stuck = finished(g, v, nothing_for(side), v.worker.index);
+    shift_by(g, v, side, same, able, moved, stuck)
 }
 
 #[tactic(auto, unfolding(rules::specs::Shift::stack_shift))]
