@@ -11,6 +11,7 @@ use rules::numbers::{
 use rules::{Phase, Settings, Side, Slot, Span, Version, Worker};
 
 // Whose phase a number is.
+// Stays: a number: so a worker's phase lies in the pool's words.
 #[tactic(auto, unfolding(laws::specs::Choice::cond))]
 pub fn side_of(number: u32) -> Side
     ensures { result ≡ cond (ltb number (side_base Side.Taking)) Side.Putting Side.Taking }
