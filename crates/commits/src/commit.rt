@@ -5,26 +5,27 @@ ghost use Rattle.rules.specs.Limits.{Bounds};
 
 use crate::views::{queue_view, stack_view};
 use effects::{landed, lost, refused, removed};
-use laws::num::{minus, plus};
 use rules::{Effect, Refusal, Row, Settings, Side, Span, Version, View};
 use worker::level_of;
 
 // What a commit does that matches, if it is able to, and one that does not.
+#[tactic(auto, unfolding(laws::specs::Choice::cond, rules::specs::Commit::commit_by))]
 fn commit_by(g: Settings, v: View, side: Side, matches: bool, able: bool, done: Effect) -> Effect
     requires bounds { Bounds g }
     requires index_lt_width { v.worker.index < g.width }
     ensures { result ≡ commit_by g v side matches able done }
 {
-    if matches {
-        if able {
-            return done;
-        }
-        return refused(v, Refusal::NotFit);
+    if !matches {
+        lost(g, v, side)
+    } else if able {
+        done
+    } else {
+        refused(v, Refusal::NotFit)
     }
-    lost(g, v, side)
 }
 
 // A put into the row above a level. A free cell is asked for in whole numbers, which do not wrap.
+#[tactic(auto, unfolding(rules::specs::Commit::queue_put_commit))]
 fn queue_put_commit(g: Settings, v: View, seen: u32, level: u32) -> Effect
     requires bounds { Bounds g }
     requires index_lt_width { v.worker.index < g.width }
@@ -33,13 +34,14 @@ fn queue_put_commit(g: Settings, v: View, seen: u32, level: u32) -> Effect
     let q = queue_view(v);
     let taken = q.last_taken;
     let bottom = level_of(g, taken, q.take.bottom);
-    let able = (level as u64) < (bottom as u64) + (g.rows as u64);
-    let above = plus(level, 1);
+    let able = u64::from(level) < u64::from(bottom) + u64::from(g.rows);
+    let above = level.wrapping_add(1);
     let done = landed(g, v, above, taken, Row(above));
     commit_by(g, v, Side::Putting, q.last_put == seen, able, done)
 }
 
 // A take from the row above a level.
+#[tactic(auto, unfolding(rules::specs::Commit::queue_take_commit))]
 fn queue_take_commit(g: Settings, v: View, seen: u32, level: u32) -> Effect
     requires bounds { Bounds g }
     requires index_lt_width { v.worker.index < g.width }
@@ -47,11 +49,12 @@ fn queue_take_commit(g: Settings, v: View, seen: u32, level: u32) -> Effect
 {
     let q = queue_view(v);
     let put = q.last_put;
-    let above = plus(level, 1);
+    let above = level.wrapping_add(1);
     let done = removed(g, v, put, above, Row(above));
     commit_by(g, v, Side::Taking, q.last_taken == seen, level < put, done)
 }
 
+#[tactic(auto, unfolding(rules::specs::Commit::queue_commit))]
 pub fn queue_commit(g: Settings, v: View, side: Side, window: Span, seen: u32) -> Effect
     requires bounds { Bounds g }
     requires index_lt_width { v.worker.index < g.width }
@@ -70,6 +73,7 @@ pub fn queue_commit(g: Settings, v: View, side: Side, window: Span, seen: u32) -
     }
 }
 
+#[tactic(auto, unfolding(rules::specs::Commit::stack_commit))]
 pub fn stack_commit(g: Settings, v: View, side: Side, seen: Version) -> Effect
     requires bounds { Bounds g }
     requires index_lt_width { v.worker.index < g.width }
@@ -77,22 +81,16 @@ pub fn stack_commit(g: Settings, v: View, side: Side, seen: Version) -> Effect
 {
     let s = stack_view(v);
     let held = s.items_held;
-    let matches = s.sub_version.0 == seen.0;
-    let version = plus(s.sub_version.0, 1);
+    let matches = s.sub_version == seen;
+    let version = s.sub_version.0.wrapping_add(1);
     match side {
         Side::Putting => {
-            let above = plus(held, 1);
-            commit_by(
-                g,
-                v,
-                side,
-                matches,
-                held < g.rows,
-                landed(g, v, above, version, Row(above)),
-            )
+            let above = held.wrapping_add(1);
+            let done = landed(g, v, above, version, Row(above));
+            commit_by(g, v, side, matches, held < g.rows, done)
         }
         Side::Taking => {
-            let done = removed(g, v, minus(held, 1), version, Row(held));
+            let done = removed(g, v, held.wrapping_sub(1), version, Row(held));
             commit_by(g, v, side, matches, 0 < held, done)
         }
     }

@@ -5,6 +5,7 @@ ghost use Rattle.rules.specs.Effects.{queue_view, stack_view};
 use rules::{QueueView, StackView, Version, View};
 use worker::span_of;
 
+// Stays: functions: a `From` of a view would stand in rules, where the types are, and `span_of` stands above it.
 pub fn queue_view(v: View) -> QueueView
     ensures { result ≡ queue_view v }
 {

@@ -9,11 +9,11 @@ ghost use Rattle.rules.specs.Window.{read_from};
 ghost use Rattle.rules.specs.Worker.{zero_slot};
 ghost use Rattle.rules.specs.Effects.{next_of, hop_of, keep_of, refused_of, moved_of, restart_of, finished_of, nothing_for, with_pass};
 
-use laws::num::plus;
 use rules::{Effect, Outcome, Phase, Refusal, Row, Settings, Side, Slot, Span, Stamp, View, Worker};
 use worker::{fresh_slot, seen_slot, slot_of};
 
 // The index after `x`, of so many.
+#[tactic(auto, unfolding(rules::specs::Effects::next_of))]
 pub fn next(width: u32, x: u32) -> u32
     requires { x < width }
     ensures { result ≡ next_of width x }
@@ -22,15 +22,17 @@ pub fn next(width: u32, x: u32) -> u32
 }
 
 // The index for a worker that lost a commit at `x`: on by the stride, where 0 stands for 1.
+#[tactic(auto, unfolding(laws::specs::Choice::cond, rules::specs::Effects::next_of, rules::specs::Effects::hop_of))]
 pub fn hop(g: Settings, x: u32) -> u32
     requires bounds { Bounds g }
     requires x_lt_width { x < g.width }
     ensures { result ≡ hop_of g x }
 {
     if g.stride == 0 {
-        return next(g.width, x);
+        next(g.width, x)
+    } else {
+        (x + g.stride) % g.width
     }
-    (x + g.stride) % g.width
 }
 
 // All that is shared stays.
@@ -51,8 +53,7 @@ fn keep(v: View, outcome: Outcome, slot: Slot) -> Effect
 pub fn refused(v: View, refusal: Refusal) -> Effect
     ensures { result ≡ refused_of v refusal }
 {
-    let slot = v.kept;
-    keep(v, Outcome::Refused(refusal), slot)
+    keep(v, Outcome::Refused(refusal), v.kept)
 }
 
 // The worker goes on with these words.
@@ -66,31 +67,25 @@ fn going(v: View, slot: Slot) -> Effect
 pub fn moved(g: Settings, v: View, index: u32, phase: Phase, kept: Slot) -> Effect
     ensures { result ≡ moved_of g v index phase kept }
 {
-    let slot = slot_of(
-        g,
-        Worker {
-            value: v.worker.value,
-            index,
-            phase,
-        },
-        kept,
-    );
-    going(v, slot)
+    let worker = Worker {
+        index,
+        phase,
+        ..v.worker
+    };
+    going(v, slot_of(g, worker, kept))
 }
 
 // The worker at an index, about to read: it has just seen a queue's window, and its other words are zero.
 pub fn looked(g: Settings, v: View, index: u32, side: Side, window: Span) -> Effect
     ensures { result ≡ moved_of g v index (read_from window side) zero_slot }
 {
-    let seen = seen_slot(g, v.worker.value, index, side, window);
-    going(v, seen)
+    going(v, seen_slot(g, v.worker.value, index, side, window))
 }
 
 pub fn restart(g: Settings, v: View, index: u32, side: Side) -> Effect
     ensures { result ≡ restart_of g v index side }
 {
-    let kept = v.kept;
-    moved(g, v, index, Phase::Window(side), kept)
+    moved(g, v, index, Phase::Window(side), v.kept)
 }
 
 // A commit that failed: on by the stride, and counted.
@@ -99,9 +94,10 @@ pub fn lost(g: Settings, v: View, side: Side) -> Effect
     requires index_lt_width { v.worker.index < g.width }
     ensures { result ≡ lost_of g v side }
 {
-    let restarted = restart(g, v, hop(g, v.worker.index), side);
-    let slot = restarted.slot;
-    keep(v, Outcome::Lost, slot)
+    Effect {
+        outcome: Outcome::Lost,
+        ..restart(g, v, hop(g, v.worker.index), side)
+    }
 }
 
 pub fn finished(g: Settings, v: View, outcome: Outcome, index: u32) -> Effect
@@ -114,16 +110,11 @@ pub fn finished(g: Settings, v: View, outcome: Outcome, index: u32) -> Effect
 pub fn shifted(g: Settings, v: View, outcome: Outcome, side: Side, top: u32, mark: u32) -> Effect
     ensures { result ≡ shifted_of g v outcome side top mark }
 {
-    let restarted = restart(g, v, v.worker.index, side);
-    let slot = restarted.slot;
     Effect {
         outcome,
-        slot,
         top,
         mark,
-        puts: v.puts,
-        first: v.first,
-        second: v.second,
+        ..restart(g, v, v.worker.index, side)
     }
 }
 
@@ -131,20 +122,17 @@ pub fn shifted(g: Settings, v: View, outcome: Outcome, side: Side, top: u32, mar
 pub fn landed(g: Settings, v: View, first: u32, second: u32, row: Row) -> Effect
     ensures { result ≡ landed_of g v first second row }
 {
-    let puts = plus(v.puts, 1);
+    let puts = v.puts.wrapping_add(1);
     let outcome = Outcome::Landed {
         value: v.worker.value,
         row,
         stamp: Stamp(puts),
     };
     Effect {
-        outcome,
-        slot: fresh_slot(g, 0, v.worker.index, Phase::Idle),
-        top: v.top,
-        mark: v.mark,
         puts,
         first,
         second,
+        ..finished(g, v, outcome, v.worker.index)
     }
 }
 
@@ -153,13 +141,9 @@ pub fn removed(g: Settings, v: View, first: u32, second: u32, row: Row) -> Effec
     ensures { result ≡ removed_of g v first second row }
 {
     Effect {
-        outcome: Outcome::Removed { row },
-        slot: fresh_slot(g, 0, v.worker.index, Phase::Idle),
-        top: v.top,
-        mark: v.mark,
-        puts: v.puts,
         first,
         second,
+        ..finished(g, v, Outcome::Removed { row }, v.worker.index)
     }
 }
 
@@ -173,8 +157,8 @@ pub fn nothing_for(side: Side) -> Outcome
     }
 }
 
-// The worker's words with another extra, scan and sum. Each is named: of a copy with three words changed, the compiler carries those on either side in
-// one register, and takes them apart again.
+// The worker's words with another extra, scan and sum.
+// Stays: each word is named: of a copy with three words changed, the compiler carries those on either side in one register, and takes them apart again.
 pub fn with_pass(old: Slot, extra: u32, scan: u32, sum: u32) -> Slot
     ensures { result ≡ with_pass old extra scan sum }
 {

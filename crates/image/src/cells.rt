@@ -40,6 +40,7 @@ pub fn item_of(words: &[u32], g: Settings, j: u32, row: Row) -> Item
 }
 
 // Writes an item into the cell of its row.
+#[tactic(auto, unfolding(rules::specs::Apply::put_item))]
 pub fn put_item(words: &mut [u32], g: Settings, j: u32, value: u32, row: Row, stamp: Stamp)
     requires bounds { Bounds g }
     requires g_in_bounds { (needed g ≤ length words.old) × (j < g.width) }
@@ -49,6 +50,7 @@ pub fn put_item(words: &mut [u32], g: Settings, j: u32, value: u32, row: Row, st
 }
 
 // Writes an item, the count of puts, and sub `j`.
+#[tactic(auto, unfolding(rules::specs::Apply::put_landed))]
 pub fn put_landed(
     words: &mut [u32],
     g: Settings,

@@ -10,7 +10,6 @@ ghost use Rattle.rules.specs.Make.{shipped, in_edition, new_mark, new_head};
 use crate::places::{
     DEPTH, EDITION, KIND, MARK, PUTS, ROWS, SHIFT, STEPS, STRIDE, TOP, WIDTH, WORKER_COUNT,
 };
-use laws::num::plus;
 use rules::numbers::{SHIPPED, STEP_LIMIT};
 use rules::{Effect, Settings};
 
@@ -35,16 +34,7 @@ pub fn settings(words: &[u32]) -> Settings
 pub fn in_edition(g: Settings, edition: u32) -> Settings
     ensures { result ≡ in_edition edition g }
 {
-    Settings {
-        kind: g.kind,
-        width: g.width,
-        depth: g.depth,
-        shift: g.shift,
-        rows: g.rows,
-        workers: g.workers,
-        stride: g.stride,
-        edition,
-    }
+    Settings { edition, ..g }
 }
 
 // Settings of the shipped edition. That number is written here, and not read, so that the compiler knows how many words a worker has.
@@ -75,10 +65,7 @@ pub fn out_of_steps(words: &[u32]) -> bool
 pub fn steps_counted(words: &[u32]) -> u32
     ensures { result ≡ get_or words.now steps_at 0 }
 {
-    if words.len() <= STEPS {
-        return 0;
-    }
-    words[STEPS]
+    words.get(STEPS).copied().unwrap_or(0)
 }
 
 // Adds 1 to the step count.
@@ -86,11 +73,11 @@ pub fn count_step(words: &mut [u32])
     requires { steps_at < length words.old }
     ensures { words.new ≡ set words.old steps_at (add32 (get_or words.old steps_at 0) 1) }
 {
-    let steps = plus(words[STEPS], 1);
-    words[STEPS] = steps;
+    words[STEPS] = words[STEPS].wrapping_add(1);
 }
 
 // Writes the two words of a stack's window.
+#[tactic(auto, unfolding(rules::specs::Apply::put_shifted))]
 pub fn put_shifted(words: &mut [u32], e: Effect)
     requires { head_words ≤ length words.old }
     ensures { words.new ≡ put_shifted words.old e }
@@ -100,6 +87,7 @@ pub fn put_shifted(words: &mut [u32], e: Effect)
 }
 
 // T of a new pool, or the version of G.
+#[tactic(auto, using(laws::specs::Tests::tests), unfolding(laws::specs::Choice::cond))]
 fn new_mark(g: Settings) -> u32
     ensures { result ≡ new_mark g }
 {

@@ -3,7 +3,6 @@ ghost use Rattle.std.specs.Prelude.{◌≡◌, ◌+◌, ◌<◌, ◌≤◌};
 ghost use Rattle.rules.specs.Layout.{cell_words, sub_at, worker_words, worker_at, sub_cells_at, cell_at, windows_at, windows_words, needed};
 ghost use Rattle.rules.specs.Limits.{Bounds, windowed};
 
-use laws::num::minus;
 use rules::numbers::{MOST_CELLS, MOST_WORKERS, WIDEST, WINDOWED};
 use rules::{Row, Settings};
 
@@ -106,19 +105,21 @@ pub fn sub_at(j: u32) -> usize
 }
 
 // How many words a worker has in an edition.
+#[tactic(auto, using(rules::proofs::Workers::words_none, rules::proofs::Workers::words_one, rules::proofs::Workers::words_two))]
 pub fn worker_words(edition: u32) -> usize
     ensures { result ≡ worker_words edition }
 {
     if edition == 0 {
-        return LOST;
+        LOST
+    } else if edition < WINDOWED {
+        BOTTOM
+    } else {
+        WORKER_WORDS
     }
-    if edition < WINDOWED {
-        return BOTTOM;
-    }
-    WORKER_WORDS
 }
 
 // Where worker `i` lies: behind the subs.
+#[tactic(auto, using(rules::proofs::Workers::words_few))]
 pub fn worker_at(g: Settings, i: u32) -> usize
     ensures { result ≡ worker_at g i }
 {
@@ -126,6 +127,7 @@ pub fn worker_at(g: Settings, i: u32) -> usize
 }
 
 // Where the cells of sub `j` lie: behind the workers.
+#[tactic(auto, using(rules::proofs::Workers::cells_low))]
 pub fn sub_cells_at(g: Settings, j: u32) -> usize
     requires bounds { Bounds g }
     requires j_le_width { j ≤ g.width }
@@ -135,12 +137,13 @@ pub fn sub_cells_at(g: Settings, j: u32) -> usize
 }
 
 // Where the cell of a row of sub `j` lies: among the words needed.
+#[tactic(auto, using(rules::proofs::Cells::cell_lt, rules::proofs::Cells::rows_pos, rules::proofs::Workers::cells_low))]
 pub fn cell_at(g: Settings, j: u32, row: Row) -> usize
     requires bounds { Bounds g }
     requires j_lt_width { j < g.width }
     ensures { (result ≡ cell_at g j row.0) × (result + cell_words ≤ needed g) }
 {
-    let below = minus(row.0, 1) % g.rows;
+    let below = row.0.wrapping_sub(1) % g.rows;
     sub_cells_at(g, j) + CELL_WORDS * (below as usize)
 }
 
@@ -153,6 +156,7 @@ pub fn windows_at(g: Settings) -> usize
 }
 
 // Whether windows have sizes of their own in the pool's edition.
+#[tactic(auto, unfolding(rules::specs::Limits::windowed))]
 pub fn is_windowed(g: Settings) -> bool
     ensures { result ≡ windowed g }
 {
@@ -160,6 +164,7 @@ pub fn is_windowed(g: Settings) -> bool
 }
 
 // How many words the windows have in an edition.
+#[tactic(auto, using(rules::proofs::Workers::windows_none, rules::proofs::Workers::windows_some))]
 pub fn windows_words(edition: u32) -> usize
     ensures { result ≡ windows_words edition }
 {
@@ -167,6 +172,7 @@ pub fn windows_words(edition: u32) -> usize
 }
 
 // How many words a pool needs: up to the end of the cells, and those of the windows.
+#[tactic(auto, using(rules::proofs::Workers::cells_low, rules::proofs::Workers::windows_few))]
 pub fn words_needed(g: Settings) -> usize
     requires { Bounds g }
     ensures { result ≡ needed g }

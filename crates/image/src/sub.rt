@@ -27,6 +27,7 @@ pub fn sub_of(words: &[u32], j: u32) -> Sub
 }
 
 // Writes the words of sub `j`.
+#[tactic(auto, unfolding(rules::specs::Apply::put_sub))]
 pub fn put_sub(words: &mut [u32], j: u32, e: Effect)
     requires { sub_at j + sub_words ≤ length words.old }
     ensures { words.new ≡ put_sub words.old j e }

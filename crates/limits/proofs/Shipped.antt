@@ -1,6 +1,5 @@
 -- The shipped edition has windows with sizes of their own.
-use mathlib.Core.Path.{◌≡◌, refl}
-use mathlib.Core.Bool.{true}
+use Rattle.std.proofs.Common.{◌≡◌, refl, true}
 use Rattle.rules.specs.Limits.{windowed}
 use Rattle.rules.specs.Make.{shipped}
 use Rattle.rules.specs.declared.Settings.{Settings}

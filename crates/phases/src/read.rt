@@ -6,22 +6,24 @@ ghost use Rattle.rules.specs.Read.{miss_of, queue_put_read, after_takes, queue_t
 
 use commits::views::{queue_view, stack_view};
 use effects::{moved, next, with_pass};
-use laws::num::{minus, plus};
 use rules::{Effect, Phase, Settings, Side, Slot, Span, Version, View};
 use worker::level_of;
 
 // The phase after a miss: `again` to read on, or `after` at so many misses.
+#[tactic(auto, unfolding(laws::specs::Choice::cond))]
 fn missed(width: u32, scan: u32, again: Phase, after: Phase) -> Phase
     ensures { result ≡ cond (ltb (add32 scan 1) width) again after }
 {
-    if plus(scan, 1) < width {
-        return again;
+    if scan.wrapping_add(1) < width {
+        again
+    } else {
+        after
     }
-    after
 }
 
 // To the next sub. The phase is picked first, so that the worker is written in one place: written in two, this function is
 // too long to be inlined, and steps are slower.
+#[tactic(auto, unfolding(laws::specs::Choice::cond, rules::specs::Read::miss_of))]
 fn miss(
     g: Settings,
     width: u32,
@@ -38,6 +40,7 @@ fn miss(
     moved(g, v, index, missed(width, scan, again, after), kept)
 }
 
+#[tactic(auto, unfolding(laws::specs::Choice::cond, rules::specs::Read::queue_put_read))]
 pub fn queue_put_read(g: Settings, v: View, window: Span, scan: u32) -> Effect
     requires { v.worker.index < window.width }
     ensures { result ≡ queue_put_read g v window scan }
@@ -45,34 +48,35 @@ pub fn queue_put_read(g: Settings, v: View, window: Span, scan: u32) -> Effect
     let q = queue_view(v);
     let side = Side::Putting;
     let seen = q.last_put;
-    let kept = v.kept;
     if seen < window.top {
         let commit = Phase::QueueCommit { side, window, seen };
-        return moved(g, v, v.worker.index, commit, kept);
+        return moved(g, v, v.worker.index, commit, v.kept);
     }
     let again = Phase::QueuePutRead {
         window,
-        scan: plus(scan, 1),
+        scan: scan.wrapping_add(1),
     };
     let after = Phase::QueueShift { side, window };
-    let pass = with_pass(kept, kept.extra, 0, kept.sum);
+    let pass = with_pass(v.kept, v.kept.extra, 0, v.kept.sum);
     miss(g, window.width, v, scan, again, after, pass)
 }
 
 // All subs missed by a take.
+#[tactic(auto, unfolding(laws::specs::Choice::cond))]
 fn after_takes(window: Span, bare: u32, sum: u32) -> Phase
     ensures { result ≡ after_takes window bare sum }
 {
     if bare == 0 {
-        return Phase::QueueShift {
+        Phase::QueueShift {
             side: Side::Taking,
             window,
-        };
-    }
-    Phase::QueueConfirm {
-        window,
-        scan: 0,
-        sum,
+        }
+    } else {
+        Phase::QueueConfirm {
+            window,
+            scan: 0,
+            sum,
+        }
     }
 }
 
@@ -83,15 +87,15 @@ fn queue_take_miss(g: Settings, v: View, window: Span, bare: u32, scan: u32, sum
     let again = Phase::QueueTakeRead {
         window,
         bare,
-        scan: plus(scan, 1),
+        scan: scan.wrapping_add(1),
         sum,
     };
     let after = after_takes(window, bare, sum);
-    let kept = v.kept;
-    let pass = with_pass(kept, bare, 0, sum);
+    let pass = with_pass(v.kept, bare, 0, sum);
     miss(g, window.width, v, scan, again, after, pass)
 }
 
+#[tactic(auto, unfolding(laws::specs::Choice::cond, rules::specs::Read::queue_take_read))]
 pub fn queue_take_read(g: Settings, v: View, window: Span, bare: u32, scan: u32, sum: u32) -> Effect
     requires { v.worker.index < window.width }
     ensures { result ≡ queue_take_read g v window bare scan sum }
@@ -99,15 +103,14 @@ pub fn queue_take_read(g: Settings, v: View, window: Span, bare: u32, scan: u32,
     let q = queue_view(v);
     let side = Side::Taking;
     let seen = q.last_taken;
-    let total = plus(sum, level_of(g, q.last_put, window.bottom));
+    let total = sum.wrapping_add(level_of(g, q.last_put, window.bottom));
     if window.top <= seen {
         return queue_take_miss(g, v, window, bare, scan, total);
     }
     if q.last_put == seen {
-        return queue_take_miss(g, v, window, plus(bare, 1), scan, total);
+        return queue_take_miss(g, v, window, bare.wrapping_add(1), scan, total);
     }
-    let kept = v.kept;
-    let pass = with_pass(kept, bare, scan, total);
+    let pass = with_pass(v.kept, bare, scan, total);
     let commit = Phase::QueueCommit { side, window, seen };
     moved(g, v, v.worker.index, commit, pass)
 }
@@ -118,10 +121,11 @@ fn stack_hit(g: Settings, v: View, side: Side, window: u32) -> bool
     let s = stack_view(v);
     match side {
         Side::Putting => s.items_held < window,
-        Side::Taking => minus(window, g.depth) < s.items_held,
+        Side::Taking => window.wrapping_sub(g.depth) < s.items_held,
     }
 }
 
+#[tactic(auto, unfolding(laws::specs::Choice::cond, rules::specs::Read::stack_read))]
 pub fn stack_read(
     g: Settings,
     v: View,
@@ -136,22 +140,21 @@ pub fn stack_read(
 {
     let s = stack_view(v);
     let seen = s.sub_version;
-    let kept = v.kept;
-    let total = plus(sum, seen.0);
+    let total = sum.wrapping_add(seen.0);
     if stack_hit(g, v, side, window) {
         let check = Phase::Check {
             side,
             version,
             seen,
         };
-        let pass = with_pass(kept, version.0, scan, total);
+        let pass = with_pass(v.kept, version.0, scan, total);
         return moved(g, v, v.worker.index, check, pass);
     }
     let again = Phase::StackRead {
         side,
         window,
         version,
-        scan: plus(scan, 1),
+        scan: scan.wrapping_add(1),
         sum: total,
     };
     let after = Phase::StackShift {
@@ -160,5 +163,5 @@ pub fn stack_read(
         scan: 0,
         sum: total,
     };
-    miss(g, g.width, v, scan, again, after, kept)
+    miss(g, g.width, v, scan, again, after, v.kept)
 }

@@ -10,6 +10,7 @@ use effects::refused;
 use misses::{queue_confirm, queue_shift, stack_confirm, stack_shift};
 use rules::{Effect, Phase, Refusal, Settings, View};
 
+#[tactic(auto, unfolding(rules::specs::Step::rule_of, rules::specs::Step::rule_by))]
 pub fn rule(g: Settings, v: View) -> Effect
     requires bounds { Bounds g }
     requires index_lt_width { v.worker.index < g.width }
@@ -17,9 +18,7 @@ pub fn rule(g: Settings, v: View) -> Effect
     requires late { Late v.worker.phase }
     ensures { result ≡ rule_of g v }
 {
-    let worker = v.worker;
-    let phase = worker.phase;
-    match phase {
+    match v.worker.phase {
         Phase::Idle => refused(v, Refusal::WorkerIdle),
         Phase::Check {
             side,
@@ -36,26 +35,11 @@ pub fn rule(g: Settings, v: View) -> Effect
         Phase::QueueConfirm { window, scan, sum } => queue_confirm(g, v, window, scan, sum),
         Phase::StackConfirm { side, scan, sum } => stack_confirm(g, v, side, scan, sum),
         // Not late: no caller has these.
-        Phase::Window(_) => refused(v, Refusal::WorkerIdle),
-        Phase::QueuePutRead { window: _, scan: _ } => refused(v, Refusal::WorkerIdle),
-        Phase::QueueTakeRead {
-            window: _,
-            bare: _,
-            scan: _,
-            sum: _,
-        } => refused(v, Refusal::WorkerIdle),
-        Phase::StackRead {
-            side: _,
-            window: _,
-            version: _,
-            scan: _,
-            sum: _,
-        } => refused(v, Refusal::WorkerIdle),
-        Phase::QueueCommit {
-            side: _,
-            window: _,
-            seen: _,
-        } => refused(v, Refusal::WorkerIdle),
-        Phase::StackCommit { side: _, seen: _ } => refused(v, Refusal::WorkerIdle),
+        Phase::Window(_)
+        | Phase::QueuePutRead { .. }
+        | Phase::QueueTakeRead { .. }
+        | Phase::StackRead { .. }
+        | Phase::QueueCommit { .. }
+        | Phase::StackCommit { .. } => unreachable!(),
     }
 }

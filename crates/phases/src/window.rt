@@ -5,10 +5,10 @@ ghost use Rattle.rules.specs.Window.{window_for, queue_seen, stack_seen, window_
 
 use commits::views::{queue_view, stack_view};
 use effects::{looked, moved};
-use rules::{Effect, Phase, QueueView, Settings, Side, Span, View};
-use worker::zero_slot;
+use rules::{Effect, Phase, QueueView, Settings, Side, Slot, Span, View};
 
-// The put window or the take window, number by number: of two windows that it may copy the compiler keeps both in memory.
+// The put window or the take window.
+// Stays: number by number: of two windows that it may copy the compiler keeps both in memory.
 fn window_for(q: QueueView, side: Side) -> Span
     ensures { result ≡ window_for q side }
 {
@@ -46,23 +46,24 @@ fn stack_seen(g: Settings, v: View, side: Side) -> Effect
     ensures { result ≡ stack_seen g v side }
 {
     let s = stack_view(v);
-    let version = s.version;
     let read = Phase::StackRead {
         side,
         window: s.window,
-        version,
+        version: s.version,
         scan: 0,
         sum: 0,
     };
-    moved(g, v, v.worker.index, read, zero_slot())
+    moved(g, v, v.worker.index, read, Slot::default())
 }
 
+#[tactic(auto, unfolding(laws::specs::Choice::cond, rules::specs::Window::window_rule))]
 pub fn window(g: Settings, v: View, side: Side) -> Effect
     requires { 1 ≤ (window_for (queue_view v) side).width }
     ensures { result ≡ window_rule g v side }
 {
     if g.kind == 0 {
-        return queue_seen(g, v, side, window_for(queue_view(v), side));
+        queue_seen(g, v, side, window_for(queue_view(v), side))
+    } else {
+        stack_seen(g, v, side)
     }
-    stack_seen(g, v, side)
 }

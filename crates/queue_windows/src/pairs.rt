@@ -1,9 +1,8 @@
 // A queue's window that moves on, and the pairs of its live windows, from the take window to the put window: a put window comes behind them, and a take
 // window goes before them.
 ghost use Rattle.std.specs.Prelude.{true, ◌≡◌, ◌+◌, ◌<◌, ◌≤◌, length};
-ghost use Rattle.laws.specs.Choice.{cond};
-ghost use Rattle.rules.specs.Apply.{pair_added, words_down, pair_gone, put_raised, put_dropped};
-ghost use Rattle.rules.specs.Layout.{pair_words, pair_at, needed};
+ghost use Rattle.rules.specs.Apply.{pair_added, pair_gone, put_raised, put_dropped};
+ghost use Rattle.rules.specs.Layout.{pair_at, needed};
 ghost use Rattle.rules.specs.Limits.{Bounds, windowed, most_live};
 ghost use Rattle.rules.specs.Windows.{live_of};
 
@@ -16,6 +15,7 @@ use rules::{Effect, Settings};
 const OTHERS: usize = PAIR_WORDS * (MOST_LIVE as usize - 1);
 
 // The next size becomes that of the last window.
+#[tactic(auto, unfolding(rules::specs::Apply::pair_added))]
 fn add_pair(words: &mut [u32], g: Settings)
     requires bounds { Bounds g }
     requires most_live_in_bounds { (pair_at g most_live ≤ length words.old) × (live_of words.old g < most_live) }
@@ -29,41 +29,21 @@ fn add_pair(words: &mut [u32], g: Settings)
     words[at + LIVE] = live + 1;
 }
 
-// It does where windows have sizes of their own.
-fn raise_pairs(words: &mut [u32], g: Settings)
-    requires bounds { Bounds g }
-    requires g_in_bounds { (needed g ≤ length words.old) × (windowed g ≡ true → live_of words.old g < most_live) }
-    ensures { words.new ≡ cond (windowed g) (pair_added words.old g) words.old }
-{
-    if is_windowed(g) {
-        add_pair(words, g);
-    }
-}
-
-// Writes a queue's put window.
+// Writes a queue's put window, and its size where windows have sizes of their own.
+#[tactic(auto, using(rules::proofs::Workers::windowed_is, rules::proofs::Workers::windows_some), unfolding(laws::specs::Choice::cond, rules::specs::Apply::put_raised))]
 pub fn put_raised(words: &mut [u32], g: Settings, e: Effect)
     requires bounds { Bounds g }
     requires g_in_bounds { (needed g ≤ length words.old) × (windowed g ≡ true → live_of words.old g < most_live) }
     ensures { words.new ≡ put_raised words.old g e }
 {
-    raise_pairs(words, g);
+    if is_windowed(g) {
+        add_pair(words, g);
+    }
     words[TOP] = e.top;
 }
 
-// Each of so many words becomes the one a pair behind it.
-fn words_down(words: &mut [u32], at: usize, count: usize)
-    requires { at + count + pair_words ≤ length words.old }
-    ensures { words.new ≡ words_down words.old at count }
-{
-    let mut k = 0;
-    while k < count {
-        let behind = words[at + k + PAIR_WORDS];
-        words[at + k] = behind;
-        k += 1;
-    }
-}
-
-// The first pair goes.
+// The first pair goes: each of the others moves down by one, and the last is zero.
+#[tactic(auto, using(crate::proofs::Down::down_copies), unfolding(rules::specs::Apply::pair_gone))]
 fn drop_pair(words: &mut [u32], g: Settings)
     requires bounds { Bounds g }
     requires most_live_in_bounds { (pair_at g most_live ≤ length words.old) × (1 ≤ live_of words.old g) }
@@ -71,28 +51,21 @@ fn drop_pair(words: &mut [u32], g: Settings)
 {
     let live = live_of(words, g);
     let at = windows_at(g);
-    words_down(words, at + PAIRS, OTHERS);
-    put_pair(words, at + PAIRS + OTHERS, 0, 0);
+    let pairs = at + PAIRS;
+    words.copy_within(pairs + PAIR_WORDS..pairs + PAIR_WORDS + OTHERS, pairs);
+    put_pair(words, pairs + OTHERS, 0, 0);
     words[at + LIVE] = live - 1;
 }
 
-// It does where windows have sizes of their own.
-fn lower_pairs(words: &mut [u32], g: Settings)
-    requires bounds { Bounds g }
-    requires g_in_bounds { (needed g ≤ length words.old) × (windowed g ≡ true → 1 ≤ live_of words.old g) }
-    ensures { words.new ≡ cond (windowed g) (pair_gone words.old g) words.old }
-{
-    if is_windowed(g) {
-        drop_pair(words, g);
-    }
-}
-
-// Writes a queue's take window.
+// Writes a queue's take window; the pair of the one before goes where windows have sizes of their own.
+#[tactic(auto, using(rules::proofs::Workers::windowed_is, rules::proofs::Workers::windows_some), unfolding(laws::specs::Choice::cond, rules::specs::Apply::put_dropped))]
 pub fn put_dropped(words: &mut [u32], g: Settings, e: Effect)
     requires bounds { Bounds g }
     requires g_in_bounds { (needed g ≤ length words.old) × (windowed g ≡ true → 1 ≤ live_of words.old g) }
     ensures { words.new ≡ put_dropped words.old g e }
 {
-    lower_pairs(words, g);
+    if is_windowed(g) {
+        drop_pair(words, g);
+    }
     words[MARK] = e.mark;
 }

@@ -13,10 +13,7 @@ use rules::{Settings, Size};
 pub fn has_windows(g: Settings) -> bool
     ensures { result ≡ has_windows g }
 {
-    if is_windowed(g) {
-        return g.kind == 0;
-    }
-    false
+    is_windowed(g) && g.kind == 0
 }
 
 // Whether a size was set, by 1.
@@ -64,11 +61,11 @@ pub fn nth_size(words: &[u32], g: Settings, k: u32) -> Size
 }
 
 // The bottom of the take window, whose top is T.
+#[tactic(auto, unfolding(rules::specs::Windows::bottom_of))]
 pub fn take_bottom(words: &[u32], g: Settings) -> u32
     requires bounds { Bounds g }
     requires most_live_in_bounds { (pair_at g most_live ≤ length words.now) × ((nth_size words.now g 0).depth ≤ get_or words.now mark_at 0) }
     ensures { result ≡ bottom_of words.now g 0 }
 {
-    let size = nth_size(words, g, 0);
-    words[MARK] - size.depth
+    words[MARK] - nth_size(words, g, 0).depth
 }

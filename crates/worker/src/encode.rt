@@ -1,9 +1,11 @@
 // The words of a worker.
 ghost use Rattle.std.specs.Prelude.{◌≡◌, ◌≤◌};
 ghost use Rattle.rules.specs.Window.{read_from};
-ghost use Rattle.rules.specs.Worker.{confirm_phase, encode, fresh, kept, number_for, zero_slot};
+ghost use Rattle.rules.specs.Worker.{confirm_phase, encode, fresh, kept, number_for};
 
-use rules::numbers::{CHECK, COMMIT, CONFIRM, IDLE, READ, SHIFT, TAKING, WINDOW, WINDOWED};
+use rules::numbers::{
+    CHECK, COMMIT, CONFIRM, IDLE, READ, SHIFT, TAKE_CONFIRM, TAKE_READ, TAKING, WINDOW, WINDOWED,
+};
 use rules::{Phase, Settings, Side, Slot, Span, Worker};
 
 // A take's phases are a put's and `TAKING`.
@@ -17,194 +19,127 @@ fn number_of(side: Side, phase: u32) -> u32
     }
 }
 
-// A window seen as the words hold it: an edition that has no words for its bottom and its width drops them.
-fn kept_window(g: Settings, window: Span) -> Span
-    ensures { result ≡ record { top = window.top; bottom = kept g window.bottom; width = kept g window.width } }
+// The words with a window that a queue's worker has seen; an edition that has no words for its bottom and its width drops them.
+#[tactic(auto, unfolding(laws::specs::Choice::cond, rules::specs::Limits::windowed))]
+fn with_window(g: Settings, old: Slot, window: Span) -> Slot
+    ensures { result ≡ record old { window = window.top; bottom = kept g window.bottom; width = kept g window.width } }
 {
+    let Span { top, bottom, width } = window;
     if WINDOWED <= g.edition {
-        return window;
-    }
-    Span {
-        top: window.top,
-        bottom: 0,
-        width: 0,
-    }
-}
-
-// The words of a worker in a phase, which has `phase` for its number in a put.
-fn words(
-    value: u32,
-    index: u32,
-    side: Side,
-    phase: u32,
-    window: Span,
-    extra: u32,
-    scan: u32,
-    seen: u32,
-    sum: u32,
-) -> Slot
-    requires { phase ≤ confirm_phase }
-    ensures { result ≡ record {
-      number = number_for side phase;
-      value = value;
-      index = index;
-      window = window.top;
-      extra = extra;
-      scan = scan;
-      seen = seen;
-      sum = sum;
-      bottom = window.bottom;
-      width = window.width;
-    } }
-{
-    Slot {
-        number: number_of(side, phase),
-        value,
-        index,
-        window: window.top,
-        extra,
-        scan,
-        seen,
-        sum,
-        bottom: window.bottom,
-        width: window.width,
+        Slot {
+            window: top,
+            bottom,
+            width,
+            ..old
+        }
+    } else {
+        Slot {
+            window: top,
+            bottom: 0,
+            width: 0,
+            ..old
+        }
     }
 }
 
 // The words of a worker. What its phase holds goes before the old words, which are kept where it holds none.
+#[tactic(auto, unfolding(rules::specs::Worker::encode, rules::specs::Worker::encode_phase))]
 pub fn slot_of(g: Settings, k: Worker, old: Slot) -> Slot
     ensures { result ≡ encode g k old }
 {
-    let value = k.value;
-    let index = k.index;
-    let past = Span {
-        top: old.window,
-        bottom: old.bottom,
-        width: old.width,
+    let old = Slot {
+        value: k.value,
+        index: k.index,
+        ..old
     };
-    let extra = old.extra;
-    let scan = old.scan;
-    let seen = old.seen;
-    let sum = old.sum;
-    let phase = k.phase;
-    match phase {
-        Phase::Idle => words(
-            value,
-            index,
-            Side::Putting,
-            IDLE,
-            past,
-            extra,
+    match k.phase {
+        Phase::Idle => Slot {
+            number: IDLE,
+            ..old
+        },
+        Phase::Window(side) => Slot {
+            number: number_of(side, WINDOW),
+            ..old
+        },
+        Phase::QueuePutRead { window, scan } => Slot {
+            number: READ,
             scan,
-            seen,
-            sum,
-        ),
-        Phase::Window(side) => words(value, index, side, WINDOW, past, extra, scan, seen, sum),
-        Phase::QueuePutRead { window, scan } => {
-            let span = kept_window(g, window);
-            words(
-                value,
-                index,
-                Side::Putting,
-                READ,
-                span,
-                extra,
-                scan,
-                seen,
-                sum,
-            )
-        }
+            ..with_window(g, old, window)
+        },
         Phase::QueueTakeRead {
             window,
             bare,
             scan,
             sum,
-        } => {
-            let span = kept_window(g, window);
-            words(
-                value,
-                index,
-                Side::Taking,
-                READ,
-                span,
-                bare,
-                scan,
-                seen,
-                sum,
-            )
-        }
+        } => Slot {
+            number: TAKE_READ,
+            extra: bare,
+            scan,
+            sum,
+            ..with_window(g, old, window)
+        },
         Phase::StackRead {
             side,
             window,
             version,
             scan,
             sum,
-        } => {
-            let span = Span {
-                top: window,
-                bottom: old.bottom,
-                width: old.width,
-            };
-            words(value, index, side, READ, span, version.0, scan, seen, sum)
-        }
+        } => Slot {
+            number: number_of(side, READ),
+            window,
+            extra: version.0,
+            scan,
+            sum,
+            ..old
+        },
         Phase::Check {
             side,
             version,
             seen,
-        } => words(
-            value, index, side, CHECK, past, version.0, scan, seen.0, sum,
-        ),
-        Phase::QueueCommit { side, window, seen } => {
-            let span = kept_window(g, window);
-            words(value, index, side, COMMIT, span, extra, scan, seen, sum)
-        }
-        Phase::StackCommit { side, seen } => {
-            words(value, index, side, COMMIT, past, extra, scan, seen.0, sum)
-        }
-        Phase::QueueShift { side, window } => {
-            let span = kept_window(g, window);
-            words(value, index, side, SHIFT, span, extra, scan, seen, sum)
-        }
+        } => Slot {
+            number: number_of(side, CHECK),
+            extra: version.0,
+            seen: seen.0,
+            ..old
+        },
+        Phase::QueueCommit { side, window, seen } => Slot {
+            number: number_of(side, COMMIT),
+            seen,
+            ..with_window(g, old, window)
+        },
+        Phase::StackCommit { side, seen } => Slot {
+            number: number_of(side, COMMIT),
+            seen: seen.0,
+            ..old
+        },
+        Phase::QueueShift { side, window } => Slot {
+            number: number_of(side, SHIFT),
+            ..with_window(g, old, window)
+        },
         Phase::StackShift {
             side,
             version,
             scan,
             sum,
-        } => words(value, index, side, SHIFT, past, version.0, scan, seen, sum),
-        Phase::QueueConfirm { window, scan, sum } => {
-            let span = kept_window(g, window);
-            words(
-                value,
-                index,
-                Side::Taking,
-                CONFIRM,
-                span,
-                extra,
-                scan,
-                seen,
-                sum,
-            )
-        }
-        Phase::StackConfirm { side, scan, sum } => {
-            words(value, index, side, CONFIRM, past, extra, scan, seen, sum)
-        }
-    }
-}
-
-pub fn zero_slot() -> Slot
-    ensures { result ≡ zero_slot }
-{
-    Slot {
-        number: 0,
-        value: 0,
-        index: 0,
-        window: 0,
-        extra: 0,
-        scan: 0,
-        seen: 0,
-        sum: 0,
-        bottom: 0,
-        width: 0,
+        } => Slot {
+            number: number_of(side, SHIFT),
+            extra: version.0,
+            scan,
+            sum,
+            ..old
+        },
+        Phase::QueueConfirm { window, scan, sum } => Slot {
+            number: TAKE_CONFIRM,
+            scan,
+            sum,
+            ..with_window(g, old, window)
+        },
+        Phase::StackConfirm { side, scan, sum } => Slot {
+            number: number_of(side, CONFIRM),
+            scan,
+            sum,
+            ..old
+        },
     }
 }
 
@@ -219,7 +154,7 @@ pub fn fresh_slot(g: Settings, value: u32, index: u32, phase: Phase) -> Slot
             index,
             phase,
         },
-        zero_slot(),
+        Slot::default(),
     )
 }
 
@@ -228,5 +163,13 @@ pub fn fresh_slot(g: Settings, value: u32, index: u32, phase: Phase) -> Slot
 pub fn seen_slot(g: Settings, value: u32, index: u32, side: Side, window: Span) -> Slot
     ensures { result ≡ fresh g value index (read_from window side) }
 {
-    words(value, index, side, READ, kept_window(g, window), 0, 0, 0, 0)
+    let fresh = Slot {
+        value,
+        index,
+        ..Slot::default()
+    };
+    Slot {
+        number: number_of(side, READ),
+        ..with_window(g, fresh, window)
+    }
 }

@@ -6,5 +6,5 @@ mod encode;
 mod windows;
 
 pub use decode::{seen_by, side_of, worker_of};
-pub use encode::{fresh_slot, seen_slot, slot_of, zero_slot};
+pub use encode::{fresh_slot, seen_slot, slot_of};
 pub use windows::{level_of, size_of, span_of};

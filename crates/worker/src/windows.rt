@@ -2,7 +2,6 @@
 ghost use Rattle.std.specs.Prelude.{◌≡◌};
 ghost use Rattle.rules.specs.Windows.{size_of, span_of, level_of};
 
-use laws::num::{higher, minus};
 use rules::numbers::WINDOWED;
 use rules::{Settings, Size, Span};
 
@@ -22,17 +21,19 @@ pub fn span_of(top: u32, size: Size) -> Span
 {
     Span {
         top,
-        bottom: minus(top, size.depth),
+        bottom: top.wrapping_sub(size.depth),
         width: size.width,
     }
 }
 
 // The higher of a sub's last row and a window's bottom. Where a sub's words are counts, the row above so many items is the next.
+#[tactic(auto, unfolding(laws::specs::Choice::cond, rules::specs::Limits::windowed, rules::specs::Windows::level_of))]
 pub fn level_of(g: Settings, last: u32, bottom: u32) -> u32
     ensures { result ≡ level_of g last bottom }
 {
     if WINDOWED <= g.edition {
-        return higher(last, bottom);
+        last.max(bottom)
+    } else {
+        last
     }
-    last
 }

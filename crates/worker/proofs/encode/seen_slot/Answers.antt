@@ -1,8 +1,7 @@
 -- `worker::encode::seen_slot` meets its contract: the words of either side are those of its read phase, with zeros in the others.
-use Prim.Native.Nat.{ℕ}
-use mathlib.Core.Path.{◌≡◌, refl, ◌∙◌}
+use Rattle.std.proofs.Common.{◌≡◌, ℕ, refl}
 use Rattle.rules.specs.Window.{read_from}
-use Rattle.rules.specs.Worker.{read_phase, number_for, kept, encode, encode_phase, fresh}
+use Rattle.rules.specs.Worker.{read_phase, number_for, kept, encode, encode_phase, fresh, zero_slot}
 use Rattle.rules.specs.declared.Settings.{Settings}
 use Rattle.rules.specs.declared.Side.{Side}
 use Rattle.rules.specs.declared.Side.TheVariants.{Putting, Taking}
@@ -11,17 +10,13 @@ use Rattle.rules.specs.declared.Span.{Span}
 use Rattle.worker.proofs.encode.seen_slot.Goals as goal
 
 -- the words of a worker about to read
-unfoldable reading : Settings → ℕ → ℕ → Side → Span → Slot
+reading : Settings → ℕ → ℕ → Side → Span → Slot
 reading g value index side window =
-    record {
+    record zero_slot {
       number = number_for side read_phase;
       value = value;
       index = index;
       window = window.top;
-      extra = 0;
-      scan = 0;
-      seen = 0;
-      sum = 0;
       bottom = kept g window.bottom;
       width = kept g window.width;
     }
@@ -35,4 +30,5 @@ pub returns : goal.returns
 unfolding reading
 returns c =
     let a = c.args in
-    c.words.ensures ∙ simp c.kept_window.ensures (either_side a.g a.value a.index a.side a.window)
+    let zero = c.default.ensures.1.1.1.1 in
+    simp (c.number_of.ensures, c.with_window.ensures, zero.0, zero.1.0, zero.1.1.0, zero.1.1.1.0) (either_side a.g a.value a.index a.side a.window)

@@ -1,8 +1,0 @@
--- `image::places::is_windowed` meets its contract: its test is the definition's.
-use mathlib.Core.Path.{refl}
-use Rattle.rules.specs.Limits.{windowed}
-use Rattle.image.proofs.places.is_windowed.Goals as goal
-
-pub returns : goal.returns
-unfolding windowed
-returns c = refl
