@@ -11,7 +11,9 @@ use Rattle.bands.proofs.Bottoms.{next_bottom}
 use Rattle.bands.proofs.JoinedBands.{lowest_in, joined_held, nothing_above}
 use Rattle.bands.proofs.Rows.{rows_items, rows_in_runs}
 use Rattle.bands.proofs.Walks.{Walked, between_walked, band_walked, walked_sub_law}
-use Rattle.bands.specs.Together.{Joins, band_within}
+use Rattle.bands.proofs.Whole.{whole_sub}
+use Rattle.bands.specs.Together.{Joins, Together, TellsCell, band_within, whole_band}
+use Rattle.bands.specs.declared.reach.Reach.{Reach}
 use Rattle.rules.proofs.Cells.{count_append}
 use Rattle.rules.specs.Fit.{FitPool}
 use Rattle.rules.specs.Held.{Item, band_between, band_count, band_of, items_above, held_bands, held_sub, held_below, count_items}
@@ -83,6 +85,32 @@ module _ (ws : List ℕ) (g : Settings) (fit : FitPool g ws) (words : (k : ℕ) 
   -- from the last put row on there is nothing
   pub rest_counted : (k : ℕ) → k ≤ live_of ws g → first_of ws j ≤ lowest_in ws g j k → count_items p (walked_sub ws g j) ≡ count_items p (held_bands ws g j k)
   rest_counted k l low = live_counted ∙ ap (count_items p) (nothing_above ws g j has k (live_of ws g) low l)
+
+-- ---- a sub that lies within all windows, of which the whole band is read
+pub record WholeRead (ws : List ℕ) (g : Settings) (r : Reach) (j below rows : ℕ) : Type 0 where
+  pub few : rows ≤ g.rows
+  pub first_cells : 1 ≤ g.kind → below ≡ 0
+  pub tells : TellsCell g.rows r below
+  pub counted : (p : Item → Bool) → count_items p (cell_items ws (sub_cells_at g j) (cells_of (segments_above g.rows below rows))) ≡ count_items p (walked_sub ws g j)
+  pub many : rows ≡ length (held_sub ws g j)
+
+pub whole_read : (ws : List ℕ) (g : Settings) → FitPool g ws → ((k : ℕ) → get_or ws k 0 < 2 ^ 32) → (r : Reach) → Together ws g r → (j : ℕ) → j < r.width
+    → {first second below rows : ℕ} → first ≡ first_of ws j → second ≡ second_of ws j
+    → (below ≡ (whole_band g r first second).below) × (rows ≡ (whole_band g r first second).rows) → WholeRead ws g r j below rows
+whole_read ws g fit words r t j within a b e =
+    let band = whole_band g r (first_of ws j) (second_of ws j) in
+    let whole = whole_sub ws g fit words r t j within in
+    let wide : j < g.width = omega (arith, t.most) in
+    let walk = rows_in_runs ws g j band.below band.rows fit.bounds whole.walked.few whole.walked.small in
+    rw (e.0, e.1, a, b) (
+    record {
+      few = whole.walked.few;
+      first_cells = whole.first_cells;
+      tells = (t.at_cell, whole.above);
+      counted = λ p. ap (count_items p) (walk ∙ sym whole.items ∙ sym (walked_sub_law ws g fit words j wide));
+      many = sym (ap length whole.items ∙ rows_items ws g j band.below band.rows);
+    }
+    )
 
 -- ---- the band of a live window has at most R rows
 pub live_few : (ws : List ℕ) (g : Settings) → FitPool g ws → ((k : ℕ) → get_or ws k 0 < 2 ^ 32) → has_windows g ≡ true → (j k : ℕ) → j < g.width → k < live_of ws g

@@ -78,7 +78,7 @@ fn band_reported(words: &[u32], g: Settings, r: Reach, j: u32, band: Band, s: St
     requires bounds { Bounds g }
     requires g_in_bounds { (needed g ≤ length words.now) × (j < g.width) }
     requires rows_le_rows { (band.rows ≤ g.rows) × (1 ≤ g.kind → band.below ≡ 0) }
-    requires tells_cell { TellsCell g.rows r.bottom r.cell band.below }
+    requires tells_cell { TellsCell g.rows r band.below }
     ensures { (result ≡ count_items (reported g.kind s.0) (cell_items words.now (sub_cells_at g j) (cells_of (segments_above g.rows band.below band.rows)))) × (result ≤ most_rows) }
 {
     let held = band_segments(g, r, band);
@@ -93,7 +93,7 @@ fn window_reported(words: &[u32], g: Settings, r: Reach, j: u32, band: Band, s: 
     requires bounds { Bounds g }
     requires g_in_bounds { (needed g ≤ length words.now) × (j < g.width) }
     requires rows_le_rows { (band.rows ≤ g.rows) × (g.kind ≡ 0) }
-    requires tells_cell { TellsCell g.rows r.bottom r.cell band.below }
+    requires tells_cell { TellsCell g.rows r band.below }
     ensures { (result ≡ count_items (reported g.kind s.0) (cell_items words.now (sub_cells_at g j) (cells_of (segments_above g.rows band.below band.rows)))) × (result ≤ most_rows) }
 {
     segments_reported(words, g, j, band_segments(g, r, band), 0, s)
@@ -102,7 +102,7 @@ fn window_reported(words: &[u32], g: Settings, r: Reach, j: u32, band: Band, s: 
 // How many held items of sub `j` the distance counts, where it lies within all windows: they are of one band.
 fn whole_reported(words: &[u32], g: Settings, r: Reach, j: u32, s: Stamp) -> u32
     requires fit_pool { FitPool g words.now }
-    requires together { Together words.now g r.bottom r.cell r.top r.width }
+    requires together { Together words.now g r }
     requires j_lt_width { j < r.width }
     ensures { (result ≡ count_items (reported g.kind s.0) (walked_sub words.now g j)) × (result ≤ most_rows) }
 {
@@ -112,7 +112,7 @@ fn whole_reported(words: &[u32], g: Settings, r: Reach, j: u32, s: Stamp) -> u32
 // The same of a sub of which that is not known. Windows one after the other that it lies in have one band; from its last put row on there is nothing more.
 fn windows_reported(words: &[u32], g: Settings, r: Reach, j: u32, s: Stamp) -> u32
     requires fit_pool { FitPool g words.now }
-    requires together { Together words.now g r.bottom r.cell r.top r.width }
+    requires together { Together words.now g r }
     requires g_value { (has_windows g ≡ true) × (j < g.width) }
     ensures { (result ≡ count_items (reported g.kind s.0) (walked_sub words.now g j)) × (result ≤ most_live * most_rows) }
 {

@@ -22,7 +22,7 @@ pub returns-then-sub-higher : goal.returns-then-sub-higher
 returns-then-sub-higher c =
     let sub = c.sub_of-sub.ensures in
     let p = reported c.args.g.kind c.args.s.0 in
-    let none : first_of c.args.words.now c.args.j ≤ lowest_in c.args.words.now c.args.g c.args.j 0 = omega (arith, c.if-sub-higher.true, c.higher.ensures, sub.0, sub.1, lowest_is c.args.words.now c.args.g c.args.r.bottom c.args.r.cell c.args.r.top c.args.r.width c.requires.together c.requires.g_value.0) in
+    let none : first_of c.args.words.now c.args.j ≤ lowest_in c.args.words.now c.args.g c.args.j 0 = omega (arith, c.if-sub-higher.true, c.higher.ensures, sub.0, sub.1, lowest_is c.args.words.now c.args.g c.args.r c.requires.together c.requires.g_value.0) in
     (sym (rest_counted c.args.words.now c.args.g c.requires.fit_pool (λ i. (c.shared_slice_known-1.given i).fits) c.requires.g_value.0 c.args.j c.requires.g_value.1 p 0 (omega arith) none ∙ none_counted c.args.words.now c.args.g c.requires.fit_pool (λ i. (c.shared_slice_known-1.given i).fits) c.requires.g_value.0 c.args.j c.requires.g_value.1 p), omega arith)
 
 pub live_of-live-requires-clause-most_live_in_bounds : goal.live_of-live-requires-clause-most_live_in_bounds
@@ -30,7 +30,7 @@ live_of-live-requires-clause-most_live_in_bounds c = pairs_there c.args.words.no
 
 pub loop-k-init : goal.loop-k-init
 loop-k-init c =
-    (omega arith, lowest_is c.args.words.now c.args.g c.args.r.bottom c.args.r.cell c.args.r.top c.args.r.width c.requires.together c.requires.g_value.0, omega arith, sym (none_counted c.args.words.now c.args.g c.requires.fit_pool (λ i. (c.shared_slice_known-1.given i).fits) c.requires.g_value.0 c.args.j c.requires.g_value.1 (reported c.args.g.kind c.args.s.0)))
+    (omega arith, lowest_is c.args.words.now c.args.g c.args.r c.requires.together c.requires.g_value.0, omega arith, sym (none_counted c.args.words.now c.args.g c.requires.fit_pool (λ i. (c.shared_slice_known-1.given i).fits) c.requires.g_value.0 c.args.j c.requires.g_value.1 (reported c.args.g.kind c.args.s.0)))
 
 pub window_reported-n-requires-clause-rows_le_rows : goal.window_reported-n-requires-clause-rows_le_rows
 window_reported-n-requires-clause-rows_le_rows c =
@@ -40,7 +40,7 @@ window_reported-n-requires-clause-rows_le_rows c =
     let b = read in
     let few = joined_few c.args.words.now c.args.g c.requires.fit_pool (λ i. (c.shared_slice_known-1.given i).fits) c.requires.g_value.0 c.args.j c.requires.g_value.1 (λ _. true) l.k w.result.end w.result.top w.ensures in
     let queue = eqb-true c.args.g.kind 0 (both_true (windowed c.args.g) (eqb c.args.g.kind 0) c.requires.g_value.0).1 in
-    let above : c.args.r.bottom ≤ c.between-band.result.below = omega (arith, b.0, lowest_is c.args.words.now c.args.g c.args.r.bottom c.args.r.cell c.args.r.top c.args.r.width c.requires.together c.requires.g_value.0, bottoms_up c.args.words.now c.args.g 0 l.k (omega arith)) in (rw b.1 few, queue)
+    let above : c.args.r.bottom ≤ c.between-band.result.below = omega (arith, b.0, lowest_is c.args.words.now c.args.g c.args.r c.requires.together c.requires.g_value.0, bottoms_up c.args.words.now c.args.g 0 l.k (omega arith)) in (rw b.1 few, queue)
 
 pub window_reported-n-requires-clause-tells_cell : goal.window_reported-n-requires-clause-tells_cell
 window_reported-n-requires-clause-tells_cell c =
@@ -50,7 +50,7 @@ window_reported-n-requires-clause-tells_cell c =
     let b = read in
     let few = joined_few c.args.words.now c.args.g c.requires.fit_pool (λ i. (c.shared_slice_known-1.given i).fits) c.requires.g_value.0 c.args.j c.requires.g_value.1 (λ _. true) l.k w.result.end w.result.top w.ensures in
     let queue = eqb-true c.args.g.kind 0 (both_true (windowed c.args.g) (eqb c.args.g.kind 0) c.requires.g_value.0).1 in
-    let above : c.args.r.bottom ≤ c.between-band.result.below = omega (arith, b.0, lowest_is c.args.words.now c.args.g c.args.r.bottom c.args.r.cell c.args.r.top c.args.r.width c.requires.together c.requires.g_value.0, bottoms_up c.args.words.now c.args.g 0 l.k (omega arith)) in (c.requires.together.at_cell, above)
+    let above : c.args.r.bottom ≤ c.between-band.result.below = omega (arith, b.0, lowest_is c.args.words.now c.args.g c.args.r c.requires.together c.requires.g_value.0, bottoms_up c.args.words.now c.args.g 0 l.k (omega arith)) in (c.requires.together.at_cell, above)
 
 pub returns-then-sub-on : goal.returns-then-sub-on
 returns-then-sub-on c =

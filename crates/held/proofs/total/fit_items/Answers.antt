@@ -24,9 +24,9 @@ overflow_add-n c =
     let j = c.loop-j.j in
     let r = c.reach_of-r in
     let sub = c.sub_of.ensures in
-    let band = whole_band g r.result.bottom r.result.top (first_of ws j) (second_of ws j) in
+    let band = whole_band g r.result (first_of ws j) (second_of ws j) in
     let read : c.whole_band-band.result.rows ≡ band.rows = rw (sub.0, sub.1) at c.whole_band-band.ensures.1 in
-    let whole = whole_sub ws g c.requires (λ i. (c.shared_slice_known-1.given i).fits) r.result.bottom r.result.cell r.result.top r.result.width r.ensures j c.loop-j-test.true in
+    let whole = whole_sub ws g c.requires (λ i. (c.shared_slice_known-1.given i).fits) r.result r.ensures j c.loop-j-test.true in
     (read ∙ sym (ap length whole.items ∙ rows_items ws g j band.below band.rows), omega (arith, read, whole.walked.few, c.requires.bounds.rows1024))) in
     omega (arith, rows_of, c.loop-j.invariant.1, c.loop-j-test.true, c.reach_of-r.ensures.most, c.requires.bounds.width16)
 
@@ -38,9 +38,9 @@ loop-j-preserved c =
     let j = c.loop-j.j in
     let r = c.reach_of-r in
     let sub = c.sub_of.ensures in
-    let band = whole_band g r.result.bottom r.result.top (first_of ws j) (second_of ws j) in
+    let band = whole_band g r.result (first_of ws j) (second_of ws j) in
     let read : c.whole_band-band.result.rows ≡ band.rows = rw (sub.0, sub.1) at c.whole_band-band.ensures.1 in
-    let whole = whole_sub ws g c.requires (λ i. (c.shared_slice_known-1.given i).fits) r.result.bottom r.result.cell r.result.top r.result.width r.ensures j c.loop-j-test.true in
+    let whole = whole_sub ws g c.requires (λ i. (c.shared_slice_known-1.given i).fits) r.result r.ensures j c.loop-j-test.true in
     (read ∙ sym (ap length whole.items ∙ rows_items ws g j band.below band.rows), omega (arith, read, whole.walked.few, c.requires.bounds.rows1024))) in
     let l = c.loop-j in
     let a = c.args in (
