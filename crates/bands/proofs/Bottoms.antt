@@ -8,6 +8,7 @@ use native.Mathlib.Nat.{eq-or-lt_of_le}
 use native.Mathlib.Numerals.{add-one}
 use native.Mathlib.Omega.{arith}
 use lib.Dec.{eqb}
+use borrow.Author.Tests.{eqb-true}
 use lib.ListN.{get_or, length}
 use Rattle.laws.specs.Choice.{both_true}
 use Rattle.rules.specs.Fit.{FitPool}
@@ -40,6 +41,9 @@ module _ (ws : List ℕ) (g : Settings) where
 
     pub is_windowed : windowed g ≡ true
     is_windowed = (both_true (windowed g) (eqb g.kind 0) has).0
+
+    pub is_queue : g.kind ≡ 0
+    is_queue = eqb-true g.kind 0 (both_true (windowed g) (eqb g.kind 0) has).1
 
     pub pairs_there : pair_at g most_live ≤ length ws
     pairs_there = omega (arith, fit.enough, windows_some g.edition (windowed_is g is_windowed))
