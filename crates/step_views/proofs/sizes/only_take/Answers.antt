@@ -3,4 +3,4 @@ use Rattle.step_views.proofs.Pairs.{take_is}
 use Rattle.step_views.proofs.sizes.only_take.Goals as goal
 
 pub returns : goal.returns
-returns c = simp (c.no_size-none.ensures, c.size_at.ensures, take_is)
+returns c = simp (c.no_sizes.ensures, c.size_at.ensures, take_is)
