@@ -22,9 +22,9 @@ fn is_reported(kind: u32, s: Stamp, it: Item) -> bool
         return false;
     }
     if kind == 0 {
-        it.stamp.0 < s.0
+        it.stamp < s
     } else {
-        s.0 < it.stamp.0
+        s < it.stamp
     }
 }
 
