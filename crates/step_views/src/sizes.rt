@@ -1,15 +1,13 @@
 // The sizes of a queue's windows, as a step reads them: those that its phase asks for. In a pool whose windows have no sizes of their own, each has the
 // pool's.
-ghost use Rattle.std.specs.Prelude.{◌≡◌, ◌<◌};
-ghost use Rattle.laws.specs.Choice.{cond};
+ghost use Rattle.std.specs.Prelude.{true, false, ◌≡◌};
 ghost use Rattle.phases.specs.Late.{Late};
 ghost use Rattle.rules.specs.Fit.{FitPool};
-ghost use Rattle.rules.specs.Limits.{most_live};
-ghost use Rattle.rules.specs.Windows.{has_windows, size_of, nth_size, sizes_of};
+ghost use Rattle.rules.specs.Windows.{has_windows, sizes_of};
 ghost use Rattle.step_views.specs.Asked.{no_sizes, only_take, look_asks, commit_asks, shift_asks, asked_by};
 
 use queue_windows::{has_windows, live_of, next_size, nth_size};
-use rules::{Phase, Settings, Side, Size, Sizes};
+use rules::{Phase, Settings, Side, Sizes};
 use worker::size_of;
 
 pub fn no_sizes() -> Sizes
@@ -18,49 +16,13 @@ pub fn no_sizes() -> Sizes
     Sizes::default()
 }
 
-// The live window `k`'s.
-fn size_at(words: &[u32], g: Settings, k: u32) -> Size
-    requires fit_pool { FitPool g words.now }
-    requires k_lt_most_live { k < most_live }
-    ensures { result ≡ cond (has_windows g) (nth_size words.now g k) (size_of g) }
+// What `own` reads of a queue's windows, where these have sizes of their own, else `pool`.
+fn own_or<T: Drop, F: FnOnce() -> T>(g: Settings, pool: T, own: F) -> T
+    requires { has_windows g ≡ true → F.pre own }
+    ensures of_windows { has_windows g ≡ true → F.post own result }
+    ensures of_pool { has_windows g ≡ false → result ≡ pool }
 {
-    if has_windows(g) {
-        return nth_size(words, g, k);
-    }
-    size_of(g)
-}
-
-// The put window's: the last of the live ones.
-fn put_size(words: &[u32], g: Settings) -> Size
-    requires { FitPool g words.now }
-    ensures { result ≡ (sizes_of words.now g).put }
-{
-    if has_windows(g) {
-        return nth_size(words, g, live_of(words, g) - 1);
-    }
-    size_of(g)
-}
-
-// The next put window's.
-fn coming_size(words: &[u32], g: Settings) -> Size
-    requires { FitPool g words.now }
-    ensures { result ≡ (sizes_of words.now g).next }
-{
-    if has_windows(g) {
-        return next_size(words, g);
-    }
-    size_of(g)
-}
-
-// How many are live.
-fn live(words: &[u32], g: Settings) -> u32
-    requires { FitPool g words.now }
-    ensures { result ≡ (sizes_of words.now g).live }
-{
-    if has_windows(g) {
-        return live_of(words, g);
-    }
-    0
+    if has_windows(g) { own() } else { pool }
 }
 
 fn only_take(words: &[u32], g: Settings) -> Sizes
@@ -68,7 +30,7 @@ fn only_take(words: &[u32], g: Settings) -> Sizes
     ensures { result ≡ only_take (sizes_of words.now g).take }
 {
     Sizes {
-        take: size_at(words, g, 0),
+        take: own_or(g, size_of(g), || nth_size(words, g, 0)),
         ..no_sizes()
     }
 }
@@ -80,7 +42,7 @@ pub fn look_sizes(words: &[u32], g: Settings, side: Side) -> Sizes
 {
     match side {
         Side::Putting => Sizes {
-            put: put_size(words, g),
+            put: own_or(g, size_of(g), || nth_size(words, g, live_of(words, g) - 1)),
             ..no_sizes()
         },
         Side::Taking => only_take(words, g),
@@ -105,13 +67,13 @@ fn shift_sizes(words: &[u32], g: Settings, side: Side) -> Sizes
 {
     match side {
         Side::Putting => Sizes {
-            take: size_at(words, g, 0),
-            next: coming_size(words, g),
-            live: live(words, g),
+            take: own_or(g, size_of(g), || nth_size(words, g, 0)),
+            next: own_or(g, size_of(g), || next_size(words, g)),
+            live: own_or(g, 0, || live_of(words, g)),
             ..no_sizes()
         },
         Side::Taking => Sizes {
-            after: size_at(words, g, 1),
+            after: own_or(g, size_of(g), || nth_size(words, g, 1)),
             ..no_sizes()
         },
     }
