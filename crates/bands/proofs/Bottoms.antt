@@ -1,15 +1,5 @@
 -- The bottoms of a queue's windows: each is as far above the one before as that window is deep, and none is above P.
-use Prim.Native.Nat.{ℕ, zero, suc, ◌+◌, ◌^◌, ◌≤◌, ◌<◌}
-use mathlib.Core.List.{List}
-use mathlib.Core.Path.{◌≡◌, refl}
-use mathlib.Core.Logic.{⊎_elim}
-use mathlib.Core.Bool.{true}
-use native.Mathlib.Nat.{eq-or-lt_of_le}
-use native.Mathlib.Numerals.{add-one}
-use native.Mathlib.Omega.{arith}
-use lib.Dec.{eqb}
-use borrow.Author.Tests.{eqb-true}
-use lib.ListN.{get_or, length}
+use Rattle.std.proofs.Common.{ℕ, zero, suc, ◌+◌, ◌^◌, ◌≤◌, ◌<◌, List, ◌≡◌, refl, ⊎_elim, true, eq-or-lt_of_le, add-one, arith, eqb, eqb-true, get_or, length}
 use Rattle.laws.specs.Choice.{both_true}
 use Rattle.rules.specs.Fit.{FitPool}
 use Rattle.rules.specs.Layout.{top_at, pair_at}

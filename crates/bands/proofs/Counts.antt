@@ -1,11 +1,5 @@
 -- What is counted band by band and sub by sub: one more adds what it has.
-use Prim.Native.Nat.{ℕ, ◌+◌, ◌-◌, ◌^◌, ◌≤◌, ◌<◌}
-use mathlib.Core.List.{List}
-use mathlib.Core.Path.{◌≡◌, refl, sym, ap, ◌∙◌}
-use mathlib.Core.Bool.{Bool, true}
-use native.Mathlib.Numerals.{add-one}
-use native.Mathlib.Omega.{arith}
-use lib.ListN.{get_or, length, length-append}
+use Rattle.std.proofs.Common.{ℕ, ◌+◌, ◌-◌, ◌^◌, ◌≤◌, ◌<◌, List, ◌≡◌, refl, sym, ap, ◌∙◌, Bool, true, add-one, arith, get_or, length, length-append, max, min}
 use Rattle.laws.specs.Choice.{cond}
 use Rattle.bands.proofs.Bottoms.{next_bottom, bottoms_up, is_queue}
 use Rattle.bands.proofs.JoinedBands.{lowest_in, joined_held, nothing_above}
@@ -14,7 +8,6 @@ use Rattle.bands.proofs.Walks.{Walked, between_walked, band_walked, walked_sub_l
 use Rattle.bands.proofs.Whole.{whole_sub, lowest_is}
 use Rattle.bands.proofs.Extremes.{max_is_higher, min_is_lower}
 use Rattle.rules.specs.declared.Segments.{Segments}
-use Rattle.std.proofs.Common.{max, min}
 use Rattle.bands.specs.Together.{Joins, Together, TellsCell, band_within, whole_band}
 use Rattle.bands.specs.declared.reach.Reach.{Reach}
 use Rattle.rules.proofs.Cells.{count_append}

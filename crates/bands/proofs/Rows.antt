@@ -1,10 +1,5 @@
 -- The items of rows one above the other: so many as the rows, in two parts, and those that lie in the straight runs of their cells.
-use Prim.Native.Nat.{ℕ, zero, suc, ◌+◌, ◌^◌, ◌≤◌, ◌<◌}
-use mathlib.Core.List.{List, ◌++◌, append_assoc, append-nil}
-use mathlib.Core.Path.{◌≡◌, refl, sym, ap, ◌∙◌}
-use native.Mathlib.Nat.{add-zero, add-suc}
-use native.Mathlib.Omega.{arith}
-use lib.ListN.{length, length-append}
+use Rattle.std.proofs.Common.{ℕ, zero, suc, ◌+◌, ◌^◌, ◌≤◌, ◌<◌, List, ◌++◌, append_assoc, append-nil, ◌≡◌, refl, sym, ap, ◌∙◌, add-zero, add-suc, arith, length, length-append}
 use Rattle.rules.specs.Held.{items_above}
 use Rattle.rules.specs.Layout.{sub_cells_at}
 use Rattle.rules.specs.Limits.{Bounds}

@@ -1,13 +1,5 @@
 -- A sub that lies within all live windows holds one band of rows, from the lowest bottom up to the highest top.
-use Prim.Native.Nat.{ℕ, ◌-◌, ◌^◌, ◌≤◌, ◌<◌}
-use mathlib.Core.List.{List}
-use mathlib.Core.Path.{◌≡◌, refl, ap, ◌∙◌}
-use mathlib.Core.Bool.{Bool, true, false}
-use native.Mathlib.Nat.{zero-add}
-use native.Mathlib.Omega.{arith}
-use lib.Dec.{eqb}
-use lib.ListN.{get_or}
-use borrow.Author.Tests.{eqb-true}
+use Rattle.std.proofs.Common.{ℕ, ◌-◌, ◌^◌, ◌≤◌, ◌<◌, List, ◌≡◌, refl, ap, ◌∙◌, Bool, true, false, zero-add, arith, eqb, get_or, eqb-true}
 use Rattle.laws.specs.Choice.{cond, both_true}
 use Rattle.rules.specs.Fit.{FitPool}
 use Rattle.rules.specs.Held.{Band, sub_band, band_count, band_of, items_above, held_bands, held_sub}

@@ -3,10 +3,15 @@
 use Rattle.std.specs.Prelude.{ℕ, ◌+◌, ◌-◌, ◌%◌, ◌^◌, ◌≤◌, ◌<◌, ◌≡◌, List, true, false, ltb, eqb}
 use Rattle.laws.specs.Choice.{cond}
 use Rattle.rules.specs.Held.{Band, band_between}
+use Rattle.bands.specs.declared.reach.Band.{Band as Read}
 use Rattle.rules.specs.Windows.{has_windows, live_of, nth_size, bottom_of, higher, lower}
 use Rattle.rules.specs.declared.Settings.{Settings}
 use Rattle.rules.specs.declared.Size.{Size}
 use Rattle.bands.specs.declared.reach.Reach.{Reach}
+
+-- rows that were read are those of a band
+abbrev pub IsBand : Read → Band → Type 0
+IsBand b band = (b.below ≡ band.below) × (b.rows ≡ band.rows)
 
 -- what a sub of these words holds between the lowest bottom and the highest top; a stack's rows are all its own
 abbrev pub whole_band : Settings → Reach → ℕ → ℕ → Band

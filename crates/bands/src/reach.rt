@@ -1,6 +1,6 @@
 // The bands of rows that a sub holds: between a row and another, of one window, of windows that follow each other, or of all of them together.
 ghost use Rattle.std.specs.Prelude.{true, ◌≡◌, ℕ, ◌+◌, ◌^◌, ◌<◌, ◌≤◌};
-ghost use Rattle.bands.specs.Together.{Together, Joins, band_within, whole_band};
+ghost use Rattle.bands.specs.Together.{Together, Joins, IsBand, band_within, whole_band};
 ghost use Rattle.rules.specs.Fit.{FitPool};
 ghost use Rattle.rules.specs.Held.{band_between};
 ghost use Rattle.rules.specs.Windows.{has_windows, live_of, nth_size, bottom_of};
@@ -11,7 +11,7 @@ use rules::numbers::MOST_LIVE;
 use rules::{Settings, Size};
 
 // So many rows above `below`.
-#[derive(Clone, Copy)]
+#[derive(Clone, Copy, Debug, Default, PartialEq, Eq)]
 pub struct Band {
     pub below: u32,
     pub rows: u32,
@@ -19,7 +19,7 @@ pub struct Band {
 
 // All live windows together: their lowest bottom, with the cell of the row above it, their highest top, and a number of subs that lie in each of them: all
 // where each window is as wide as the pool, else 0.
-#[derive(Clone, Copy)]
+#[derive(Clone, Copy, Debug, PartialEq, Eq)]
 pub struct Reach {
     pub bottom: u32,
     pub cell: u32,
@@ -28,7 +28,7 @@ pub struct Reach {
 }
 
 // Windows from one on that a sub lies in: the first behind them, and their highest top.
-#[derive(Clone, Copy)]
+#[derive(Clone, Copy, Debug, PartialEq, Eq)]
 pub struct Joined {
     pub end: u32,
     pub top: u32,
@@ -36,7 +36,7 @@ pub struct Joined {
 
 // The rows above one and up to another: none, where that is not higher.
 pub fn between(low: u32, high: u32) -> Band
-    ensures { (result.below ≡ (band_between low high).below) × (result.rows ≡ (band_between low high).rows) }
+    ensures { IsBand result (band_between low high) }
 {
     Band {
         below: low,
@@ -47,12 +47,12 @@ pub fn between(low: u32, high: u32) -> Band
 // What a sub holds of a window that lies above `bottom`: nothing, where it is outside the window's width.
 pub fn window_band(sub: Sub, j: u32, bottom: u32, size: Size) -> Band
     requires { bottom + size.depth < 2 ^ 32 }
-    ensures { (result.below ≡ (band_within j sub.first sub.second bottom size).below) × (result.rows ≡ (band_within j sub.first sub.second bottom size).rows) }
+    ensures { IsBand result (band_within j sub.first sub.second bottom size) }
 {
     if j < size.width {
         return between(sub.second.max(bottom), sub.first.min(bottom + size.depth));
     }
-    between(0, 0)
+    Band::default()
 }
 
 // The pool's width, where each live window has it, else 0. Their sum tells: none is wider, and the pairs beyond the live ones are zero. It is of all pairs,
@@ -117,7 +117,7 @@ pub fn joined_from(words: &[u32], g: Settings, j: u32, from: u32, live: u32, bot
 
 // All that a sub holds which lies within that width.
 pub fn whole_band(g: Settings, r: Reach, sub: Sub) -> Band
-    ensures { (result.below ≡ (whole_band g r sub.first sub.second).below) × (result.rows ≡ (whole_band g r sub.first sub.second).rows) }
+    ensures { IsBand result (whole_band g r sub.first sub.second) }
 {
     if g.kind == 0 {
         return between(sub.second.max(r.bottom), sub.first.min(r.top));

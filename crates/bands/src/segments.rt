@@ -13,7 +13,7 @@ fn only(start: u32, count: u32) -> Segments
 {
     Segments {
         first: Segment { start, count },
-        second: Segment::default(),
+        ..Segments::default()
     }
 }
 
@@ -42,7 +42,7 @@ fn segments_above(rows: u32, r: Reach, below: u32, held: u32) -> Segments
     ensures { result ≡ segments_above rows below held }
 {
     if held == 0 {
-        return only(0, 0);
+        return Segments::default();
     }
     let start = cell_above(rows, r, below);
     let room = rows - start;

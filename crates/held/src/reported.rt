@@ -4,8 +4,8 @@ ghost use Rattle.std.specs.Prelude.{true, ◌≡◌, ◌+◌, ◌*◌, ◌≤◌
 ghost use Rattle.bands.specs.Together.{TellsCell, Together};
 ghost use Rattle.rules.specs.Fit.{FitPool};
 ghost use Rattle.rules.specs.Held.{reported, count_items};
-ghost use Rattle.rules.specs.Layout.{cell_words, sub_cells_at, needed};
-ghost use Rattle.rules.specs.Limits.{Bounds, most_rows, most_live};
+ghost use Rattle.rules.specs.Layout.{cell_words, sub_cells_at};
+ghost use Rattle.rules.specs.Limits.{most_rows, most_live};
 ghost use Rattle.ring.specs.Segments.{Within, up_from, segment_cells, segments_above, cells_of, cell_items, walked_sub, walked_distance};
 ghost use Rattle.rules.specs.Windows.{has_windows};
 
@@ -46,8 +46,7 @@ fn cells_reported(cells: &[u32], count: usize, kind: u32, s: Stamp) -> u32
 
 // The same of a segment of sub `j`.
 fn segment_reported(words: &[u32], g: Settings, j: u32, x: Segment, kind: u32, s: Stamp) -> u32
-    requires bounds { Bounds g }
-    requires enough { needed g ≤ length words.now }
+    requires fit_pool { FitPool g words.now }
     requires sub_in { j < g.width }
     requires cells_in { x.start + x.count ≤ g.rows }
     ensures { (result ≡ count_items (reported kind s.0) (cell_items words.now (sub_cells_at g j) (segment_cells x))) × (result ≤ x.count) }
@@ -59,8 +58,7 @@ fn segment_reported(words: &[u32], g: Settings, j: u32, x: Segment, kind: u32, s
 // The same of both segments. Whether the second has cells is asked once, before the first is gone through: a sub with one alone
 // costs less so.
 fn segments_reported(words: &[u32], g: Settings, j: u32, x: Segments, kind: u32, s: Stamp) -> u32
-    requires bounds { Bounds g }
-    requires enough { needed g ≤ length words.now }
+    requires fit_pool { FitPool g words.now }
     requires sub_in { j < g.width }
     requires within { Within g.rows x }
     ensures { (result ≡ count_items (reported kind s.0) (cell_items words.now (sub_cells_at g j) (cells_of x))) × (result ≤ most_rows) }
@@ -72,10 +70,10 @@ fn segments_reported(words: &[u32], g: Settings, j: u32, x: Segments, kind: u32,
         + segment_reported(words, g, j, x.second, kind, s)
 }
 
-// The same of a band of sub `j`. Each call has its kind as a number, so that the compiler makes the loop of each kind, and no cell asks for it.
+// The same of a band of sub `j`.
+// Stays: each call has its kind as a number, so that the compiler makes the loop of each kind, and no cell asks for it.
 fn band_reported(words: &[u32], g: Settings, r: Reach, j: u32, band: Band, s: Stamp) -> u32
-    requires bounds { Bounds g }
-    requires enough { needed g ≤ length words.now }
+    requires fit_pool { FitPool g words.now }
     requires sub_in { j < g.width }
     requires few_rows { band.rows ≤ g.rows }
     requires first_cells { 1 ≤ g.kind → band.below ≡ 0 }

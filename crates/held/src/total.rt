@@ -32,6 +32,7 @@ fn windows_held(words: &[u32], g: Settings, j: u32) -> u32
 }
 
 // The items held by a fit pool, sub by sub: those that lie within all windows have one band.
+// Stays: the distance has two such loops, over other counts; a function for both would need a longer contract, on two closures.
 fn fit_items(words: &[u32], g: Settings) -> u32
     requires { FitPool g words.now }
     ensures { result ≡ length (held_items words.now g) }

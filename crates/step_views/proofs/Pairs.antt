@@ -1,10 +1,5 @@
 -- A queue whose windows have sizes of their own has all their pairs among the needed words, and as many live as there are pairs for.
-use Prim.Native.Nat.{ℕ, ◌-◌, ◌≤◌}
-use mathlib.Core.Path.{◌≡◌, refl}
-use mathlib.Core.Bool.{Bool, true, false}
-use mathlib.Core.List.{List}
-use native.Mathlib.Omega.{arith}
-use lib.ListN.{length}
+use Rattle.std.proofs.Common.{ℕ, ◌-◌, ◌≤◌, ◌≡◌, refl, Bool, true, false, List, arith, length}
 use Rattle.laws.specs.Choice.{cond, cond_under, both_true}
 use Rattle.rules.specs.Layout.{pair_at}
 use Rattle.rules.specs.Limits.{most_live}

@@ -4,7 +4,7 @@ use Rattle.rules.specs.Layout.{top_at}
 use Rattle.rules.specs.Limits.{most_live}
 use Rattle.rules.specs.declared.Size.{Size}
 use Rattle.bands.proofs.Bottoms.{bottom_after, top_small, pairs_there}
-use native.Mathlib.Decide.{ℕ_discrete}
+use Rattle.std.proofs.Math.Decide.{ℕ_discrete}
 use Rattle.bands.proofs.reach.joined_from.Goals as goal
 
 pub nth_size-size-requires-clause-most_live_in_bounds : goal.nth_size-size-requires-clause-most_live_in_bounds

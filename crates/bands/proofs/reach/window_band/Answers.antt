@@ -11,4 +11,4 @@ returns-then-j-size c =
 
 pub returns : goal.returns
 unfolding cond
-returns c = rw (le-ltb _ _ c.if-j-size.false) c.between-2.ensures
+returns c = rw (le-ltb _ _ c.if-j-size.false) c.default.ensures

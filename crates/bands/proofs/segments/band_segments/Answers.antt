@@ -2,9 +2,7 @@
 use Rattle.ring.specs.Segments.{segments_above}
 use Rattle.ring.proofs.Ring.{segments_from_first}
 use Rattle.rules.proofs.Cells.{rows_pos}
-use native.Mathlib.Omega.{arith}
-use mathlib.Core.Path.{◌≡◌, sym, ap, ◌∙◌}
-use Prim.Native.Nat.{ℕ}
+use Rattle.std.proofs.Common.{arith, ◌≡◌, sym, ap, ◌∙◌, ℕ}
 use Rattle.bands.proofs.segments.band_segments.Goals as goal
 
 pub returns : goal.returns

@@ -1,7 +1,5 @@
 -- `held::total::items` meets its contract: words that are fit are counted sub by sub; of other words none.
-use mathlib.Core.Path.{◌≡◌, ap, sym, ◌∙◌}
-use native.Mathlib.Omega.{arith}
-use lib.ListN.{length}
+use Rattle.std.proofs.Common.{◌≡◌, ap, sym, ◌∙◌, arith, length}
 use Rattle.rules.proofs.Fitness.{fit_pool, refusal_none, refusal_some}
 use Rattle.rules.specs.Fit.{Checked, Fit, checked_of}
 use Rattle.rules.specs.Held.{held_by, held_items, held_of}
