@@ -118,6 +118,7 @@ fn windows_reported(words: &[u32], g: Settings, r: Reach, j: u32, s: Stamp) -> u
         let on = joined_from(words, g, j, k, live, bottom);
         let band = between(sub.second.max(bottom), sub.first.min(on.top));
         let held = band_segments(g, r, band);
+        // Not by `band_reported`, which is inlined only where a single place calls it.
         n += segments_reported(words, g, j, held, 0, s);
         if sub.first <= on.top {
             return n;
