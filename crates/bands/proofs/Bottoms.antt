@@ -1,14 +1,5 @@
 -- The bottoms of a queue's windows: each is as far above the one before as that window is deep, and none is above P.
-use Prim.Native.Nat.{ℕ, zero, suc, ◌+◌, ◌^◌, ◌≤◌, ◌<◌}
-use mathlib.Core.List.{List}
-use mathlib.Core.Path.{◌≡◌, refl}
-use mathlib.Core.Logic.{⊎_elim}
-use mathlib.Core.Bool.{true}
-use native.Mathlib.Nat.{eq-or-lt_of_le}
-use native.Mathlib.Numerals.{add-one}
-use native.Mathlib.Omega.{arith}
-use lib.Dec.{eqb}
-use lib.ListN.{get_or, length}
+use Rattle.std.proofs.Common.{ℕ, zero, suc, ◌+◌, ◌^◌, ◌≤◌, ◌<◌, List, ◌≡◌, refl, ⊎_elim, true, eq-or-lt_of_le, add-one, arith, eqb, eqb-true, get_or, length}
 use Rattle.laws.specs.Choice.{both_true}
 use Rattle.rules.specs.Fit.{FitPool}
 use Rattle.rules.specs.Layout.{top_at, pair_at}
@@ -40,6 +31,9 @@ module _ (ws : List ℕ) (g : Settings) where
 
     pub is_windowed : windowed g ≡ true
     is_windowed = (both_true (windowed g) (eqb g.kind 0) has).0
+
+    pub is_queue : g.kind ≡ 0
+    is_queue = eqb-true g.kind 0 (both_true (windowed g) (eqb g.kind 0) has).1
 
     pub pairs_there : pair_at g most_live ≤ length ws
     pairs_there = omega (arith, fit.enough, windows_some g.edition (windowed_is g is_windowed))

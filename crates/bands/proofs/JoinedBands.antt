@@ -1,15 +1,7 @@
 -- Windows one after the other that a sub lies in hold one band of rows: where a window's band ends at its top, the next one's starts there, and above the last put
 -- row, or below the last taken one, the bands are empty. A window that the sub does not lie in holds nothing of it.
-use Prim.Native.Nat.{ℕ, zero, suc, ◌+◌, ◌-◌, ◌≤◌, ◌<◌}
-use mathlib.Core.List.{List, ◌++◌, append_assoc, append-nil}
-use mathlib.Core.Path.{◌≡◌, refl, sym, ap, ap₂, ◌∙◌}
-use mathlib.Core.Logic.{◌≢◌, ⊎_elim}
-use mathlib.Core.Bool.{true}
-use native.Mathlib.Decide.{ℕ_discrete, dec_lt}
-use native.Mathlib.Nat.{add-zero, add-suc, le_trans, eq-or-lt_of_le}
-use native.Mathlib.Numerals.{add-one}
-use native.Mathlib.Omega.{arith}
-use borrow.Author.Tests.{lt-ltb, le-ltb}
+use Rattle.std.proofs.Common.{ℕ, zero, suc, ◌+◌, ◌-◌, ◌≤◌, ◌<◌, List, ◌++◌, append_assoc, append-nil, ◌≡◌, refl, sym, ap, ap₂, ◌∙◌, ◌≢◌, ⊎_elim, true, add-zero, add-suc, le_trans, eq-or-lt_of_le, add-one, arith, lt-ltb, le-ltb}
+use Rattle.std.proofs.Math.Decide.{ℕ_discrete, dec_lt}
 use Rattle.laws.specs.Choice.{cond}
 use Rattle.rules.specs.Held.{Band, band_between, band_of, items_above, held_bands}
 use Rattle.rules.specs.Layout.{first_of, second_of}

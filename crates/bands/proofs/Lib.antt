@@ -6,3 +6,4 @@ pub mod JoinedBands
 pub mod Whole
 pub mod Widths
 pub mod Counts
+pub mod Extremes

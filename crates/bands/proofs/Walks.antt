@@ -1,14 +1,7 @@
 -- Each band of a fit pool has at most R rows and ends below 2^32, so that its rows lie in at most two straight runs. So what a walk through the runs of all bands
 -- of a sub meets is what the sub holds.
-use Prim.Native.Nat.{ℕ, zero, suc, ◌+◌, ◌-◌, ◌^◌, ◌≤◌, ◌<◌}
-use mathlib.Core.List.{List, ◌++◌}
-use mathlib.Core.Path.{◌≡◌, refl, ap₂}
-use mathlib.Core.Bool.{Bool, true, false}
-use native.Mathlib.Decide.{ℕ_discrete}
-use native.Mathlib.Omega.{arith}
-use lib.Dec.{ltb, eqb}
-use lib.ListN.{get_or}
-use borrow.Author.Tests.{eqb-true}
+use Rattle.std.proofs.Common.{ℕ, zero, suc, ◌+◌, ◌-◌, ◌^◌, ◌≤◌, ◌<◌, List, ◌++◌, ◌≡◌, refl, ap₂, Bool, true, false, arith, ltb, eqb, get_or, eqb-true}
+use Rattle.std.proofs.Math.Decide.{ℕ_discrete}
 use Rattle.laws.specs.Choice.{cond, cases, both_true}
 use Rattle.rules.specs.Fit.{FitPool}
 use Rattle.rules.specs.Held.{Band, band_between, sub_band, window_band, band_count, band_of, items_above, held_bands, held_sub}

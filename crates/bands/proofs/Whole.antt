@@ -1,13 +1,5 @@
 -- A sub that lies within all live windows holds one band of rows, from the lowest bottom up to the highest top.
-use Prim.Native.Nat.{ℕ, ◌-◌, ◌^◌, ◌≤◌, ◌<◌}
-use mathlib.Core.List.{List}
-use mathlib.Core.Path.{◌≡◌, refl, ap, ◌∙◌}
-use mathlib.Core.Bool.{Bool, true, false}
-use native.Mathlib.Nat.{zero-add}
-use native.Mathlib.Omega.{arith}
-use lib.Dec.{eqb}
-use lib.ListN.{get_or}
-use borrow.Author.Tests.{eqb-true}
+use Rattle.std.proofs.Common.{ℕ, ◌-◌, ◌^◌, ◌≤◌, ◌<◌, List, ◌≡◌, refl, ap, ◌∙◌, Bool, true, false, zero-add, arith, eqb, get_or, eqb-true}
 use Rattle.laws.specs.Choice.{cond, both_true}
 use Rattle.rules.specs.Fit.{FitPool}
 use Rattle.rules.specs.Held.{Band, sub_band, band_count, band_of, items_above, held_bands, held_sub}
@@ -16,6 +8,7 @@ use Rattle.rules.specs.Limits.{windowed}
 use Rattle.rules.specs.Windows.{has_windows, live_of, nth_size, bottom_of, higher, lower}
 use Rattle.rules.specs.declared.Settings.{Settings}
 use Rattle.bands.specs.Together.{whole_band, Together}
+use Rattle.bands.specs.declared.reach.Reach.{Reach}
 use Rattle.bands.proofs.JoinedBands.{lowest_in, rows_up_to, joined_bands}
 use Rattle.bands.proofs.Walks.{Walked, between_walked, band_walked}
 
@@ -32,17 +25,17 @@ pub record IsWhole (ws : List ℕ) (g : Settings) (j bottom : ℕ) (b : Band) : 
   pub first_cells : 1 ≤ g.kind → b.below ≡ 0
   pub items : held_sub ws g j ≡ items_above ws g j b.below b.rows
 
-module _ (ws : List ℕ) (g : Settings) (fit : FitPool g ws) (words : (k : ℕ) → get_or ws k 0 < 2 ^ 32) (bottom cell top width : ℕ) (t : Together ws g bottom cell top width) (j : ℕ) (within : j < width) where
+module _ (ws : List ℕ) (g : Settings) (fit : FitPool g ws) (words : (k : ℕ) → get_or ws k 0 < 2 ^ 32) (r : Reach) (t : Together ws g r) (j : ℕ) (within : j < r.width) where
   wide : j < g.width
   wide = omega (arith, t.most)
 
   -- of windows together
-  whole_windows : has_windows g ≡ true → IsWhole ws g j bottom (whole_band g bottom top (first_of ws j) (second_of ws j))
+  whole_windows : has_windows g ≡ true → IsWhole ws g j r.bottom (whole_band g r (first_of ws j) (second_of ws j))
   unfolding cond held_sub band_count
   whole_windows has =
       let queue : eqb g.kind 0 ≡ true = (both_true (windowed g) (eqb g.kind 0) has).1 in
-      let low : bottom ≡ bottom_of ws g 0 = rw has at t.low in
-      let high : top ≡ bottom_of ws g (live_of ws g) = rw has at t.high in
+      let low : r.bottom ≡ bottom_of ws g 0 = rw has at t.low in
+      let high : r.top ≡ bottom_of ws g (live_of ws g) = rw has at t.high in
       rw (queue, low, high) (
       record {
         walked = between_walked ws g fit words j wide has 0 (live_of ws g) (omega arith);
@@ -68,34 +61,34 @@ module _ (ws : List ℕ) (g : Settings) (fit : FitPool g ws) (words : (k : ℕ) 
   alone_walked : has_windows g ≡ false → Walked g (sub_band g (first_of ws j) (second_of ws j))
   alone_walked old = rw (band old) at (band_walked ws g fit words j wide 0 (omega (arith, count old)))
 
-  whole_alone : has_windows g ≡ false → IsWhole ws g j bottom (whole_band g bottom top (first_of ws j) (second_of ws j))
+  whole_alone : has_windows g ≡ false → IsWhole ws g j r.bottom (whole_band g r (first_of ws j) (second_of ws j))
   unfolding cond
   whole_alone old = go (eqb g.kind 0) refl
     where
-      go : (q : Bool) → eqb g.kind 0 ≡ q → IsWhole ws g j bottom (whole_band g bottom top (first_of ws j) (second_of ws j))
+      go : (q : Bool) → eqb g.kind 0 ≡ q → IsWhole ws g j r.bottom (whole_band g r (first_of ws j) (second_of ws j))
       go true e =
-          let low : bottom ≡ 0 = rw old at t.low in
-          let high : top ≡ 2 ^ 32 - 1 = rw old at t.high in
-          let down : higher (second_of ws j) bottom ≡ second_of ws j = omega arith in
-          let up : lower (first_of ws j) top ≡ first_of ws j = omega (arith, words (first_at j)) in
+          let low : r.bottom ≡ 0 = rw old at t.low in
+          let high : r.top ≡ 2 ^ 32 - 1 = rw old at t.high in
+          let down : higher (second_of ws j) r.bottom ≡ second_of ws j = omega arith in
+          let up : lower (first_of ws j) r.top ≡ first_of ws j = omega (arith, words (first_at j)) in
           rw (e, down, up) (record { walked = rw e at (alone_walked old); above = omega arith; first_cells = λ stack. absurd (omega (arith, eqb-true g.kind 0 e)); items = rw e at (band_alone old) })
-      go false e = rw e (record { walked = rw e at (alone_walked old); above = let low : bottom ≡ 0 = rw old at t.low in omega arith; first_cells = λ stack. refl; items = rw e at (band_alone old) })
+      go false e = rw e (record { walked = rw e at (alone_walked old); above = let low : r.bottom ≡ 0 = rw old at t.low in omega arith; first_cells = λ stack. refl; items = rw e at (band_alone old) })
 
-  pub whole_sub : IsWhole ws g j bottom (whole_band g bottom top (first_of ws j) (second_of ws j))
+  pub whole_sub : IsWhole ws g j r.bottom (whole_band g r (first_of ws j) (second_of ws j))
   whole_sub = go (has_windows g) refl
     where
-      go : (b : Bool) → has_windows g ≡ b → IsWhole ws g j bottom (whole_band g bottom top (first_of ws j) (second_of ws j))
+      go : (b : Bool) → has_windows g ≡ b → IsWhole ws g j r.bottom (whole_band g r (first_of ws j) (second_of ws j))
       go true e = whole_windows e
       go false e = whole_alone e
 
 -- the lowest bottom is the take window's
-pub lowest_is : (ws : List ℕ) (g : Settings) (bottom cell top width : ℕ) → Together ws g bottom cell top width → has_windows g ≡ true → bottom ≡ bottom_of ws g 0
+pub lowest_is : (ws : List ℕ) (g : Settings) (r : Reach) → Together ws g r → has_windows g ≡ true → r.bottom ≡ bottom_of ws g 0
 unfolding cond
-lowest_is ws g bottom cell top width t has = rw has at t.low
+lowest_is ws g r t has = rw has at t.low
 
 -- where a sub does not lie within all windows, there are windows
-pub beyond_has : (ws : List ℕ) (g : Settings) (bottom cell top width j : ℕ) → Together ws g bottom cell top width → width ≤ j → j < g.width → has_windows g ≡ true
-beyond_has ws g bottom cell top width j t low high = go (has_windows g) refl
+pub beyond_has : (ws : List ℕ) (g : Settings) (r : Reach) (j : ℕ) → Together ws g r → r.width ≤ j → j < g.width → has_windows g ≡ true
+beyond_has ws g r j t low high = go (has_windows g) refl
   where
     go : (b : Bool) → has_windows g ≡ b → b ≡ true
     go true e = refl

@@ -1,14 +1,7 @@
 -- The sum of the windows' widths: none of a fit pool's live windows is wider than the pool, and the pairs beyond them are zero. So where the sum is that of so many
 -- windows of the pool's width, each of them has it.
-use Prim.Native.Nat.{ℕ, zero, suc, ◌+◌, ◌*◌, ◌≤◌, ◌<◌}
-use mathlib.Core.List.{List}
-use mathlib.Core.Path.{◌≡◌, refl, ap}
-use mathlib.Core.Logic.{⊎_elim}
-use mathlib.Core.Bool.{true}
-use native.Mathlib.Decide.{dec_lt}
-use native.Mathlib.Nat.{eq-or-lt_of_le}
-use native.Mathlib.Numerals.{add-one}
-use native.Mathlib.Omega.{arith}
+use Rattle.std.proofs.Common.{ℕ, zero, suc, ◌+◌, ◌*◌, ◌≤◌, ◌<◌, List, ◌≡◌, refl, ap, ⊎_elim, true, eq-or-lt_of_le, add-one, arith}
+use Rattle.std.proofs.Math.Decide.{dec_lt}
 use Rattle.rules.specs.Fit.{FitPool}
 use Rattle.rules.specs.Limits.{most_live}
 use Rattle.rules.specs.Windows.{has_windows, live_of, nth_size}

@@ -13,15 +13,15 @@ fn only(start: u32, count: u32) -> Segments
 {
     Segments {
         first: Segment { start, count },
-        second: Segment { start: 0, count: 0 },
+        ..Segments::default()
     }
 }
 
 // The cell of the row above `below`: as far on from that of the row above the lowest bottom as `below` is above that bottom, and on from the first cell behind
 // the last. A remainder is taken only where that goes round twice.
 fn cell_above(rows: u32, r: Reach, below: u32) -> u32
-    requires le_rows { 1 ≤ rows }
-    requires tells_cell { TellsCell rows r.bottom r.cell below }
+    requires some_rows { 1 ≤ rows }
+    requires tells_cell { TellsCell rows r below }
     ensures { result ≡ below % rows }
 {
     let at = r.cell + (below - r.bottom);
@@ -37,12 +37,12 @@ fn cell_above(rows: u32, r: Reach, below: u32) -> u32
 
 // Those of the cells of `held` rows above row `below`: up to the last cell, and on from the first. Where no row is held, no cell is looked for.
 fn segments_above(rows: u32, r: Reach, below: u32, held: u32) -> Segments
-    requires le_rows { 1 ≤ rows }
-    requires tells_cell { TellsCell rows r.bottom r.cell below }
+    requires some_rows { 1 ≤ rows }
+    requires tells_cell { TellsCell rows r below }
     ensures { result ≡ segments_above rows below held }
 {
     if held == 0 {
-        return only(0, 0);
+        return Segments::default();
     }
     let start = cell_above(rows, r, below);
     let room = rows - start;
@@ -61,8 +61,9 @@ fn segments_above(rows: u32, r: Reach, below: u32, held: u32) -> Segments
 // Those of a band. A stack's lies in its first cells.
 pub fn band_segments(g: Settings, r: Reach, band: Band) -> Segments
     requires bounds { Bounds g }
-    requires rows_le_rows { (band.rows ≤ g.rows) × (1 ≤ g.kind → band.below ≡ 0) }
-    requires tells_cell { TellsCell g.rows r.bottom r.cell band.below }
+    requires few_rows { band.rows ≤ g.rows }
+    requires first_cells { 1 ≤ g.kind → band.below ≡ 0 }
+    requires tells_cell { TellsCell g.rows r band.below }
     ensures { result ≡ segments_above g.rows band.below band.rows }
 {
     if g.kind == 0 {

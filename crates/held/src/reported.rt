@@ -4,14 +4,13 @@ ghost use Rattle.std.specs.Prelude.{true, ◌≡◌, ◌+◌, ◌*◌, ◌≤◌
 ghost use Rattle.bands.specs.Together.{TellsCell, Together};
 ghost use Rattle.rules.specs.Fit.{FitPool};
 ghost use Rattle.rules.specs.Held.{reported, count_items};
-ghost use Rattle.rules.specs.Layout.{cell_words, sub_cells_at, needed};
-ghost use Rattle.rules.specs.Limits.{Bounds, most_rows, most_live};
+ghost use Rattle.rules.specs.Layout.{cell_words, sub_cells_at};
+ghost use Rattle.rules.specs.Limits.{most_rows, most_live};
 ghost use Rattle.ring.specs.Segments.{Within, up_from, segment_cells, segments_above, cells_of, cell_items, walked_sub, walked_distance};
 ghost use Rattle.rules.specs.Windows.{has_windows};
 
 use bands::{Band, Reach, band_segments, between, joined_from, reach_of, whole_band};
 use image::{CELL_WORDS, Item, cell_item, sub_cells_at, sub_of};
-use laws::num::{higher, lower};
 use queue_windows::{live_of, nth_size};
 use rules::{Segment, Segments, Settings, Stamp};
 
@@ -23,9 +22,9 @@ fn is_reported(kind: u32, s: Stamp, it: Item) -> bool
         return false;
     }
     if kind == 0 {
-        it.stamp.0 < s.0
+        it.stamp < s
     } else {
-        s.0 < it.stamp.0
+        s < it.stamp
     }
 }
 
@@ -35,23 +34,21 @@ fn cells_reported(cells: &[u32], count: usize, kind: u32, s: Stamp) -> u32
     requires { (cell_words * count ≤ length cells.now) × (count ≤ most_rows) }
     ensures { (result ≡ count_items (reported kind s.0) (cell_items cells.now 0 (up_from 0 count))) × (result ≤ count) }
 {
-    let mut n: u32 = 0;
-    let mut k: usize = 0;
-    while k < count {
+    let mut n = 0;
+    for k in 0..count {
         let it = cell_item(cells, CELL_WORDS * k);
         if is_reported(kind, s, it) {
             n += 1;
         }
-        k += 1;
     }
     n
 }
 
 // The same of a segment of sub `j`.
 fn segment_reported(words: &[u32], g: Settings, j: u32, x: Segment, kind: u32, s: Stamp) -> u32
-    requires bounds { Bounds g }
-    requires g_in_bounds { (needed g ≤ length words.now) × (j < g.width) }
-    requires count_bound { x.start + x.count ≤ g.rows }
+    requires fit_pool { FitPool g words.now }
+    requires sub_in { j < g.width }
+    requires cells_in { x.start + x.count ≤ g.rows }
     ensures { (result ≡ count_items (reported kind s.0) (cell_items words.now (sub_cells_at g j) (segment_cells x))) × (result ≤ x.count) }
 {
     let at = sub_cells_at(g, j) + CELL_WORDS * (x.start as usize);
@@ -61,8 +58,8 @@ fn segment_reported(words: &[u32], g: Settings, j: u32, x: Segment, kind: u32, s
 // The same of both segments. Whether the second has cells is asked once, before the first is gone through: a sub with one alone
 // costs less so.
 fn segments_reported(words: &[u32], g: Settings, j: u32, x: Segments, kind: u32, s: Stamp) -> u32
-    requires bounds { Bounds g }
-    requires g_in_bounds { (needed g ≤ length words.now) × (j < g.width) }
+    requires fit_pool { FitPool g words.now }
+    requires sub_in { j < g.width }
     requires within { Within g.rows x }
     ensures { (result ≡ count_items (reported kind s.0) (cell_items words.now (sub_cells_at g j) (cells_of x))) × (result ≤ most_rows) }
 {
@@ -73,12 +70,14 @@ fn segments_reported(words: &[u32], g: Settings, j: u32, x: Segments, kind: u32,
         + segment_reported(words, g, j, x.second, kind, s)
 }
 
-// The same of a band of sub `j`. Each call has its kind as a number, so that the compiler makes the loop of each kind, and no cell asks for it.
+// The same of a band of sub `j`.
+// Stays: each call has its kind as a number, so that the compiler makes the loop of each kind, and no cell asks for it.
 fn band_reported(words: &[u32], g: Settings, r: Reach, j: u32, band: Band, s: Stamp) -> u32
-    requires bounds { Bounds g }
-    requires g_in_bounds { (needed g ≤ length words.now) × (j < g.width) }
-    requires rows_le_rows { (band.rows ≤ g.rows) × (1 ≤ g.kind → band.below ≡ 0) }
-    requires tells_cell { TellsCell g.rows r.bottom r.cell band.below }
+    requires fit_pool { FitPool g words.now }
+    requires sub_in { j < g.width }
+    requires few_rows { band.rows ≤ g.rows }
+    requires first_cells { 1 ≤ g.kind → band.below ≡ 0 }
+    requires tells_cell { TellsCell g.rows r band.below }
     ensures { (result ≡ count_items (reported g.kind s.0) (cell_items words.now (sub_cells_at g j) (cells_of (segments_above g.rows band.below band.rows)))) × (result ≤ most_rows) }
 {
     let held = band_segments(g, r, band);
@@ -88,22 +87,11 @@ fn band_reported(words: &[u32], g: Settings, r: Reach, j: u32, band: Band, s: St
     segments_reported(words, g, j, held, 1, s)
 }
 
-// The same of a band of a queue's windows. It has a function for itself, since the one above is inlined only where a single place calls it.
-fn window_reported(words: &[u32], g: Settings, r: Reach, j: u32, band: Band, s: Stamp) -> u32
-    requires bounds { Bounds g }
-    requires g_in_bounds { (needed g ≤ length words.now) × (j < g.width) }
-    requires rows_le_rows { (band.rows ≤ g.rows) × (g.kind ≡ 0) }
-    requires tells_cell { TellsCell g.rows r.bottom r.cell band.below }
-    ensures { (result ≡ count_items (reported g.kind s.0) (cell_items words.now (sub_cells_at g j) (cells_of (segments_above g.rows band.below band.rows)))) × (result ≤ most_rows) }
-{
-    segments_reported(words, g, j, band_segments(g, r, band), 0, s)
-}
-
 // How many held items of sub `j` the distance counts, where it lies within all windows: they are of one band.
 fn whole_reported(words: &[u32], g: Settings, r: Reach, j: u32, s: Stamp) -> u32
     requires fit_pool { FitPool g words.now }
-    requires together { Together words.now g r.bottom r.cell r.top r.width }
-    requires j_lt_width { j < r.width }
+    requires together { Together words.now g r }
+    requires in_all { j < r.width }
     ensures { (result ≡ count_items (reported g.kind s.0) (walked_sub words.now g j)) × (result ≤ most_rows) }
 {
     band_reported(words, g, r, j, whole_band(g, r, sub_of(words, j)), s)
@@ -112,30 +100,33 @@ fn whole_reported(words: &[u32], g: Settings, r: Reach, j: u32, s: Stamp) -> u32
 // The same of a sub of which that is not known. Windows one after the other that it lies in have one band; from its last put row on there is nothing more.
 fn windows_reported(words: &[u32], g: Settings, r: Reach, j: u32, s: Stamp) -> u32
     requires fit_pool { FitPool g words.now }
-    requires together { Together words.now g r.bottom r.cell r.top r.width }
-    requires g_value { (has_windows g ≡ true) × (j < g.width) }
+    requires together { Together words.now g r }
+    requires windows { has_windows g ≡ true }
+    requires sub_in { j < g.width }
     ensures { (result ≡ count_items (reported g.kind s.0) (walked_sub words.now g j)) × (result ≤ most_live * most_rows) }
 {
     let sub = sub_of(words, j);
     let mut bottom = r.bottom;
-    if sub.first <= higher(sub.second, bottom) {
+    if sub.first <= sub.second.max(bottom) {
         return 0;
     }
     let live = live_of(words, g);
-    let mut n: u32 = 0;
-    let mut k: u32 = 0;
+    let mut n = 0;
+    let mut k = 0;
+    // Stays: a turn goes on behind the windows that it joined, and not at the next one.
     while k < live {
         let on = joined_from(words, g, j, k, live, bottom);
-        let band = between(higher(sub.second, bottom), lower(sub.first, on.top));
-        n += window_reported(words, g, r, j, band, s);
+        let band = between(sub.second.max(bottom), sub.first.min(on.top));
+        let held = band_segments(g, r, band);
+        // Not by `band_reported`, which is inlined only where a single place calls it.
+        n += segments_reported(words, g, j, held, 0, s);
         if sub.first <= on.top {
             return n;
         }
         bottom = on.top;
         k = on.end;
         if k < live {
-            let size = nth_size(words, g, k);
-            bottom += size.depth;
+            bottom += nth_size(words, g, k).depth;
             k += 1;
         }
     }
@@ -148,17 +139,12 @@ pub fn distance(words: &[u32], g: Settings, s: Stamp) -> u32
     ensures { result ≡ walked_distance words.now g s }
 {
     let r = reach_of(words, g);
-    let together = r.width;
-    let width = g.width;
-    let mut n: u32 = 0;
-    let mut j: u32 = 0;
-    while j < together {
+    let mut n = 0;
+    for j in 0..r.width {
         n += whole_reported(words, g, r, j, s);
-        j += 1;
     }
-    while j < width {
+    for j in r.width..g.width {
         n += windows_reported(words, g, r, j, s);
-        j += 1;
     }
     n
 }

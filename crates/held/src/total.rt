@@ -15,42 +15,34 @@ use rules::Settings;
 // How many rows sub `j` holds, window by window, from the lowest on.
 fn windows_held(words: &[u32], g: Settings, j: u32) -> u32
     requires fit_pool { FitPool g words.now }
-    requires g_value { (has_windows g ≡ true) × (j < g.width) }
+    requires windows { has_windows g ≡ true }
+    requires sub_in { j < g.width }
     ensures { (result ≡ length (held_sub words.now g j)) × (result ≤ most_live * most_rows) }
 {
     let sub = sub_of(words, j);
-    let live = live_of(words, g);
     let mut bottom = take_bottom(words, g);
-    let mut n: u32 = 0;
-    let mut k: u32 = 0;
-    while k < live {
+    let mut n = 0;
+    for k in 0..live_of(words, g) {
         let size = nth_size(words, g, k);
-        let band = window_band(sub, j, bottom, size);
-        n += band.rows;
+        n += window_band(sub, j, bottom, size).rows;
         bottom += size.depth;
-        k += 1;
     }
     n
 }
 
 // The items held by a fit pool, sub by sub: those that lie within all windows have one band.
+// Stays: the distance has two such loops, over other counts; a function for both would need a longer contract, on two closures.
 fn fit_items(words: &[u32], g: Settings) -> u32
     requires { FitPool g words.now }
     ensures { result ≡ length (held_items words.now g) }
 {
     let r = reach_of(words, g);
-    let together = r.width;
-    let width = g.width;
-    let mut n: u32 = 0;
-    let mut j: u32 = 0;
-    while j < together {
-        let band = whole_band(g, r, sub_of(words, j));
-        n += band.rows;
-        j += 1;
+    let mut n = 0;
+    for j in 0..r.width {
+        n += whole_band(g, r, sub_of(words, j)).rows;
     }
-    while j < width {
+    for j in r.width..g.width {
         n += windows_held(words, g, j);
-        j += 1;
     }
     n
 }

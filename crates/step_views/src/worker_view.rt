@@ -19,22 +19,18 @@ pub fn view_in(words: &[u32], kept: Slot, phase: Phase, sizes: Sizes) -> View
     ensures { result ≡ view_in words.now kept phase sizes }
 {
     let s = sub_of(words, kept.index);
-    let top = words[TOP];
-    let mark = words[MARK];
-    let puts = words[PUTS];
-    let worker = Worker {
-        value: kept.value,
-        index: kept.index,
-        phase,
-    };
     View {
-        top,
-        mark,
+        top: words[TOP],
+        mark: words[MARK],
         sizes,
-        puts,
+        puts: words[PUTS],
         first: s.first,
         second: s.second,
-        worker,
+        worker: Worker {
+            value: kept.value,
+            index: kept.index,
+            phase,
+        },
         kept,
     }
 }

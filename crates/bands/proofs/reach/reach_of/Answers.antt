@@ -1,10 +1,9 @@
 -- `bands::reach::reach_of` meets its contract: the bottom of the first live window, with its cell, the top of the last, which is P, and a width that is at most that of each.
 use Rattle.bands.proofs.Bottoms.{pairs_there}
 use Rattle.laws.specs.Choice.{cond}
-use native.Mathlib.Nat.{zero-mod}
-use native.Mathlib.Omega.{arith}
-use mathlib.Core.Path.{refl, sym, ◌∙◌}
-use mathlib.Core.Bool.{false≢true}
+use Rattle.std.proofs.Common.{arith, refl, sym, ◌∙◌}
+use Rattle.std.proofs.Math.Nat.{zero-mod}
+use Rattle.std.proofs.lemmas.Bool.{false≢true}
 use Rattle.bands.proofs.reach.reach_of.Goals as goal
 
 pub take_bottom-bottom-requires-clause-most_live_in_bounds : goal.take_bottom-bottom-requires-clause-most_live_in_bounds

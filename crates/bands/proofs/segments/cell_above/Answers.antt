@@ -1,8 +1,6 @@
 -- `bands::segments::cell_above` meets its contract: a cell so far on from that of the row above the lowest bottom has the same remainder, which is found by taking off the ring's cells once, where that is enough.
-use Prim.Native.Nat.{ℕ, ◌+◌, ◌-◌, ◌%◌, ◌≤◌}
-use mathlib.Core.Path.{◌≡◌, sym, ap, ◌∙◌}
-use native.Mathlib.Nat.{mod-add-mod, mod-eq_of_lt, mod-eq-sub-mod}
-use native.Mathlib.Omega.{arith}
+use Rattle.std.proofs.Common.{ℕ, ◌+◌, ◌-◌, ◌%◌, ◌≤◌, ◌≡◌, sym, ap, ◌∙◌, mod-eq_of_lt, arith}
+use Rattle.std.proofs.Math.Nat.{mod-add-mod, mod-eq-sub-mod}
 use Rattle.bands.proofs.segments.cell_above.Goals as goal
 
 -- so many rows on from a cell

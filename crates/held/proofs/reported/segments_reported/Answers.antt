@@ -1,7 +1,6 @@
 -- `held::reported::segments_reported` meets its contract: the counts of the two segments are the count of their cells one after the other, and a
 -- segment without cells counts nothing.
-use mathlib.Core.Path.{◌≡◌}
-use native.Mathlib.Omega.{arith}
+use Rattle.std.proofs.Common.{◌≡◌, arith}
 use Rattle.ring.proofs.Walk.{cells_none, cells_two}
 use Rattle.rules.specs.Held.{count_items, reported}
 use Rattle.rules.specs.Layout.{sub_cells_at}

@@ -1,6 +1,5 @@
 -- `step_views::worker_view::view` meets its contract: the worker is what its own words hold, and the sizes are those that its phase asks for.
-use mathlib.Core.Path.{ap, ◌∙◌}
-use native.Mathlib.Omega.{arith}
+use Rattle.std.proofs.Common.{ap, ◌∙◌, arith}
 use Rattle.rules.specs.Effects.{view_of}
 use Rattle.rules.specs.Windows.{sizes_of}
 use Rattle.rules.specs.Worker.{slot_at, decode}
