@@ -28,7 +28,7 @@ fn put_size(words: &mut [u32], g: Settings, size: Size)
 // Of a fit pool: a stack has no sizes to set.
 fn fit_set_size(words: &mut [u32], g: Settings, size: Size) -> Answer
     requires fit_pool { FitPool g words.old }
-    requires edition_value { g.edition ≡ shipped }
+    requires edition_shipped { g.edition ≡ shipped }
     ensures { out result words.new ≡ fit_set_size words.old g size }
 {
     if g.kind != 0 {

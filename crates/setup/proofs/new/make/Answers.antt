@@ -13,8 +13,8 @@ pub returns-then-words-n : goal.returns-then-words-n
 unfolding make_of cond
 returns-then-words-n c = simp (sym c.settings_fit.ensures ∙ c.if-settings_fit.true, ← c.words_needed-n.ensures, lt-ltb _ _ c.if-words-n.true)
 
-pub fill-requires-clause-bounds : goal.fill-requires-clause-bounds
-fill-requires-clause-bounds c = settings_bounds _ (sym c.settings_fit.ensures ∙ c.if-settings_fit.true)
+pub put_new-requires-clause-bounds : goal.put_new-requires-clause-bounds
+put_new-requires-clause-bounds c = settings_bounds _ (sym c.settings_fit.ensures ∙ c.if-settings_fit.true)
 
 pub returns-then-settings_fit : goal.returns-then-settings_fit
 unfolding make_of cond
@@ -23,7 +23,7 @@ returns-then-settings_fit c =
       sym c.settings_fit.ensures ∙ c.if-settings_fit.true,
       ← c.words_needed-n.ensures,
       le-ltb _ _ c.if-words-n.false,
-      c.fill.ensures,
+      c.put_new.ensures,
     )
 
 pub returns : goal.returns

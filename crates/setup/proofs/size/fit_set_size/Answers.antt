@@ -14,18 +14,18 @@ use Rattle.std.specs.Prelude.{Ok}
 
 pub returns-then-g-ne0 : goal.returns-then-g-ne0
 unfolding fit_set_size windowed cond
-returns-then-g-ne0 c = simp (c.requires.edition_value, ne_eqb _ _ c.if-g-ne0.true)
+returns-then-g-ne0 c = simp (c.requires.edition_shipped, ne_eqb _ _ c.if-g-ne0.true)
 
 pub put_size-requires-clause-g_in_bounds : goal.put_size-requires-clause-g_in_bounds
-put_size-requires-clause-g_in_bounds c = omega (arith, c.requires.fit_pool.enough, windows_some c.args.g.edition (omega (arith, c.requires.edition_value)))
+put_size-requires-clause-g_in_bounds c = omega (arith, c.requires.fit_pool.enough, windows_some c.args.g.edition (omega (arith, c.requires.edition_shipped)))
 
 pub returns-then-size_fit : goal.returns-then-size_fit
 unfolding fit_set_size windowed cond
 returns-then-size_fit c =
     ap (out (Ok Moving)) c.put_size.ensures
-    ∙ simp (c.requires.edition_value, eq-eqb _ _ c.if-g-ne0.false, sym c.size_fit.ensures ∙ c.if-size_fit.true)
+    ∙ simp (c.requires.edition_shipped, eq-eqb _ _ c.if-g-ne0.false, sym c.size_fit.ensures ∙ c.if-size_fit.true)
 
 pub returns : goal.returns
 unfolding fit_set_size windowed cond
 returns c =
-    simp (c.requires.edition_value, eq-eqb _ _ c.if-g-ne0.false, sym c.size_fit.ensures ∙ c.if-size_fit.false)
+    simp (c.requires.edition_shipped, eq-eqb _ _ c.if-g-ne0.false, sym c.size_fit.ensures ∙ c.if-size_fit.false)

@@ -31,8 +31,8 @@ fit_set_size-requires-clause-fit_pool c =
     let fit = refusal_none shipped ws (sym c.refusal-n.ensures ∙ c.if-n-ne0.false) in
     rw c.shipped_settings-g.ensures (fit_pool shipped ws (settings_of ws) fit)
 
-pub fit_set_size-requires-clause-edition_value : goal.fit_set_size-requires-clause-edition_value
-fit_set_size-requires-clause-edition_value c =
+pub fit_set_size-requires-clause-edition_shipped : goal.fit_set_size-requires-clause-edition_shipped
+fit_set_size-requires-clause-edition_shipped c =
     let ws = c.args.words.now in
     let fit = refusal_none shipped ws (sym c.refusal-n.ensures ∙ c.if-n-ne0.false) in
     rw c.shipped_settings-g.ensures ((fit_head shipped ws (settings_of ws) fit).1)
