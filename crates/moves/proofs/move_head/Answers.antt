@@ -1,6 +1,5 @@
 -- `moves::move_head` meets its contract: the head and the subs are as long in both areas, and the copy and the store are the definition's.
-use Rattle.std.proofs.Common.{refl, sym, ◌∙◌}
-use Rattle.rules.specs.Layout.{workers_at}
+use Rattle.std.proofs.Common.{refl}
 use Rattle.turnaround.specs.Move.{head_moved}
 use Rattle.moves.proofs.Copied.{copied_front}
 use Rattle.moves.proofs.move_head.Goals as goal
