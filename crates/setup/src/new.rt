@@ -9,8 +9,8 @@ ghost use Rattle.rules.specs.Make.{settings_from, new_windows, indexed, made_wor
 use image::{put_head, windows_at, words_needed, worker_at};
 use limits::settings_fit;
 use queue_windows::has_windows;
-use rules::numbers::{OFF_LIMITS, SHIPPED, TOO_FEW_WORDS};
-use rules::{Answer, Settings};
+use rules::numbers::SHIPPED;
+use rules::{Answer, Refusal, Settings};
 use slots::put_index;
 
 // A queue has the words of windows where windows have sizes of their own: one is live, both put window and take window, and has the pool's size, like the
@@ -51,6 +51,7 @@ fn put_new(words: &mut [u32], g: Settings, n: usize)
 }
 
 // Makes a new pool of the settings in the lent words, of the shipped edition.
+#[tactic(auto, unfolding(rules::specs::Make::make_of, laws::specs::Choice::cond))]
 pub fn make(
     words: &mut [u32],
     kind: u32,
@@ -60,7 +61,7 @@ pub fn make(
     rows: u32,
     workers: u32,
     stride: u32,
-) -> Answer
+) -> Result<Answer, Refusal>
     ensures { out result words.new ≡ make_of words.old (settings_from kind width depth shift rows workers stride) }
 {
     let g = Settings {
@@ -73,13 +74,13 @@ pub fn make(
         stride,
         edition: SHIPPED,
     };
-    if settings_fit(g) {
-        let n = words_needed(g);
-        if words.len() < n {
-            return Answer::Refused(TOO_FEW_WORDS);
-        }
-        put_new(words, g, n);
-        return Answer::Moving;
+    if !settings_fit(g) {
+        return Err(Refusal::OffLimits);
     }
-    Answer::Refused(OFF_LIMITS)
+    let n = words_needed(g);
+    if words.len() < n {
+        return Err(Refusal::TooFewWords);
+    }
+    put_new(words, g, n);
+    Ok(Answer::Moving)
 }
