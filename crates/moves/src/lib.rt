@@ -10,13 +10,13 @@ ghost use Rattle.rules.specs.NewWord.{new_word};
 ghost use Rattle.turnaround.specs.Move.{leads, word_in, worker_moved, workers_moved, head_moved, cells_moved, moved_words, fit_move, checked_move, move_of, Areas};
 
 use bridge::{may_move, move_windows};
-use fitness::source_refusal;
+use fitness::check_source;
 use image::{
     BOTTOM, CELL_WORDS, EDITION, SEEN_WIDTH, in_edition, settings, sub_at, sub_cells_at,
     words_needed, worker_at, worker_words,
 };
-use rules::numbers::{EXCEPTED, SHIPPED, TOO_FEW_WORDS, WRONG_EDITION};
-use rules::{Answer, Settings, Slot};
+use rules::numbers::SHIPPED;
+use rules::{Answer, Refusal, Settings, Slot};
 use slots::load;
 use worker_fitness::past_window;
 
@@ -101,31 +101,27 @@ fn move_words(from: &[u32], g: Settings, to: &mut [u32], h: Settings)
 }
 
 // Moves a fit pool to an edition.
-fn fit_move(from: &[u32], g: Settings, to: &mut [u32], edition: u32) -> Answer
+fn fit_move(from: &[u32], g: Settings, to: &mut [u32], edition: u32) -> Result<Answer, Refusal>
     requires { FitPool g from.now }
     ensures { out result to.new ≡ fit_move from.now g to.old (in_edition edition g) }
 {
     let h = in_edition(g, edition);
-    if may_move(from, g, h) {
-        if to.len() < words_needed(h) {
-            return Answer::Refused(TOO_FEW_WORDS);
-        }
-        move_words(from, g, to, h);
-        return Answer::Moving;
+    if !may_move(from, g, h) {
+        return Err(Refusal::Excepted);
     }
-    Answer::Refused(EXCEPTED)
+    if to.len() < words_needed(h) {
+        return Err(Refusal::TooFewWords);
+    }
+    move_words(from, g, to, h);
+    Ok(Answer::Moving)
 }
 
 // Moves a pool that is fit in one edition to another.
-fn checked_move(from: &[u32], old: u32, to: &mut [u32], new: u32) -> Answer
+fn checked_move(from: &[u32], old: u32, to: &mut [u32], new: u32) -> Result<Answer, Refusal>
     ensures { out result to.new ≡ checked_move new from.now (source_checked old from.now) to.old }
 {
-    let n = source_refusal(from, old);
-    if n != 0 {
-        return Answer::Refused(n);
-    }
-    let g = settings(from);
-    fit_move(from, g, to, new)
+    check_source(from, old)?;
+    fit_move(from, settings(from), to, new)
 }
 
 // Whether a move leads from one edition to the other: an edition on, or one back.
@@ -136,11 +132,12 @@ pub fn leads_on(old: u32, new: u32) -> bool
 }
 
 // Moves a pool of one edition to another. No move leads past an edition.
-pub fn move_pool(from: &[u32], old: u32, to: &mut [u32], new: u32) -> Answer
+#[tactic(auto, unfolding(turnaround::specs::Move::move_of, laws::specs::Choice::cond))]
+pub fn move_pool(from: &[u32], old: u32, to: &mut [u32], new: u32) -> Result<Answer, Refusal>
     ensures { out result to.new ≡ move_of old new from.now to.old }
 {
-    if leads_on(old, new) {
-        return checked_move(from, old, to, new);
+    if !leads_on(old, new) {
+        return Err(Refusal::WrongEdition);
     }
-    Answer::Refused(WRONG_EDITION)
+    checked_move(from, old, to, new)
 }
