@@ -1,61 +1,40 @@
 // The words behind the cells that a move leaves: of a queue that is given windows of their own sizes they are of the pool's size, and every other one is zero.
-ghost use Rattle.std.specs.Prelude.{◌≡◌, true, [], ◌∷◌, ◌+◌, ◌-◌, ◌*◌, ◌≤◌, ◌<◌, length};
+ghost use Rattle.std.specs.Prelude.{◌≡◌, true, [], ◌∷◌, ◌+◌, ◌≤◌, ◌<◌, length};
 ghost use Rattle.std.proofs.lemmas.List.Edits.{sets};
 ghost use Rattle.rules.specs.Layout.{top_at, windows_at, pair_at, needed};
 ghost use Rattle.rules.specs.Limits.{Bounds, most_live};
-ghost use Rattle.turnaround.specs.Move.{own_live, cleared, own_pairs, windows_moved};
+ghost use Rattle.turnaround.specs.Move.{own_live, own_pairs, windows_moved};
 ghost use Rattle.rules.specs.Windows.{has_windows};
 
 use image::{MARK, PAIR_WORDS, PAIRS, SIZE_SET, TOP, put_pair, windows_at, windows_words};
 use queue_windows::has_windows;
 use rules::Settings;
 
-// How far `a` is above `b`; 0 where it is not.
-pub fn above(a: u32, b: u32) -> u32
-    ensures { result ≡ a - b }
-{
-    if a < b { 0 } else { a - b }
-}
-
 // How many windows of the pool's depth there are from the take window to the put window.
 fn own_live(from: &[u32], h: Settings) -> u32
     requires bounds { Bounds h }
-    requires top_at_in_bounds { (top_at + 1 < length from.now) × (own_live from.now h ≤ most_live) }
+    requires words_in_bounds { (top_at + 1 < length from.now) × (own_live from.now h ≤ most_live) }
     ensures { result ≡ own_live from.now h }
 {
-    above(from[TOP], from[MARK]) / h.depth + 1
-}
-
-// Clears `n` words, from the place `at` on.
-fn clear(to: &mut [u32], at: usize, n: usize)
-    requires { at + n ≤ length to.old }
-    ensures { to.new ≡ cleared to.old at n }
-{
-    let mut k: usize = 0;
-    while k < n {
-        to[at + k] = 0;
-        k += 1;
-    }
+    from[TOP].saturating_sub(from[MARK]) / h.depth + 1
 }
 
 // Gives so many live windows the pool's size.
 fn put_pairs(to: &mut [u32], h: Settings, live: u32)
     requires bounds { Bounds h }
-    requires most_live_in_bounds { (pair_at h most_live ≤ length to.old) × (live ≤ most_live) }
+    requires pairs_in_bounds { (pair_at h most_live ≤ length to.old) × (live ≤ most_live) }
     ensures { to.new ≡ own_pairs to.old h live }
 {
     let at = windows_at(h) + PAIRS;
-    let mut k: u32 = 0;
-    while k < live {
-        put_pair(to, at + PAIR_WORDS * (k as usize), h.width, h.depth);
-        k += 1;
+    for k in 0..live {
+        put_pair(to, at + PAIR_WORDS * k as usize, h.width, h.depth);
     }
 }
 
 // Gives a queue its next size, and its live windows.
 fn put_windows(to: &mut [u32], h: Settings, live: u32)
     requires bounds { Bounds h }
-    requires most_live_in_bounds { (pair_at h most_live ≤ length to.old) × (live ≤ most_live) }
+    requires pairs_in_bounds { (pair_at h most_live ≤ length to.old) × (live ≤ most_live) }
     ensures { to.new ≡ own_pairs (sets to.old (windows_at h) (h.width ∷ h.depth ∷ 0 ∷ live ∷ [])) h live }
 {
     let at = windows_at(h);
@@ -67,11 +46,12 @@ fn put_windows(to: &mut [u32], h: Settings, live: u32)
 // The words behind the cells.
 pub fn move_windows(from: &[u32], to: &mut [u32], h: Settings)
     requires bounds { Bounds h }
-    requires top_at_in_bounds { (top_at + 1 < length from.now) × (needed h ≤ length to.old) }
-    requires h_bound { has_windows h ≡ true → own_live from.now h ≤ most_live }
+    requires words_in_bounds { (top_at + 1 < length from.now) × (needed h ≤ length to.old) }
+    requires live_in_bounds { has_windows h ≡ true → own_live from.now h ≤ most_live }
     ensures { to.new ≡ windows_moved from.now to.old h }
 {
-    clear(to, windows_at(h), windows_words(h.edition));
+    let at = windows_at(h);
+    to[at..at + windows_words(h.edition)].fill(0);
     if has_windows(h) {
         put_windows(to, h, own_live(from, h));
     }

@@ -4,5 +4,5 @@
 mod behind;
 mod may;
 
-pub use behind::{above, move_windows};
+pub use behind::move_windows;
 pub use may::may_move;

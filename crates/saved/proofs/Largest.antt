@@ -12,7 +12,7 @@ use lib.Seq.{take_all, take-take, get_or-take, length-take-le}
 use lib.Dec.{ltb, leb, eqb}
 use borrow.Author.Tests.{le-ltb, ltb-true, leb-true, eqb-true}
 use Rattle.laws.specs.Choice.{cond, both, all, cond_false, cond_both, both_true, all_holds, all_below, all_below_same}
-use Rattle.rules.specs.Answers.{Out, refuse, wrong_edition}
+use Rattle.rules.specs.Answers.{Out, refuse}
 use Rattle.rules.specs.Layout.{head_words, top_at, mark_at, first_at, first_of, second_at, second_of, worker_words, workers_at, worker_at, cell_words, cells_at, next_width_at, next_depth_at, set_at, live_at, pair_at, windows_at, windows_words, needed, most_words, settings_of}
 use Rattle.rules.specs.Limits.{settings_fit, windowed, size_fit, most_live, Bounds}
 use Rattle.rules.specs.Windows.{has_windows, next_size, live_of, nth_size, bottom_of, higher, level_of}
@@ -20,6 +20,7 @@ use Rattle.rules.specs.Worker.{slot_at}
 use Rattle.rules.specs.Make.{shipped, in_edition}
 use Rattle.rules.specs.Fit.{Checked, Unfit, Fit, FitPool, sub_fit, subs_fit, workers_fit, no_size_fit, pair_fit, sizes_fit, tops_fit, windows_fit, body_checked, head_checked, checked_by, source_checked}
 use Rattle.turnaround.specs.Move.{leads, subs_fit_in, seen_on, on_limits, own_size, seen_back, back_limits, may_move, word_in, worker_moved, workers_moved, head_moved, cells_moved, windows_moved, moved_words, fit_move, checked_move, move_of}
+use Rattle.rules.specs.declared.Refusal.{Refusal}
 use Rattle.rules.specs.declared.Settings.{Settings}
 use Rattle.rules.proofs.Fitness.{settings_bounds, fit_with_other, fit_pool}
 use Rattle.rules.proofs.Workers.{words_few, windows_few, windows_some, windowed_is, word_within}
@@ -207,7 +208,7 @@ module _ (n : ℕ) (ws : List ℕ) (more : n ≤ length ws) where
     settings_taken : settings_of first ≡ settings_of ws
     settings_taken = settings_kept ws first (λ m s. get_or-take n ws m 0 (omega (arith, s.below)))
 
-    settings_checked : (other e : ℕ) (g : Settings) → head_checked other e first g ≡ head_checked other e ws g
+    settings_checked : (other : Refusal) (e : ℕ) (g : Settings) → head_checked other e first g ≡ head_checked other e ws g
     unfolding head_checked
     settings_checked other e g =
         cond_both Same (settings_fit (in_edition e g))
@@ -222,7 +223,7 @@ module _ (n : ℕ) (ws : List ℕ) (more : n ≤ length ws) where
         Same : Checked → Checked → Type 0
         Same x y = x ≡ y
 
-    checked_taken : (other e : ℕ) → checked_by other e first ≡ checked_by other e ws
+    checked_taken : (other : Refusal) (e : ℕ) → checked_by other e first ≡ checked_by other e ws
     unfolding checked_by
     checked_taken other e =
         rw (long head_words (omega arith))
@@ -230,7 +231,7 @@ module _ (n : ℕ) (ws : List ℕ) (more : n ≤ length ws) where
 
     move_taken : (a b : ℕ) (to : List ℕ) → move_of a b first to ≡ move_of a b ws to
     unfolding move_of checked_move fit_move
-    move_taken a b to = rw (checked_taken wrong_edition a) (ap (λ (o : Out). cond (leads a b) o (refuse WrongEdition to)) (go (source_checked a ws) refl))
+    move_taken a b to = rw (checked_taken WrongEdition a) (ap (λ (o : Out). cond (leads a b) o (refuse WrongEdition to)) (go (source_checked a ws) refl))
       where
         go : (c : Checked) → source_checked a ws ≡ c → checked_move b first c to ≡ checked_move b ws c to
         go (Unfit m) e = refl

@@ -1,11 +1,11 @@
 -- The words of bytes: what a reader finds at a position tells whether the words reach there, and which word it is.
 -- The bytes of words: four for each word, so that a word put behind those of the words before it makes the bytes of one word more.
-use Prim.Native.Nat.{ℕ, zero, suc, ◌+◌, ◌*◌, ◌<◌, ◌≤◌}
-use mathlib.Core.List.{List, [], ◌∷◌, ◌++◌}
-use mathlib.Core.Path.{◌≡◌, refl, sym, ap, ◌∙◌}
-use native.Mathlib.Omega.{arith}
-use lib.ListN.{length, get_or, set, take, drop, length-append, length-drop}
-use lib.Seq.{sets, sets-eq, length-take-le, take-suc, take_at, drop_at, drop-drop, drop-cons, set_at, append_snoc}
+use Rattle.std.proofs.Common.{◌≡◌, ℕ, zero, suc, ◌+◌, ◌*◌, ◌<◌, ◌≤◌, List, [], ◌∷◌, ◌++◌, length, get_or, take, drop, refl, sym, ap, ◌∙◌, drop-cons, arith}
+use Rattle.std.proofs.Math.ListN.{set}
+use Rattle.std.proofs.Math.Seq.{take-suc, append_snoc}
+use Rattle.std.proofs.lemmas.List.{length-take-le, take_at, drop_at, drop-drop, set_at}
+use Rattle.std.proofs.lemmas.Slice.{put_mid-paste}
+use borrow.Rule.Slice.PartMut.{put_mid}
 use Rattle.runfile.specs.Words.{word_bytes, word_of, bytes_of, reads_of, read_at}
 use Rattle.runfile.specs.declared.word.Read.{Read}
 use Rattle.runfile.specs.declared.word.Read.TheVariants.{Word, Cut, End}
@@ -59,18 +59,17 @@ unfolding bytes_for
 one_word word = refl
 
 -- the first k words are put; the next one is
-pub put_next : (words out : List ℕ) (k : ℕ) → k < length words → word_bytes * k + word_bytes ≤ length out
-    → sets (bytes_for (take k words) ++ drop (word_bytes * k) out) (word_bytes * k) (bytes_of (get_or words k 0)) ≡ bytes_for (take (suc k) words) ++ drop (word_bytes * suc k) out
-put_next words out k more room =
+pub put_next : (words out part : List ℕ) (k width : ℕ) → k < length words → word_bytes * k + word_bytes ≤ length out → width ≡ word_bytes → part ≡ bytes_of (get_or words k 0)
+    → put_mid (word_bytes * k) width (bytes_for (take k words) ++ drop (word_bytes * k) out) part ≡ bytes_for (take (suc k) words) ++ drop (word_bytes * suc k) out
+put_next words out part k width more room wide here =
     let p = bytes_for (take k words) in
     let n = word_bytes * k in
     let l = p ++ drop n out in
     let four = bytes_of (get_or words k 0) in
     let size : length p ≡ n = bytes_length (take k words) ∙ ap (λ (x : ℕ). word_bytes * x) (length-take-le k words (omega arith)) in
-    let fits : n + length four ≤ length l = omega (arith, length-append p (drop n out), length-drop n out) in
     let one : bytes_for (take (suc k) words) ≡ p ++ four =
     rw (take-suc words k 0 more) (bytes_append (take k words) (get_or words k 0 ∷ []) ∙ ap (λ (x : List ℕ). p ++ x) (one_word (get_or words k 0))) in
     let rest : drop (n + word_bytes) l ≡ drop (n + word_bytes) out =
     sym (drop-drop word_bytes n l) ∙ ap (drop word_bytes) (drop_at p (drop n out) n size) ∙ drop-drop word_bytes n out in
     let at : word_bytes * suc k ≡ n + word_bytes = omega arith in
-    sets-eq four l n fits ∙ rw (take_at p (drop n out) n size, rest, one, at) refl
+    put_mid-paste n width l part four word_bytes here (sym wide) refl ∙ (rw (take_at p (drop n out) n size, rest, one, at) refl)

@@ -1,6 +1,6 @@
 // A file with a saved pool, moved from an edition to another.
-ghost use Rattle.std.specs.Prelude.{◌≡◌, [], ◌*◌, ◌≤◌, length};
-ghost use Rattle.rules.specs.Answers.{returned, returned_alone};
+ghost use Rattle.std.specs.Prelude.{◌≡◌, ◌*◌, ◌≤◌, length, IfOk};
+ghost use Rattle.rules.specs.Answers.{out};
 ghost use Rattle.rules.specs.Layout.{settings_of, needed};
 ghost use Rattle.rules.specs.Limits.{Bounds};
 ghost use Rattle.turnaround.specs.Move.{move_of};
@@ -11,26 +11,19 @@ ghost use Rattle.saved.specs.File.{pool_words, saved_of, filed, filed_in};
 use crate::bytes::{get_words, put_words};
 use image::{MOST_WORDS, settings, words_needed};
 use moves::move_pool;
+use rules::{Answer, Refusal};
 use runfile::word::WORD_BYTES;
-use step::answers::number;
 
 // The bytes of the largest pool.
 pub const MOST_BYTES: usize = WORD_BYTES * MOST_WORDS;
 
-// The number of a move, and how many bytes the moved pool has.
-#[derive(Clone, Copy)]
-pub struct Moved {
-    pub number: u32,
-    pub used: usize,
-}
-
-// Moves the pool of a file into lent words; the answer's number. No more words are read than the largest pool needs: no move looks at others.
-fn move_words(src: &[u8], old: u32, to: &mut [u32], new: u32) -> u32
-    ensures { returned result to.new [] ≡ returned_alone (move_of old new (words_in src.now) to.old) }
+// Moves the pool of a file into lent words. No more words are read than the largest pool needs: no move looks at others.
+fn move_words(src: &[u8], old: u32, to: &mut [u32], new: u32) -> Result<Answer, Refusal>
+    ensures { out result to.new ≡ move_of old new (words_in src.now) to.old }
 {
     let mut from = [0u32; MOST_WORDS];
     let n = get_words(src, &mut from);
-    number(move_pool(&from[..n], old, to, new))
+    move_pool(&from[..n], old, to, new)
 }
 
 // Puts the needed words of a pool into bytes; how many bytes they are.
@@ -45,16 +38,17 @@ fn put_pool(out: &mut [u8], words: &[u32]) -> usize
     WORD_BYTES * n
 }
 
-// Moves the pool of a file from an edition to another, into bytes.
-pub fn move_file(src: &[u8], old: u32, out: &mut [u8; MOST_BYTES], new: u32) -> Moved
+// Moves the pool of a file from an edition to another, into bytes; how many the moved pool has.
+pub fn move_file(
+    src: &[u8],
+    old: u32,
+    out: &mut [u8; MOST_BYTES],
+    new: u32,
+) -> Result<usize, Refusal>
     ensures out_after { filed result out.new ≡ filed_in out.old (saved_of old new src.now) }
-    ensures used_in_bounds { result.used ≤ length out.new }
+    ensures used_in_bounds { IfOk result (λ used. used ≤ length out.new) }
 {
     let mut to = [0u32; MOST_WORDS];
-    let number = move_words(src, old, &mut to, new);
-    if number != 0 {
-        return Moved { number, used: 0 };
-    }
-    let used = put_pool(out, &to);
-    Moved { number, used }
+    move_words(src, old, &mut to, new)?;
+    Ok(put_pool(out, &to))
 }

@@ -4,4 +4,4 @@
 mod bytes;
 mod file;
 
-pub use file::{MOST_BYTES, Moved, move_file};
+pub use file::{MOST_BYTES, move_file};

@@ -7,11 +7,10 @@ ghost use Rattle.rules.specs.Limits.{Bounds};
 ghost use Rattle.rules.specs.Make.{shipped};
 ghost use Rattle.rules.specs.Resize.{put_size, fit_set_size, set_size_of};
 
-use fitness::refusal;
-use image::{NEXT_DEPTH, NEXT_WIDTH, SIZE_SET, shipped_settings, windows_at};
+use fitness::fit_settings;
+use image::{NEXT_DEPTH, NEXT_WIDTH, SIZE_SET, windows_at};
 use limits::size_fit;
-use rules::numbers::{OFF_SIZE, SHIPPED};
-use rules::{Answer, Settings, Size};
+use rules::{Answer, Refusal, Settings, Size};
 
 // Writes the size of the next put window, and that one was set.
 fn put_size(words: &mut [u32], g: Settings, size: Size)
@@ -26,29 +25,23 @@ fn put_size(words: &mut [u32], g: Settings, size: Size)
 }
 
 // Of a fit pool: a stack has no sizes to set.
-fn fit_set_size(words: &mut [u32], g: Settings, size: Size) -> Answer
+#[tactic(auto, unfolding(rules::specs::Resize::fit_set_size, rules::specs::Limits::windowed, laws::specs::Choice::cond))]
+fn fit_set_size(words: &mut [u32], g: Settings, size: Size) -> Result<Answer, Refusal>
     requires fit_pool { FitPool g words.old }
-    requires edition_value { g.edition ≡ shipped }
+    requires edition_shipped { g.edition ≡ shipped }
     ensures { out result words.new ≡ fit_set_size words.old g size }
 {
-    if g.kind != 0 {
-        return Answer::Refused(OFF_SIZE);
+    if g.kind != 0 || !size_fit(g, size) {
+        return Err(Refusal::OffSize);
     }
-    if size_fit(g, size) {
-        put_size(words, g, size);
-        return Answer::Moving;
-    }
-    Answer::Refused(OFF_SIZE)
+    put_size(words, g, size);
+    Ok(Answer::Moving)
 }
 
 // Sets the width and depth of the put windows to come. It is no step, and counts none.
-pub fn set_size(words: &mut [u32], width: u32, depth: u32) -> Answer
+pub fn set_size(words: &mut [u32], width: u32, depth: u32) -> Result<Answer, Refusal>
     ensures { out result words.new ≡ set_size_of shipped words.old (record { width = width; depth = depth }) }
 {
-    let n = refusal(words, SHIPPED);
-    if n != 0 {
-        return Answer::Refused(n);
-    }
-    let g = shipped_settings(words);
+    let g = fit_settings(words)?;
     fit_set_size(words, g, Size { width, depth })
 }

@@ -1,11 +1,6 @@
 -- `bridge::behind::put_pairs` meets its contract: the loop's invariant is that the first k live windows have the pool's size.
-use Prim.Native.Nat.{ℕ, ◌+◌, ◌*◌}
-use mathlib.Core.List.{List}
-use mathlib.Core.Path.{◌≡◌, refl, ◌∙◌}
-use native.Mathlib.Numerals.{add-one}
-use native.Mathlib.Omega.{arith}
-use borrow.Author.Rules.{rules}
-use lib.ListN.{set}
+use Rattle.std.proofs.Common.{◌≡◌, ℕ, ◌+◌, ◌*◌, List, refl, ◌∙◌, add-one, arith}
+use Rattle.std.proofs.Math.ListN.{set}
 use Rattle.rules.specs.Layout.{pairs_at, pair_words}
 use Rattle.turnaround.specs.Move.{own_pairs}
 use Rattle.rules.specs.declared.Settings.{Settings}
@@ -18,10 +13,10 @@ more ws h k at e = rw (e, add-one k, add-one (pairs_at h + pair_words * k)) refl
 
 pub loop-k-init : goal.loop-k-init
 unfolding own_pairs
-loop-k-init c = (search rules, omega (arith, c.windows_at-at.ensures), search rules, refl)
+loop-k-init c = record { place = omega (arith, c.windows_at-at.ensures); put = refl }
 
 pub loop-k-preserved : goal.loop-k-preserved
 loop-k-preserved c =
     let l = c.loop-k in
     let a = c.args in
-    (search rules, l.invariant.1, search rules, c.put_pair.ensures ∙ (rw l.invariant.3 (more a.to.now a.h l.k _ l.invariant.1)))
+    record { place = l.invariant.place; put = c.put_pair.ensures ∙ (rw l.invariant.put (more a.to.now a.h l.k _ l.invariant.place)) }

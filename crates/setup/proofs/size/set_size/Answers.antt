@@ -1,46 +1,39 @@
--- `setup::size::set_size` meets its contract: at each return the tests that led there pick the same branch of `set_size_of`, and each call stands for what it ensures.
-use mathlib.Core.Path.{ap, sym, ◌∙◌}
-use Prim.Native.Nat.{ℕ}
-use native.Mathlib.Omega.{arith}
-use Rattle.rules.specs.Fit.{Checked}
-use Rattle.rules.specs.Resize.{set_size_of, checked_set_size, fit_set_size}
-use Rattle.rules.proofs.Fitness.{fit_pool, fit_head, refusal_none, refusal_some}
-use Rattle.rules.specs.declared.Settings.{Settings}
-use Rattle.rules.specs.Layout.{settings_of}
-use Rattle.rules.specs.Answers.{refuse}
+-- `setup::size::set_size` meets its contract: the settings found are a fit pool's, and words in which none are found are refused.
+use Rattle.std.proofs.Common.{◌≡◌, refl, sym, ap, ◌∙◌, Ok, Err}
+use Rattle.std.proofs.lemmas.Result.{err_from_is_err_and}
+use Rattle.rules.specs.Fit.{Checked, Unfit, Fit, settings_found, checked_of}
 use Rattle.rules.specs.Make.{shipped}
+use Rattle.rules.specs.Resize.{set_size_of, checked_set_size, fit_set_size}
+use Rattle.rules.specs.declared.Refusal.{Refusal}
+use Rattle.rules.specs.declared.Settings.{Settings}
+use Rattle.rules.proofs.Fitness.{fit_pool, fit_head}
 use Rattle.setup.proofs.size.set_size.Goals as goal
 
-pub returns-then-n-ne0 : goal.returns-then-n-ne0
-unfolding set_size_of checked_set_size
-returns-then-n-ne0 c =
-    let a = c.args in
-    let e = c.refusal-n.ensures in
-    ap (λ (m : ℕ). refuse m a.words.now) e
-    ∙ ap (λ (k : Checked). checked_set_size a.words.now k (record { width = a.width; depth = a.depth })) (sym (refusal_some shipped a.words.now (λ z. c.if-n-ne0.true (e ∙ z))))
+-- what is found tells what was checked
+found : (k : Checked) (g : Settings) → Ok g ≡ settings_found k → k ≡ Fit g
+found (Unfit refusal) g e = cc
+found (Fit h) g e = ap Fit cc
 
-pub shipped_settings-g-requires : goal.shipped_settings-g-requires
-shipped_settings-g-requires c =
-    let ws = c.args.words.now in
-    let fit = refusal_none shipped ws (sym c.refusal-n.ensures ∙ c.if-n-ne0.false) in
-    (omega (arith, (fit_pool shipped ws (settings_of ws) fit).enough), (fit_head shipped ws (settings_of ws) fit).1)
+not_found : (k : Checked) (refusal : Refusal) → Err refusal ≡ settings_found k → k ≡ Unfit refusal
+not_found (Unfit other) refusal e = ap Unfit cc
+not_found (Fit g) refusal e = cc
+
+pub returns-in_err-g : goal.returns-in_err-g
+unfolding set_size_of checked_set_size
+returns-in_err-g c =
+    let p = err_from_is_err_and c.from_residual.result c.from_residual.ensures.1 in
+    rw (p.1, p.2, not_found (checked_of shipped c.args.words.now) _ c.in_err-g.ensures) refl
 
 pub fit_set_size-requires-clause-fit_pool : goal.fit_set_size-requires-clause-fit_pool
 fit_set_size-requires-clause-fit_pool c =
     let ws = c.args.words.now in
-    let fit = refusal_none shipped ws (sym c.refusal-n.ensures ∙ c.if-n-ne0.false) in
-    rw c.shipped_settings-g.ensures (fit_pool shipped ws (settings_of ws) fit)
+    fit_pool shipped ws c.in_ok-g.g (found (checked_of shipped ws) c.in_ok-g.g c.in_ok-g.ensures)
 
-pub fit_set_size-requires-clause-edition_value : goal.fit_set_size-requires-clause-edition_value
-fit_set_size-requires-clause-edition_value c =
+pub fit_set_size-requires-clause-edition_shipped : goal.fit_set_size-requires-clause-edition_shipped
+fit_set_size-requires-clause-edition_shipped c =
     let ws = c.args.words.now in
-    let fit = refusal_none shipped ws (sym c.refusal-n.ensures ∙ c.if-n-ne0.false) in
-    rw c.shipped_settings-g.ensures ((fit_head shipped ws (settings_of ws) fit).1)
+    (fit_head shipped ws c.in_ok-g.g (found (checked_of shipped ws) c.in_ok-g.g c.in_ok-g.ensures)).1
 
 pub returns : goal.returns
 unfolding set_size_of checked_set_size
-returns c =
-    let a = c.args in
-    c.fit_set_size.ensures
-    ∙ ap (λ (g : Settings). fit_set_size a.words.now g (record { width = a.width; depth = a.depth })) c.shipped_settings-g.ensures
-    ∙ ap (λ (k : Checked). checked_set_size a.words.now k (record { width = a.width; depth = a.depth })) (sym (refusal_none shipped a.words.now (sym c.refusal-n.ensures ∙ c.if-n-ne0.false)))
+returns c = rw (found (checked_of shipped c.args.words.now) c.in_ok-g.g c.in_ok-g.ensures) c.fit_set_size.ensures
