@@ -8,10 +8,10 @@ ghost use Rattle.turnaround.specs.Move.{move_of};
 ghost use Rattle.rules.specs.Resize.{set_size_of};
 ghost use Rattle.rules.specs.Step.{step_of};
 
-use calls::{PUT, STEP, TAKE, call};
+use calls::{Asked, call};
 use dispatcher::dispatch;
 use moves::move_pool;
-use rules::Dispatched;
+use rules::{Dispatched, Refusal};
 use setup::{make, set_size};
 use step::answers::{answered, fields, number};
 
@@ -28,26 +28,28 @@ pub fn pool_make(
 ) -> u32
     ensures { returned result words.new fields.new ≡ returned_of (make_of words.old (settings_from kind width depth shift rows workers stride)) }
 {
-    let a = make(words, kind, width, depth, shift, rows, workers, stride);
-    answered(a, fields)
+    answered(
+        make(words, kind, width, depth, shift, rows, workers, stride),
+        fields,
+    )
 }
 
 pub fn pool_begin_put(words: &mut [u32], worker: u32, value: u32, fields: &mut [u32; 5]) -> u32
     ensures { returned result words.new fields.new ≡ returned_of (begin_put_of shipped words.old worker value) }
 {
-    call(words, PUT, worker, value, fields)
+    call(words, Asked::Put, worker, value, fields)
 }
 
 pub fn pool_begin_take(words: &mut [u32], worker: u32, fields: &mut [u32; 5]) -> u32
     ensures { returned result words.new fields.new ≡ returned_of (begin_take_of shipped words.old worker) }
 {
-    call(words, TAKE, worker, 0, fields)
+    call(words, Asked::Take, worker, 0, fields)
 }
 
 pub fn pool_step(words: &mut [u32], worker: u32, fields: &mut [u32; 5]) -> u32
     ensures { returned result words.new fields.new ≡ returned_of (step_of shipped words.old worker) }
 {
-    call(words, STEP, worker, 0, fields)
+    call(words, Asked::Step, worker, 0, fields)
 }
 
 pub fn pool_set_size(words: &mut [u32], width: u32, depth: u32) -> u32
@@ -57,27 +59,22 @@ pub fn pool_set_size(words: &mut [u32], width: u32, depth: u32) -> u32
 }
 
 // Writes the six fields of a dispatcher's result; its number.
-fn came_to(r: Dispatched, six: &mut [u32; 6]) -> u32
+fn came_to(r: Result<Dispatched, Refusal>, six: &mut [u32; 6]) -> u32
     ensures { (result ≡ result_number r) × (six.new ≡ result_fields r) }
 {
+    *six = [0; 6];
     match r {
-        Dispatched::Finished { worker, answer } => {
-            let five = fields(answer);
-            *six = [five[0], five[1], five[2], five[3], five[4], worker];
-            number(answer)
+        Ok(Dispatched::Finished { worker, answer }) => {
+            let [value, sub, row, stamp, distance] = fields(Ok(answer));
+            *six = [value, sub, row, stamp, distance, worker];
+            number(Ok(answer))
         }
-        Dispatched::NoneBusy => {
-            *six = [0, 0, 0, 0, 0, 0];
-            5
-        }
-        Dispatched::RanOut { next } => {
-            *six = [0, 0, 0, 0, 0, next];
+        Ok(Dispatched::NoneBusy) => 5,
+        Ok(Dispatched::RanOut { next }) => {
+            six[5] = next;
             6
         }
-        Dispatched::Refused(n) => {
-            *six = [0, 0, 0, 0, 0, 0];
-            n
-        }
+        Err(refusal) => refusal.number(),
     }
 }
 
@@ -112,6 +109,5 @@ pub fn pool_move_2_to_1(from: &[u32], to: &mut [u32]) -> u32
 pub fn pool_dispatch(words: &mut [u32], worker: u32, steps: u32, fields: &mut [u32; 6]) -> u32
     ensures { returned result words.new fields.new ≡ dispatch_returned (dispatch_of shipped words.old worker steps) }
 {
-    let r = dispatch(words, worker, steps);
-    came_to(r, fields)
+    came_to(dispatch(words, worker, steps), fields)
 }
