@@ -3,7 +3,7 @@
 ghost use Rattle.std.specs.Prelude.{◌≡◌, ℕ, ◌+◌, ◌*◌, ◌<◌, ◌≤◌, true, length, slice_index};
 ghost use Rattle.quick_fitness.specs.Alike.{bits_of, bits_at, wanted_bits};
 ghost use Rattle.quick_fitness.specs.Plain.{plain_bottom, subs_fit_above};
-ghost use Rattle.laws.specs.Choice.{cond, four_from};
+ghost use Rattle.laws.specs.Choice.{cond};
 ghost use Rattle.rules.specs.Fit.{sub_fit, windows_fit};
 ghost use Rattle.rules.specs.Layout.{first_of, second_of, pair_words, pair_at, windows_at, set_at, needed, head_words};
 ghost use Rattle.rules.specs.Limits.{Bounds, most_live};
@@ -13,8 +13,7 @@ ghost use Rattle.rules.specs.Windows.{has_windows, bottom_of};
 use image::{LIVE, MARK, NEXT_WIDTH, PAIR_WORDS, PAIRS, TOP, WINDOWS_WORDS, sub_of, windows_at};
 use rules::Settings;
 use rules::numbers::MOST_LIVE;
-use shared_fitness::zeros;
-use std::num::wrapping_sub_u64;
+use shared_fitness::{all_in_fours, zeros};
 
 // Two words as one number.
 fn together(first: u32, second: u32) -> u64
@@ -142,29 +141,11 @@ fn plain_sub(words: &[u32], g: Settings, bottom: u32, j: u32) -> bool
 {
     if g.kind == 0 {
         let sub = sub_of(words, j);
-        if sub.second < bottom {
-            return false;
-        }
-        return wrapping_sub_u64(sub.first as u64, sub.second as u64) <= (g.rows as u64);
+        bottom <= sub.second
+            && u64::from(sub.first).wrapping_sub(u64::from(sub.second)) <= u64::from(g.rows)
+    } else {
+        sub_of(words, j).first <= g.rows
     }
-    let sub = sub_of(words, j);
-    sub.first <= g.rows
-}
-
-// Whether the four subs from `j` on are so.
-fn plain_four(words: &[u32], g: Settings, bottom: u32, j: u32) -> bool
-    requires bounds { Bounds g }
-    requires g_in_bounds { (needed g ≤ length words.now) × (j + 3 < g.width) }
-    ensures { result ≡ true → four_from j (λ k. sub_fit g bottom (first_of words.now k) (second_of words.now k)) ≡ true }
-{
-    if plain_sub(words, g, bottom, j) {
-        if plain_sub(words, g, bottom, j + 1) {
-            if plain_sub(words, g, bottom, j + 2) {
-                return plain_sub(words, g, bottom, j + 3);
-            }
-        }
-    }
-    false
 }
 
 // The bottom of the take window, if it has the pool's depth: no sub is below it as a rule.
@@ -173,36 +154,18 @@ fn plain_bottom(words: &[u32], g: Settings) -> u32
     ensures { result ≡ plain_bottom words.now g }
 {
     if g.kind == 0 {
-        let mark = words[MARK];
-        if g.depth <= mark {
-            return mark - g.depth;
-        }
+        words[MARK].saturating_sub(g.depth)
+    } else {
+        0
     }
-    0
 }
 
-// Whether all subs are so, held to that bottom, four subs a turn: the test of one is shorter than a turn's own work.
+// Whether all subs are so, held to that bottom.
 pub fn plain_subs(words: &[u32], g: Settings) -> bool
     requires bounds { Bounds g }
     requires g_in_bounds { needed g ≤ length words.now }
     ensures { result ≡ true → subs_fit_above words.now g (plain_bottom words.now g) ≡ true }
 {
     let bottom = plain_bottom(words, g);
-    let width = g.width;
-    let mut j: u32 = 0;
-    while j + 3 < width {
-        if plain_four(words, g, bottom, j) {
-            j += 4;
-        } else {
-            return false;
-        }
-    }
-    while j < width {
-        if plain_sub(words, g, bottom, j) {
-            j += 1;
-        } else {
-            return false;
-        }
-    }
-    true
+    all_in_fours(g.width, |j| plain_sub(words, g, bottom, j))
 }
