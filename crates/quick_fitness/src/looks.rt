@@ -19,7 +19,7 @@ use shared_fitness::{all_in_fours, zeros};
 fn together(first: u32, second: u32) -> u64
     ensures { result ≡ bits_of first second }
 {
-    (first as u64) + 4294967296 * (second as u64)
+    u64::from(first) | u64::from(second) << 32
 }
 
 // The two words from `at` on as one number: the compiler reads them together.
@@ -35,33 +35,23 @@ fn same(words: &[u32], at: usize, count: usize, x: u64) -> bool
     requires { at + pair_words * count ≤ length words.now }
     ensures { result ≡ true → (k : ℕ) → k < count → bits_at words.now (at + pair_words * k) ≡ x }
 {
-    let mut k: usize = 0;
-    while k < count {
-        if bits(words, at + PAIR_WORDS * k) == x {
-            k += 1;
-        } else {
-            return false;
-        }
-    }
-    true
+    (0..count).all(|k| bits(words, at + PAIR_WORDS * k) == x)
 }
 
-// Whether the first `live` pairs from `at` on are `x`, and those beyond zero. `even` is `live`, or 1 more: from there on the words are looked at together.
-fn alike_by(words: &[u32], at: usize, live: usize, even: usize, x: u64) -> bool
+// Whether the first `LIVE` pairs from `at` on are `x`, and those beyond zero. The words are looked at together from the next even pair on.
+fn alike_by<const LIVE: usize>(words: &[u32], at: usize, x: u64) -> bool
     requires most_live_in_bounds { at + pair_words * most_live ≤ length words.now }
-    requires live_le_even { (live ≤ even) × (even ≤ most_live) }
-    ensures { result ≡ true → (k : ℕ) → k < most_live → bits_at words.now (at + pair_words * k) ≡ wanted_bits live x k }
+    requires live_le_most_live { LIVE ≤ most_live }
+    ensures { result ≡ true → (k : ℕ) → k < most_live → bits_at words.now (at + pair_words * k) ≡ wanted_bits LIVE x k }
 {
-    if same(words, at, live, x) {
-        if same(words, at + PAIR_WORDS * live, even - live, 0) {
-            return zeros(
-                words,
-                at + PAIR_WORDS * even,
-                at + PAIR_WORDS * (MOST_LIVE as usize),
-            );
-        }
-    }
-    false
+    let even = LIVE + LIVE % 2;
+    same(words, at, LIVE, x)
+        && same(words, at + PAIR_WORDS * LIVE, even - LIVE, 0)
+        && zeros(
+            words,
+            at + PAIR_WORDS * even,
+            at + PAIR_WORDS * MOST_LIVE as usize,
+        )
 }
 
 // The same, each number of live windows by itself: the compiler makes straight code of the loops, since it knows how many turns they have.
@@ -70,22 +60,22 @@ fn alike(words: &[u32], at: usize, live: u32, x: u64) -> bool
     ensures { result ≡ true → (k : ℕ) → k < most_live → bits_at words.now (at + pair_words * k) ≡ wanted_bits live x k }
 {
     match live {
-        1 => alike_by(words, at, 1, 2, x),
-        2 => alike_by(words, at, 2, 2, x),
-        3 => alike_by(words, at, 3, 4, x),
-        4 => alike_by(words, at, 4, 4, x),
-        5 => alike_by(words, at, 5, 6, x),
-        6 => alike_by(words, at, 6, 6, x),
-        7 => alike_by(words, at, 7, 8, x),
-        8 => alike_by(words, at, 8, 8, x),
-        9 => alike_by(words, at, 9, 10, x),
-        10 => alike_by(words, at, 10, 10, x),
-        11 => alike_by(words, at, 11, 12, x),
-        12 => alike_by(words, at, 12, 12, x),
-        13 => alike_by(words, at, 13, 14, x),
-        14 => alike_by(words, at, 14, 14, x),
-        15 => alike_by(words, at, 15, 16, x),
-        _ => alike_by(words, at, 16, 16, x),
+        1 => alike_by::<1>(words, at, x),
+        2 => alike_by::<2>(words, at, x),
+        3 => alike_by::<3>(words, at, x),
+        4 => alike_by::<4>(words, at, x),
+        5 => alike_by::<5>(words, at, x),
+        6 => alike_by::<6>(words, at, x),
+        7 => alike_by::<7>(words, at, x),
+        8 => alike_by::<8>(words, at, x),
+        9 => alike_by::<9>(words, at, x),
+        10 => alike_by::<10>(words, at, x),
+        11 => alike_by::<11>(words, at, x),
+        12 => alike_by::<12>(words, at, x),
+        13 => alike_by::<13>(words, at, x),
+        14 => alike_by::<14>(words, at, x),
+        15 => alike_by::<15>(words, at, x),
+        _ => alike_by::<16>(words, at, x),
     }
 }
 
@@ -93,44 +83,34 @@ fn alike(words: &[u32], at: usize, live: u32, x: u64) -> bool
 // were held to is then the take window's. That no size was set was asked for before.
 fn plain_sizes(words: &[u32], g: Settings, at: usize) -> bool
     requires bounds { Bounds g }
-    requires at_value { (at ≡ windows_at g) × (pair_at g most_live ≤ length words.now) }
-    requires kind_value { (g.kind ≡ 0) × (g.edition ≡ shipped) }
-    requires g_value { slice_index words.now (set_at g) ≡ 0 }
+    requires at_windows { (at ≡ windows_at g) × (pair_at g most_live ≤ length words.now) }
+    requires shipped_queue { (g.kind ≡ 0) × (g.edition ≡ shipped) }
+    requires no_size_set { slice_index words.now (set_at g) ≡ 0 }
     ensures { result ≡ true → (windows_fit words.now g ≡ true) × (plain_bottom words.now g ≡ bottom_of words.now g 0) }
 {
     let live = words[at + LIVE];
     let mark = words[MARK];
     let x = together(g.width, g.depth);
-    if bits(words, at + NEXT_WIDTH) == x {
-        if live < 1 {
-            return false;
-        }
-        if MOST_LIVE < live {
-            return false;
-        }
-        if mark < g.depth {
-            return false;
-        }
-        let bottom = mark - g.depth;
-        if (bottom as u64) + (live as u64) * (g.depth as u64) == (words[TOP] as u64) {
-            return alike(words, at + PAIRS, live, x);
-        }
-    }
-    false
+    bits(words, at + NEXT_WIDTH) == x
+        && (1..=MOST_LIVE).contains(&live)
+        && g.depth <= mark
+        && u64::from(mark - g.depth) + u64::from(live) * u64::from(g.depth) == u64::from(words[TOP])
+        && alike(words, at + PAIRS, live, x)
 }
 
 // Whether the windows are so, or a stack's words of windows zero.
 pub fn plain_windows(words: &[u32], g: Settings) -> bool
     requires bounds { Bounds g }
     requires g_in_bounds { (needed g ≤ length words.now) × (g.edition ≡ shipped) }
-    requires g_value { slice_index words.now (set_at g) ≡ 0 }
+    requires no_size_set { slice_index words.now (set_at g) ≡ 0 }
     ensures { result ≡ true → (windows_fit words.now g ≡ true) × (plain_bottom words.now g ≡ cond (has_windows g) (bottom_of words.now g 0) 0) }
 {
     let at = windows_at(g);
     if g.kind == 0 {
-        return plain_sizes(words, g, at);
+        plain_sizes(words, g, at)
+    } else {
+        zeros(words, at, at + WINDOWS_WORDS)
     }
-    zeros(words, at, at + WINDOWS_WORDS)
 }
 
 // Whether sub `j` is fit, and of a queue its last taken row not below a bottom. Each kind reads the words for itself: read before the test, they would have

@@ -7,8 +7,8 @@ use Rattle.laws.specs.Choice.{cond}
 use Rattle.std.proofs.Common.{sym, refl, ◌∙◌, arith, eq-eqb, ne_eqb}
 use Rattle.quick_fitness.proofs.looks.plain_windows.Goals as goal
 
-pub plain_sizes-requires-clause-at_value : goal.plain_sizes-requires-clause-at_value
-plain_sizes-requires-clause-at_value c = (c.windows_at-at.ensures, omega (arith, c.requires.g_in_bounds.0, windows_some _ (windowed_is c.args.g (shipped_windowed c.args.g c.requires.g_in_bounds.1))))
+pub plain_sizes-requires-clause-at_windows : goal.plain_sizes-requires-clause-at_windows
+plain_sizes-requires-clause-at_windows c = (c.windows_at-at.ensures, omega (arith, c.requires.g_in_bounds.0, windows_some _ (windowed_is c.args.g (shipped_windowed c.args.g c.requires.g_in_bounds.1))))
 
 pub returns-then-g-eq0 : goal.returns-then-g-eq0
 unfolding cond
@@ -19,9 +19,9 @@ pub zeros-requires : goal.zeros-requires
 zeros-requires c =
     omega (arith, c.requires.g_in_bounds.0, windows_some _ (windowed_is c.args.g (shipped_windowed c.args.g c.requires.g_in_bounds.1)), c.windows_at-at.ensures)
 
-pub returns : goal.returns
+pub returns-else-g-eq0 : goal.returns-else-g-eq0
 unfolding plain_bottom cond
-returns c =
+returns-else-g-eq0 c =
     let new = shipped_windowed c.args.g c.requires.g_in_bounds.1 in
     let stack = ne_eqb _ _ c.if-g-eq0.false in
     λ e. (
