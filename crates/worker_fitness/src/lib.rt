@@ -16,56 +16,46 @@ use queue_windows::has_windows;
 use rules::Settings;
 use rules::numbers::{
     COMMIT, CONFIRM, IDLE, READ, SHIFT, TAKE_COMMIT, TAKE_CONFIRM, TAKE_READ, TAKE_SHIFT,
-    TAKE_WINDOW, TAKING, WINDOW,
+    TAKE_WINDOW, WINDOW,
 };
 
 // Whether `x` is a phase of a queue: a match, which the compiler turns into one look at a word of bits.
+#[tactic(auto, using(crate::proofs::Phases::queue_phases))]
 fn queue_phase_fit(x: u32) -> bool
     ensures { result ≡ phase_fit 0 x }
 {
-    match x {
-        IDLE => true,
-        WINDOW => true,
-        READ => true,
-        COMMIT => true,
-        SHIFT => true,
-        TAKE_WINDOW => true,
-        TAKE_READ => true,
-        TAKE_COMMIT => true,
-        TAKE_SHIFT => true,
-        TAKE_CONFIRM => true,
-        _ => false,
-    }
+    matches!(
+        x,
+        IDLE | WINDOW
+            | READ
+            | COMMIT
+            | SHIFT
+            | TAKE_WINDOW
+            | TAKE_READ
+            | TAKE_COMMIT
+            | TAKE_SHIFT
+            | TAKE_CONFIRM
+    )
 }
 
 // Whether `x` is a phase of a pool of the kind.
+#[tactic(auto, using(crate::proofs::Phases::stack_phases))]
 fn phase_fit(kind: u32, x: u32) -> bool
     ensures { result ≡ phase_fit kind x }
 {
     if kind == 0 {
-        return queue_phase_fit(x);
+        queue_phase_fit(x)
+    } else {
+        matches!(x, IDLE..=CONFIRM | TAKE_WINDOW..=TAKE_CONFIRM)
     }
-    if TAKE_CONFIRM < x {
-        return false;
-    }
-    if CONFIRM < x {
-        if x <= TAKING {
-            return false;
-        }
-    }
-    true
 }
 
 // Whether a worker in phase `x` is past its window phase, and so has seen a window.
+#[tactic(auto, using(crate::proofs::Phases::window_phases))]
 pub fn past_window(x: u32) -> bool
     ensures { result ≡ past_window x }
 {
-    match x {
-        IDLE => false,
-        WINDOW => false,
-        TAKE_WINDOW => false,
-        _ => true,
-    }
+    !matches!(x, IDLE | WINDOW | TAKE_WINDOW)
 }
 
 // The width that index and scan of the worker at `at`, in phase `x`, lie below: that of the window that it has seen, or the pool's. The word is
@@ -88,15 +78,13 @@ fn stack_unseen(words: &[u32], g: Settings, at: usize) -> bool
     requires { at + worker_words g.edition ≤ length words.now }
     ensures { result ≡ cond (windowed g) (cond (eqb g.kind 0) true (both (eqb (slot_at g words.now at).bottom 0) (eqb (slot_at g words.now at).width 0))) true }
 {
-    if is_windowed(g) {
-        if g.kind != 0 {
-            return (words[at + BOTTOM] == 0) & (words[at + SEEN_WIDTH] == 0);
-        }
+    if !is_windowed(g) || g.kind == 0 {
+        return true;
     }
-    true
+    (words[at + BOTTOM] == 0) & (words[at + SEEN_WIDTH] == 0)
 }
 
-// Whether the worker at `at` is fit.
+// Whether the worker at `at` is fit: the tests are made together, so that no branch is on a worker's words.
 fn worker_fit(words: &[u32], g: Settings, at: usize) -> bool
     requires { at + worker_words g.edition ≤ length words.now }
     ensures { result ≡ worker_fit g (slot_at g words.now at) }
@@ -112,15 +100,10 @@ fn idle_fit(words: &[u32], g: Settings, at: usize) -> bool
     requires { at + worker_words g.edition ≤ length words.now }
     ensures { result ≡ true → worker_fit g (slot_at g words.now at) ≡ true }
 {
-    if words[at] != IDLE {
-        return false;
-    }
-    if words[at + INDEX] < g.width {
-        if words[at + SCAN] < g.width {
-            return stack_unseen(words, g, at);
-        }
-    }
-    false
+    words[at] == IDLE
+        && words[at + INDEX] < g.width
+        && words[at + SCAN] < g.width
+        && stack_unseen(words, g, at)
 }
 
 // The first worker from `first` on that is not idle and fit, or how many there are. The idle ones, which are many as a rule, are passed in a short loop.
@@ -160,28 +143,17 @@ pub fn workers_fit(words: &[u32], g: Settings) -> bool
 }
 
 // Whether word `k` of a worker is fit, whose index and scan lie below a width.
+#[tactic(auto, using(laws::specs::Tests::tests), unfolding(crate::specs::Words::word_fit, laws::specs::Choice::cond))]
 fn word_fit(g: Settings, width: u32, k: usize, x: u32) -> bool
     ensures { result ≡ word_fit g width k x }
 {
-    if k == PHASE {
-        return phase_fit(g.kind, x);
+    match k {
+        PHASE => phase_fit(g.kind, x),
+        INDEX | SCAN => x < width,
+        SEEN_WIDTH if g.kind == 0 => width <= g.width,
+        BOTTOM.. if g.kind != 0 => x == 0,
+        _ => true,
     }
-    if k == INDEX {
-        return x < width;
-    }
-    if k == SCAN {
-        return x < width;
-    }
-    if g.kind == 0 {
-        if k == SEEN_WIDTH {
-            return width <= g.width;
-        }
-        return true;
-    }
-    if k < BOTTOM {
-        return true;
-    }
-    x == 0
 }
 
 // Whether every word of every worker is fit, in the shipped edition.

@@ -1,6 +1,6 @@
 -- `worker_fitness::idle_fit` meets its contract: an idle worker has seen no window, and a stack's has no words of one.
-use mathlib.Core.Path.{sym, ◌∙◌}
-use native.Mathlib.Omega.{arith}
+use Rattle.std.proofs.Common.{◌∙◌}
+use Rattle.std.proofs.Common.{sym, arith, rules}
 use Rattle.rules.specs.Worker.{slot_at}
 use Rattle.rules.proofs.Workers.{slot_within}
 use Rattle.worker_fitness.proofs.Idle.{idle_fits}
@@ -9,8 +9,8 @@ use Rattle.worker_fitness.proofs.idle_fit.Goals as goal
 pub bounds-words-at : goal.bounds-words-at
 bounds-words-at c = omega (arith, slot_within c.args.g.edition, c.requires)
 
-pub bounds-words-at-2 : goal.bounds-words-at-2
-bounds-words-at-2 c = omega (arith, slot_within c.args.g.edition, c.requires)
+pub bounds-words-at-then-words-at-eq-IDLE : goal.bounds-words-at-then-words-at-eq-IDLE
+bounds-words-at-then-words-at-eq-IDLE c = omega (arith, slot_within c.args.g.edition, c.requires)
 
 pub bounds-words-at-then-words-at : goal.bounds-words-at-then-words-at
 bounds-words-at-then-words-at c = omega (arith, slot_within c.args.g.edition, c.requires)
@@ -18,4 +18,4 @@ bounds-words-at-then-words-at c = omega (arith, slot_within c.args.g.edition, c.
 pub returns-then-words-at-2 : goal.returns-then-words-at-2
 unfolding slot_at
 returns-then-words-at-2 c =
-    λ e. idle_fits c.args.g _ c.if-words-at-ne-IDLE.false c.if-words-at.true c.if-words-at-2.true (sym c.stack_unseen.ensures ∙ e)
+    λ e. idle_fits c.args.g _ (search rules) (search rules) (search rules) (sym c.stack_unseen.ensures ∙ e)

@@ -1,9 +1,9 @@
 -- `worker_fitness::worker_fit` meets its contract: its tests, over one width, are the list's.
+use Rattle.std.proofs.Common.{arith}
 use Rattle.worker_fitness.proofs.Seen.{worker_by_width}
 use Rattle.laws.specs.Looks.{and_both}
 use Rattle.rules.proofs.Workers.{slot_within}
 use Rattle.rules.specs.Worker.{slot_at}
-use native.Mathlib.Omega.{arith}
 use Rattle.worker_fitness.proofs.worker_fit.Goals as goal
 
 pub bounds-words-at : goal.bounds-words-at
