@@ -1,9 +1,9 @@
 // The workers: worker by worker, their words.
 #![tactic(auto)]
 
-ghost use Rattle.std.specs.Prelude.{true, ◌≡◌, ◌+◌, ◌≤◌, eqb, length};
+ghost use Rattle.std.specs.Prelude.{true, ◌≡◌, ℕ, Bool, ◌+◌, ◌<◌, ◌≤◌, eqb, length};
 ghost use Rattle.worker_fitness.specs.Words.{word_fit};
-ghost use Rattle.laws.specs.Choice.{cond, both, all_below};
+ghost use Rattle.laws.specs.Choice.{cond, both};
 ghost use Rattle.rules.specs.Fit.{phase_fit, past_window, worker_fit, workers_fit};
 ghost use Rattle.rules.specs.Layout.{needed, worker_at, worker_words};
 ghost use Rattle.rules.specs.Limits.{Bounds, windowed};
@@ -106,22 +106,21 @@ fn idle_fit(words: &[u32], g: Settings, at: usize) -> bool
         && stack_unseen(words, g, at)
 }
 
-// The first worker from `first` on that is not idle and fit, or how many there are. The idle ones, which are many as a rule, are passed in a short loop.
-fn not_idle_from(words: &[u32], g: Settings, first: u32) -> u32
+// Whether every worker is fit, by a test of one at a place. An idle one, of which there are many as a rule, is told by few of its words.
+fn each_fit<F: Fn(usize) -> bool>(words: &[u32], g: Settings, fit: F) -> bool
     requires bounds { Bounds g }
-    requires g_in_bounds { (needed g ≤ length words.now) × (first ≤ g.workers) }
-    ensures { (first ≤ result) × (result ≤ g.workers) × (all_below first (λ i. worker_fit g (slot_at g words.now (worker_at g i))) ≡ true → all_below result (λ i. worker_fit g (slot_at g words.now (worker_at g i))) ≡ true) }
+    requires g_in_bounds { needed g ≤ length words.now }
+    requires callable { (i : ℕ) → i < g.workers → F.pre fit (worker_at g i) }
+    requires tells { (i : ℕ) (r : Bool) → i < g.workers → F.post fit (worker_at g i) r → r ≡ worker_fit g (slot_at g words.now (worker_at g i)) }
+    ensures { result ≡ workers_fit words.now g }
 {
-    let n = g.workers;
-    let mut i = first;
-    while i < n {
-        if idle_fit(words, g, worker_at(g, i)) {
-            i += 1;
-        } else {
-            return i;
+    for i in 0..g.workers {
+        let at = worker_at(g, i);
+        if !idle_fit(words, g, at) && !fit(at) {
+            return false;
         }
     }
-    i
+    true
 }
 
 // Whether every worker is fit, in any edition.
@@ -130,16 +129,7 @@ pub fn workers_fit(words: &[u32], g: Settings) -> bool
     requires g_in_bounds { needed g ≤ length words.now }
     ensures { result ≡ workers_fit words.now g }
 {
-    let n = g.workers;
-    let mut i = not_idle_from(words, g, 0);
-    while i < n {
-        if worker_fit(words, g, worker_at(g, i)) {
-            i = not_idle_from(words, g, i + 1);
-        } else {
-            return false;
-        }
-    }
-    true
+    each_fit(words, g, |at| worker_fit(words, g, at))
 }
 
 // Whether word `k` of a worker is fit, whose index and scan lie below a width.
@@ -156,28 +146,20 @@ fn word_fit(g: Settings, width: u32, k: usize, x: u32) -> bool
     }
 }
 
+// Whether every word of the worker at `at` is fit, in the shipped edition.
+fn words_fit(words: &[u32], g: Settings, at: usize) -> bool
+    requires { (at + worker_words g.edition ≤ length words.now) × (g.edition ≡ shipped) }
+    ensures { result ≡ worker_fit g (slot_at g words.now at) }
+{
+    let width = width_of(words, g, at, words[at]);
+    (0..WORKER_WORDS).all(|k| word_fit(g, width, k, words[at + k]))
+}
+
 // Whether every word of every worker is fit, in the shipped edition.
 pub fn every_fit(words: &[u32], g: Settings) -> bool
     requires bounds { Bounds g }
     requires g_in_bounds { (needed g ≤ length words.now) × (g.edition ≡ shipped) }
     ensures { result ≡ workers_fit words.now g }
 {
-    let n = g.workers;
-    let mut fit = true;
-    let mut i = not_idle_from(words, g, 0);
-    'workers: while i < n {
-        let at = worker_at(g, i);
-        let width = width_of(words, g, at, words[at]);
-        let mut k: usize = 0;
-        while k < WORKER_WORDS {
-            let x = words[at + k];
-            if !word_fit(g, width, k, x) {
-                fit = false;
-                break 'workers;
-            }
-            k += 1;
-        }
-        i = not_idle_from(words, g, i + 1);
-    }
-    fit
+    each_fit(words, g, |at| words_fit(words, g, at))
 }
