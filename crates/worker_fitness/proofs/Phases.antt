@@ -1,55 +1,31 @@
--- Which numbers are phases of a queue, and of a stack: runs of them, each tested by itself.
-use Rattle.std.proofs.Common.{◌≢◌, ℕ, ◌+◌, ◌-◌, ◌<◌, ◌≤◌, Bool, true, false, not, refl, ne_eqb, le-ltb, lt-ltb, le-leb}
-use Rattle.std.proofs.Common.{◌≡◌, arith}
+-- Which numbers are phases of a queue, and of a stack, and which are behind the look at the window.
+use Rattle.std.proofs.Common.{◌≢◌, ℕ, ◌<◌, ◌≤◌, Bool, true, false, not, refl, ne_eqb, le-ltb, lt-ltb, le-leb, ◌/◌, ◌^◌, ◌==◌, bit_and, ◌≡◌, arith, sym}
 use Rattle.std.proofs.lemmas.Bool.{lt-leb}
 use Rattle.laws.specs.Choice.{cond, all_below, all_below_at}
 use Rattle.rules.specs.Fit.{phase_fit, past_window}
 
--- what holds of each number of a run
-in_run : (p : ℕ → Bool) (low n x : ℕ) → all_below n (λ k. p (low + k)) ≡ true → low ≤ x → x < low + n → p x ≡ true
-in_run p low n x h a b =
-    let here : low + (x - low) ≡ x = omega arith in
-    rw here at (all_below_at n (λ k. p (low + k)) (x - low) (omega arith) h)
-
-is_false : (b : Bool) → not b ≡ true → b ≡ false
-is_false false e = refl
-is_false true e = cc
-
 -- ---- a queue's
-pub idle_to_read : (x : ℕ) → x < 3 → phase_fit 0 x ≡ true
-unfolding phase_fit cond all_below
-idle_to_read x l = in_run (phase_fit 0) 0 3 x refl (omega arith) l
+agree : Bool → Bool → Bool
+agree true b = b
+agree false b = not b
 
-pub commit_shift : (x : ℕ) → 4 ≤ x → x < 6 → phase_fit 0 x ≡ true
-unfolding phase_fit cond all_below
-commit_shift x a b = in_run (phase_fit 0) 4 2 x refl a b
+same_of : (a b : Bool) → agree a b ≡ true → a ≡ b
+unfolding agree
+same_of true b e = sym e
+same_of false false e = refl
+same_of false true e = cc
 
-pub take_window_read : (x : ℕ) → 9 ≤ x → x < 11 → phase_fit 0 x ≡ true
-unfolding phase_fit cond all_below
-take_window_read x a b = in_run (phase_fit 0) 9 2 x refl a b
-
-pub take_commit_to_confirm : (x : ℕ) → 12 ≤ x → x < 15 → phase_fit 0 x ≡ true
-unfolding phase_fit cond all_below
-take_commit_to_confirm x a b = in_run (phase_fit 0) 12 3 x refl a b
-
-pub no_check : (x : ℕ) → 3 ≤ x → x < 4 → phase_fit 0 x ≡ false
-unfolding phase_fit cond all_below
-no_check x a b = is_false (phase_fit 0 x) (in_run (λ y. not (phase_fit 0 y)) 3 1 x refl a b)
-
-pub no_confirm : (x : ℕ) → 6 ≤ x → x < 9 → phase_fit 0 x ≡ false
-unfolding phase_fit cond all_below
-no_confirm x a b = is_false (phase_fit 0 x) (in_run (λ y. not (phase_fit 0 y)) 6 3 x refl a b)
-
-pub no_take_check : (x : ℕ) → 11 ≤ x → x < 12 → phase_fit 0 x ≡ false
-unfolding phase_fit cond all_below
-no_take_check x a b = is_false (phase_fit 0 x) (in_run (λ y. not (phase_fit 0 y)) 11 1 x refl a b)
+-- the word of bits has a bit for each, and none for the others up to the last
+pub bit_tells : (x : ℕ) → x ≤ 14 → (bit_and (30263 / 2 ^ x) 1 == 1) ≡ phase_fit 0 x
+unfolding agree phase_fit cond all_below
+bit_tells x l = same_of _ _ (all_below_at 15 (λ k. agree (bit_and (30263 / 2 ^ k) 1 == 1) (phase_fit 0 k)) x (omega arith) refl)
 
 -- ---- of either kind
 pub none_above : (kind x : ℕ) → 15 ≤ x → phase_fit kind x ≡ false
 unfolding phase_fit cond
 none_above kind x a = rw (lt-ltb 14 x a) refl
 
-pub ruleset queue_phases = (idle_to_read, commit_shift, take_window_read, take_commit_to_confirm, no_check, no_confirm, no_take_check, none_above)
+pub ruleset queue_phases = (bit_tells, none_above)
 
 -- ---- a stack's
 pub puts : (kind x : ℕ) → kind ≢ 0 → x < 7 → phase_fit kind x ≡ true

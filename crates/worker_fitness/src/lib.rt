@@ -19,23 +19,24 @@ use rules::numbers::{
     TAKE_WINDOW, WINDOW,
 };
 
-// Whether `x` is a phase of a queue: a match, which the compiler turns into one look at a word of bits.
+// The phases of a queue, a bit each.
+const QUEUE_PHASES: u32 = 1 << IDLE
+    | 1 << WINDOW
+    | 1 << READ
+    | 1 << COMMIT
+    | 1 << SHIFT
+    | 1 << TAKE_WINDOW
+    | 1 << TAKE_READ
+    | 1 << TAKE_COMMIT
+    | 1 << TAKE_SHIFT
+    | 1 << TAKE_CONFIRM;
+
+// Whether `x` is a phase of a queue: one look at the word of bits.
 #[tactic(auto, using(crate::proofs::Phases::queue_phases))]
 fn queue_phase_fit(x: u32) -> bool
     ensures { result ≡ phase_fit 0 x }
 {
-    matches!(
-        x,
-        IDLE | WINDOW
-            | READ
-            | COMMIT
-            | SHIFT
-            | TAKE_WINDOW
-            | TAKE_READ
-            | TAKE_COMMIT
-            | TAKE_SHIFT
-            | TAKE_CONFIRM
-    )
+    x <= TAKE_CONFIRM && QUEUE_PHASES >> x & 1 == 1
 }
 
 // Whether `x` is a phase of a pool of the kind.
