@@ -86,6 +86,7 @@ fn stack_unseen(words: &[u32], g: Settings, at: usize) -> bool
 }
 
 // Whether the worker at `at` is fit: the tests are made together, so that no branch is on a worker's words.
+#[tactic(auto, using(rules::proofs::Workers::slot_within))]
 fn worker_fit(words: &[u32], g: Settings, at: usize) -> bool
     requires { at + worker_words g.edition ≤ length words.now }
     ensures { result ≡ worker_fit g (slot_at g words.now at) }
@@ -96,15 +97,14 @@ fn worker_fit(words: &[u32], g: Settings, at: usize) -> bool
     phase_fit(g.kind, x) & ((width <= g.width) & (inside & stack_unseen(words, g, at)))
 }
 
-// Whether the worker at `at` is idle and fit.
+// Whether the worker at `at` is idle and fit: the tests are made together, so that one branch is on an idle worker's words.
+#[tactic(auto, using(rules::proofs::Workers::slot_within))]
 fn idle_fit(words: &[u32], g: Settings, at: usize) -> bool
     requires { at + worker_words g.edition ≤ length words.now }
     ensures { result ≡ true → worker_fit g (slot_at g words.now at) ≡ true }
 {
-    words[at] == IDLE
-        && words[at + INDEX] < g.width
-        && words[at + SCAN] < g.width
-        && stack_unseen(words, g, at)
+    let inside = (words[at + INDEX] < g.width) & (words[at + SCAN] < g.width);
+    (words[at] == IDLE) & inside & stack_unseen(words, g, at)
 }
 
 // Whether every worker is fit, by a test of one at a place. An idle one, of which there are many as a rule, is told by few of its words.
