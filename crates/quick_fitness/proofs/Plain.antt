@@ -1,7 +1,7 @@
--- What a plain pool has: a sub whose last taken row is not below the take window's bottom is held to that row, and windows that all have the pool's size are told by a
--- number for each, and the take window's bottom by T and the pool's depth.
+-- What a plain pool has: a sub whose last taken row is not below the take window's bottom is held to that row, and windows that all have the pool's size are
+-- told by a number for each, and the take window's bottom by T and the pool's depth.
 use Rattle.std.proofs.Common.{◌≡◌, ℕ, ◌+◌, ◌-◌, ◌*◌, ◌%◌, ◌^◌, ◌<◌, ◌≤◌, Bool, true, false, eqb, ltb, leb, List, get_or, sym, refl, ap, ◌∙◌, le_refl, add-zero, arith, lt-ltb, eq-eqb, le-leb, leb-true}
-use borrow.Author.Tests.{eqb-false}
+use Rattle.std.proofs.lemmas.Bool.{eqb-false}
 use Rattle.laws.specs.Choice.{cond, both, all_below}
 use Rattle.rules.specs.Fit.{pair_fit, sub_fit, windows_fit}
 use Rattle.rules.specs.Layout.{mark_at, top_at, set_at, windows_at, pairs_at, pair_words, pair_at}

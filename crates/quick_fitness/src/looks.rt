@@ -55,6 +55,7 @@ fn alike_by<const LIVE: usize>(words: &[u32], at: usize, x: u64) -> bool
 }
 
 // The same, each number of live windows by itself: the compiler makes straight code of the loops, since it knows how many turns they have.
+// Stays: an arm for each number, since the argument of a const parameter is a literal.
 fn alike(words: &[u32], at: usize, live: u32, x: u64) -> bool
     requires { (at + pair_words * most_live ≤ length words.now) × (1 ≤ live) × (live ≤ most_live) }
     ensures { result ≡ true → (k : ℕ) → k < most_live → bits_at words.now (at + pair_words * k) ≡ wanted_bits live x k }

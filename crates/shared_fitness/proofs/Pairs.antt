@@ -1,7 +1,7 @@
 -- The pairs of a queue's windows. Beyond the live ones they are zero where each word behind the live pairs is.
 use Rattle.std.proofs.Common.{◌≡◌, ℕ, ◌+◌, ◌-◌, ◌*◌, ◌/◌, ◌%◌, ◌<◌, ◌≤◌, Bool, true, false, eqb, List, get_or, sym, refl, ◌∙◌, arith, le-ltb, lt-ltb}
-use mathlib.Core.Bool.{false≢true}
-use native.Mathlib.Decide.{ℕ_discrete}
+use Rattle.std.proofs.lemmas.Bool.{false≢true}
+use Rattle.std.proofs.Math.Decide.{ℕ_discrete}
 use Rattle.laws.specs.Choice.{cond_true, cond_false, both_true, all_below, all_below_at, all_below_same}
 use Rattle.laws.specs.Looks.{all_hold, all_from}
 use Rattle.rules.specs.Fit.{no_size_fit, pair_fit}

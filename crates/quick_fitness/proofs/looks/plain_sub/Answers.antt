@@ -1,4 +1,5 @@
--- `quick_fitness::looks::plain_sub` meets its contract: a queue's sub that is not below the bottom is held to its own last taken row, which a wrapped difference tells.
+-- `quick_fitness::looks::plain_sub` meets its contract: a queue's sub that is not below the bottom is held to its own last taken row, which a wrapped
+-- difference tells.
 use Rattle.quick_fitness.proofs.Plain.{sub_plain}
 use Rattle.rules.specs.Fit.{sub_fit}
 use Rattle.laws.specs.Choice.{cond}

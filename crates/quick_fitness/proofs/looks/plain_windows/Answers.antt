@@ -1,4 +1,5 @@
--- `quick_fitness::looks::plain_windows` meets its contract: the kind picks the same branch of `windows_fit`, and in a stack there is no bottom to hold a sub to.
+-- `quick_fitness::looks::plain_windows` meets its contract: the kind picks the same branch of `windows_fit`, and in a stack there is no bottom to hold a sub
+-- to.
 use Rattle.limits.proofs.Shipped.{shipped_windowed}
 use Rattle.shared_fitness.proofs.Stacks.{stack_windows}
 use Rattle.rules.proofs.Workers.{windowed_is, windows_some}

@@ -1,5 +1,5 @@
--- `shared_fitness::subs::queue_fit` meets its contract: where the last put row is above the level, the wrapped difference is how far, less 1; else it is above every number of 32
--- bits.
+-- `shared_fitness::subs::queue_fit` meets its contract: where the last put row is above the level, the wrapped difference is how far, less 1; else it is
+-- above every number of 32 bits.
 use Rattle.rules.specs.declared.Settings.{Settings}
 use Rattle.rules.specs.Windows.{level_of}
 use Rattle.rules.specs.Fit.{above_by, queue_sub_fit}

@@ -1,4 +1,5 @@
--- `shared_fitness::windows::live_fit` meets its contract: each window gone through is within limits, and the top so far is the bottom of the next. Sums of 64 bits do not wrap.
+-- `shared_fitness::windows::live_fit` meets its contract: each window gone through is within limits, and the top so far is the bottom of the next. Sums of
+-- 64 bits do not wrap.
 use Rattle.rules.specs.declared.Settings.{Settings}
 use Rattle.rules.specs.Windows.{nth_size, bottom_of}
 use Rattle.rules.specs.Limits.{size_fit}

@@ -1,4 +1,5 @@
--- `shared_fitness::windows::windows_fit` meets its contract: the edition and the kind pick the same branch of `windows_fit`, and an edition without windows has no words to ask.
+-- `shared_fitness::windows::windows_fit` meets its contract: the edition and the kind pick the same branch of `windows_fit`, and an edition without windows
+-- has no words to ask.
 use Rattle.shared_fitness.proofs.Stacks.{stack_windows}
 use Rattle.rules.proofs.Workers.{windowed_is, windowed_not, windows_none, windows_some}
 use Rattle.rules.specs.declared.Settings.{Settings}
