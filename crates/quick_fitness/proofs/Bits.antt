@@ -1,7 +1,7 @@
--- Pairs as numbers. The two words of a pair are told by their number, and the pairs of all windows by the live ones, one that may come behind them, and the zeros
--- behind that.
+-- Pairs as numbers. The two words of a pair are told by their number, and the pairs of all windows by the live ones, one that may come behind them, and the
+-- zeros behind that.
 use Rattle.std.proofs.Common.{◌≡◌, ℕ, ◌+◌, ◌-◌, ◌*◌, ◌<◌, ◌≤◌, true, eqb, List, get_or, sym, ◌∙◌, arith, le-ltb, lt-ltb, eqb-true}
-use native.Mathlib.Decide.{dec_lt}
+use Rattle.std.proofs.Math.Decide.{dec_lt}
 use Rattle.laws.specs.Choice.{cond_true, cond_false, all_below, all_below_at}
 use Rattle.rules.specs.Layout.{pair_words}
 use Rattle.rules.specs.Limits.{most_live}

@@ -1,7 +1,7 @@
--- What a plain pool has: a sub whose last taken row is not below the take window's bottom is held to that row, and windows that all have the pool's size are told by a
--- number for each, and the take window's bottom by T and the pool's depth.
+-- What a plain pool has: a sub whose last taken row is not below the take window's bottom is held to that row, and windows that all have the pool's size are
+-- told by a number for each, and the take window's bottom by T and the pool's depth.
 use Rattle.std.proofs.Common.{◌≡◌, ℕ, ◌+◌, ◌-◌, ◌*◌, ◌%◌, ◌^◌, ◌<◌, ◌≤◌, Bool, true, false, eqb, ltb, leb, List, get_or, sym, refl, ap, ◌∙◌, le_refl, add-zero, arith, lt-ltb, eq-eqb, le-leb, leb-true}
-use borrow.Author.Tests.{eqb-false}
+use Rattle.std.proofs.lemmas.Bool.{eqb-false}
 use Rattle.laws.specs.Choice.{cond, both, all_below}
 use Rattle.rules.specs.Fit.{pair_fit, sub_fit, windows_fit}
 use Rattle.rules.specs.Layout.{mark_at, top_at, set_at, windows_at, pairs_at, pair_words, pair_at}
@@ -23,18 +23,18 @@ level_is g last bottom l = go (windowed g) refl
     go true e = omega arith
     go false e = refl
 
-pub sub_plain : (g : Settings) (bottom first second above : ℕ) → g.kind ≡ 0 → bottom ≤ second → g.rows < 2 ^ 32 → first < 2 ^ 32 → second < 2 ^ 32 → above < 2 ^ 64 → (above + second) % 2 ^ 64 ≡ first
-    → leb above g.rows ≡ true
+pub sub_plain : (g : Settings) (bottom first second : ℕ) → g.kind ≡ 0 → bottom ≤ second → g.rows < 2 ^ 32 → first < 2 ^ 32 → second < 2 ^ 32
+    → leb ((first + (2 ^ 64 - second)) % 2 ^ 64) g.rows ≡ true
     → sub_fit g bottom first second ≡ true
 unfolding sub_fit cond
-sub_plain g bottom first second above queue low rows f s a wraps within =
+sub_plain g bottom first second queue low rows f s within =
     rw (eq-eqb g.kind 0 queue, level_is g second bottom low) (go (eqb first second) refl)
   where
     go : (b : Bool) → eqb first second ≡ b → cond b true (both (ltb second first) (leb (first - second) g.rows)) ≡ true
     go true e = refl
     go false e =
         let differ = eqb-false first second e in
-        let few : above ≤ g.rows = leb-true above g.rows within in
+        let few : (first + (2 ^ 64 - second)) % 2 ^ 64 ≤ g.rows = leb-true _ g.rows within in
         let more : second < first = omega (arith, differ) in
         rw (lt-ltb second first more, le-leb (first - second) g.rows (omega (arith, more))) refl
 

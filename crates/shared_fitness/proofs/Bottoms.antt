@@ -6,7 +6,7 @@ use Rattle.rules.specs.Limits.{windowed}
 use Rattle.rules.specs.Fit.{sub_fit, subs_fit}
 use Rattle.rules.specs.Layout.{first_of, second_of}
 use Rattle.laws.specs.Choice.{cond, all_below, all_below_same}
-use mathlib.Core.Bool.{false≢true}
+use Rattle.std.proofs.lemmas.Bool.{false≢true}
 
 -- whether sub j is fit, held to a bottom
 abbrev pub is_fit : List ℕ → Settings → ℕ → ℕ → Bool

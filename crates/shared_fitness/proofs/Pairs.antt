@@ -1,15 +1,14 @@
 -- The pairs of a queue's windows. Beyond the live ones they are zero where each word behind the live pairs is.
-use Rattle.std.proofs.Common.{◌≡◌, ℕ, zero, suc, ◌+◌, ◌-◌, ◌*◌, ◌/◌, ◌%◌, ◌<◌, ◌≤◌, Bool, true, false, eqb, ltb, List, get_or, sym, refl, ap, ◌∙◌, arith, le-ltb, lt-ltb, eq-eqb, eqb-true}
-use mathlib.Core.Bool.{false≢true}
-use native.Mathlib.Decide.{ℕ_discrete}
-use Rattle.laws.specs.Choice.{cond, cond_true, cond_false, both, both_true, all_below, all_below_at, all_below_fails, all_below_same}
+use Rattle.std.proofs.Common.{◌≡◌, ℕ, ◌+◌, ◌-◌, ◌*◌, ◌/◌, ◌%◌, ◌<◌, ◌≤◌, Bool, true, false, eqb, List, get_or, sym, refl, ◌∙◌, arith, le-ltb, lt-ltb}
+use Rattle.std.proofs.lemmas.Bool.{false≢true}
+use Rattle.std.proofs.Math.Decide.{ℕ_discrete}
+use Rattle.laws.specs.Choice.{cond_true, cond_false, both_true, all_below, all_below_at, all_below_same}
 use Rattle.laws.specs.Looks.{all_hold, all_from}
 use Rattle.rules.specs.Fit.{no_size_fit, pair_fit}
-use Rattle.rules.specs.Layout.{pair_at, mark_at}
+use Rattle.rules.specs.Layout.{pair_at}
 use Rattle.rules.specs.Limits.{most_live, size_fit}
-use Rattle.rules.specs.Windows.{no_size, live_of, nth_size, bottom_of}
+use Rattle.rules.specs.Windows.{live_of, nth_size}
 use Rattle.rules.specs.declared.Settings.{Settings}
-use Rattle.rules.specs.declared.Size.{Size}
 
 module _ (ws : List ℕ) (g : Settings) where
   -- ---- the pair of a live window, and one beyond

@@ -15,8 +15,5 @@ pub fn shared_fit(words: &[u32], g: Settings) -> bool
     requires g_in_bounds { needed g ≤ length words.now }
     ensures { result ≡ both (windows_fit words.now g) (subs_fit words.now g) }
 {
-    if windows_fit(words, g) {
-        return subs_fit(words, g);
-    }
-    false
+    windows_fit(words, g) && subs_fit(words, g)
 }

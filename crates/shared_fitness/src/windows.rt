@@ -17,13 +17,7 @@ pub fn zeros(words: &[u32], from: usize, to: usize) -> bool
     requires { (from ≤ to) × (to ≤ length words.now) }
     ensures { result ≡ all_below (to - from) (λ k. nat_eq (slice_index words.now (from + k)) 0) }
 {
-    let mut any: u32 = 0;
-    let mut at = from;
-    while at < to {
-        any = any | words[at];
-        at += 1;
-    }
-    any == 0
+    words[from..to].iter().fold(0, |any, x| any | x) == 0
 }
 
 // Whether each live window's size is within limits, and they lead from the bottom of the first up to P.
@@ -33,18 +27,15 @@ fn live_fit(words: &[u32], g: Settings, live: u32) -> bool
     requires live_le_most_live { live ≤ most_live }
     ensures { result ≡ both (all_below live (λ k. size_fit g (nth_size words.now g k))) (bottom_of words.now g live == slice_index words.now top_at) }
 {
-    let mut top: u64 = take_bottom(words, g) as u64;
-    let mut k: u32 = 0;
-    while k < live {
+    let mut top = u64::from(take_bottom(words, g));
+    for k in 0..live {
         let size = nth_size(words, g, k);
-        if size_fit(g, size) {
-            top += size.depth as u64;
-            k += 1;
-        } else {
+        if !size_fit(g, size) {
             return false;
         }
+        top += u64::from(size.depth);
     }
-    top == (words[TOP] as u64)
+    top == u64::from(words[TOP])
 }
 
 // The same with the pairs beyond, which are zero.
@@ -55,14 +46,8 @@ fn pairs_fit(words: &[u32], g: Settings, live: u32) -> bool
     ensures { result ≡ both (all_below most_live (pair_fit words.now g)) (bottom_of words.now g live == slice_index words.now top_at) }
 {
     let pairs = windows_at(g) + PAIRS;
-    if zeros(
-        words,
-        pairs + PAIR_WORDS * (live as usize),
-        pairs + PAIR_WORDS * (MOST_LIVE as usize),
-    ) {
-        return live_fit(words, g, live);
-    }
-    false
+    let behind = pairs + PAIR_WORDS * live as usize;
+    zeros(words, behind, pairs + PAIR_WORDS * MOST_LIVE as usize) && live_fit(words, g, live)
 }
 
 // Whether a queue's windows are fit.
@@ -72,17 +57,11 @@ fn sizes_fit(words: &[u32], g: Settings) -> bool
     ensures { result ≡ both (nat_le (slice_index words.now (set_at g)) 1) (both (all (sizes_fit words.now g)) (all (tops_fit words.now g))) }
 {
     let live = live_of(words, g);
-    if live < 1 {
-        return false;
-    }
-    if MOST_LIVE < live {
-        return false;
-    }
-    let first = nth_size(words, g, 0);
-    if words[MARK] < first.depth {
-        return false;
-    }
-    ((size_set(words, g) <= 1) & size_fit(g, next_size(words, g))) & pairs_fit(words, g, live)
+    (1..=MOST_LIVE).contains(&live)
+        && nth_size(words, g, 0).depth <= words[MARK]
+        && size_set(words, g) <= 1
+        && size_fit(g, next_size(words, g))
+        && pairs_fit(words, g, live)
 }
 
 // Whether the words of windows are fit, where the edition has them: a stack's are zero.
@@ -91,12 +70,12 @@ pub fn windows_fit(words: &[u32], g: Settings) -> bool
     requires g_in_bounds { needed g ≤ length words.now }
     ensures { result ≡ windows_fit words.now g }
 {
-    if is_windowed(g) {
-        if g.kind == 0 {
-            return sizes_fit(words, g);
-        }
-        let at = windows_at(g);
-        return zeros(words, at, at + WINDOWS_WORDS);
+    if !is_windowed(g) {
+        return true;
     }
-    true
+    if g.kind == 0 {
+        return sizes_fit(words, g);
+    }
+    let at = windows_at(g);
+    zeros(words, at, at + WINDOWS_WORDS)
 }

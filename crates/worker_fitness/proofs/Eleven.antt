@@ -1,21 +1,14 @@
 -- A worker of the shipped edition has eleven words, and is fit where each is: they are the tests of `worker_fit` in the order of the words.
-use Prim.Native.Nat.{ℕ, ◌+◌}
-use mathlib.Core.Path.{◌≡◌, refl, ap, ◌∙◌}
-use mathlib.Core.List.{List}
-use mathlib.Core.Bool.{Bool, true, false}
-use native.Mathlib.Nat.{le_refl, add-zero}
-use lib.Dec.{ltb, leb, eqb}
-use lib.ListN.{get_or}
-use borrow.Author.Tests.{le-leb}
+use Rattle.std.proofs.Common.{ℕ, ◌+◌, refl, ◌∙◌, List, Bool, true, false, le_refl, add-zero, ltb, leb, eqb, get_or, le-leb, ◌≡◌}
 use Rattle.laws.specs.Choice.{cond, both, all_below, all_below_none}
 use Rattle.worker_fitness.specs.Words.{word_fit}
 use Rattle.laws.specs.Looks.{all_step}
-use Rattle.worker_fitness.proofs.Places.{is_fit}
 use Rattle.limits.proofs.Shipped.{shipped_windowed}
 use Rattle.worker_fitness.proofs.Seen.{bound_of, unseen_fit, worker_by_width}
 use Rattle.rules.specs.Fit.{phase_fit, past_window, worker_fit}
 use Rattle.rules.specs.Limits.{windowed}
-use Rattle.rules.specs.Layout.{worker_at}
+use Rattle.rules.specs.Layout.{worker_words}
+use Rattle.rules.proofs.Workers.{windowed_is, words_two}
 use Rattle.rules.specs.Make.{shipped}
 use Rattle.rules.specs.Worker.{slot_at}
 use Rattle.rules.specs.declared.Settings.{Settings}
@@ -75,7 +68,11 @@ in_order g ws at late false f =
 pub words_fit : (g : Settings) (ws : List ℕ) (at : ℕ) → g.edition ≡ shipped → all_below 11 (word_is_fit g ws at) ≡ worker_fit g (slot_at g ws at)
 words_fit g ws at e = eleven (word_is_fit g ws at) ∙ in_order g ws at (shipped_windowed g e) (eqb g.kind 0) refl ∙ worker_by_width g (slot_at g ws at)
 
--- the same of worker i, at a place and with a width that were worked out before
-pub words_fit_at : (g : Settings) (ws : List ℕ) (i at width : ℕ) → g.edition ≡ shipped → at ≡ worker_at g i → width ≡ bound_of g (slot_at g ws at)
-    → all_below 11 (λ k. word_fit g width k (get_or ws (at + k) 0)) ≡ is_fit ws g i
-words_fit_at g ws i at width e here is = rw is (words_fit g ws at e) ∙ ap (λ (x : ℕ). worker_fit g (slot_at g ws x)) here
+-- the same with a width that was worked out before
+pub words_fit_by : (g : Settings) (ws : List ℕ) (at width : ℕ) → g.edition ≡ shipped → width ≡ bound_of g (slot_at g ws at)
+    → all_below 11 (λ k. word_fit g width k (get_or ws (at + k) 0)) ≡ worker_fit g (slot_at g ws at)
+words_fit_by g ws at width e is = rw is (words_fit g ws at e)
+
+-- a worker of the shipped edition has so many words
+pub eleven_words : (g : Settings) → g.edition ≡ shipped → worker_words g.edition ≡ 11
+eleven_words g e = words_two g.edition (windowed_is g (shipped_windowed g e))

@@ -1,10 +1,5 @@
 -- An idle worker whose index and scan lie below the pool's width is fit, if it has seen no window where it is a stack's.
-use Prim.Native.Nat.{ℕ, ◌<◌}
-use mathlib.Core.Path.{◌≡◌, refl, sym, ◌∙◌}
-use mathlib.Core.Bool.{Bool, true, false}
-use native.Mathlib.Nat.{le_refl}
-use lib.Dec.{ltb, leb, eqb}
-use borrow.Author.Tests.{lt-ltb, le-leb}
+use Rattle.std.proofs.Common.{ℕ, ◌<◌, refl, ◌∙◌, Bool, true, false, le_refl, ltb, leb, eqb, lt-ltb, le-leb, ◌≡◌, sym}
 use Rattle.laws.specs.Choice.{cond, both}
 use Rattle.rules.specs.Fit.{phase_fit, past_window, worker_fit}
 use Rattle.rules.specs.Windows.{has_windows}

@@ -3,10 +3,7 @@ use Rattle.rules.specs.declared.Settings.{Settings}
 use Rattle.rules.specs.Worker.{slot_at}
 use Rattle.rules.specs.Layout.{worker_at}
 use Rattle.rules.specs.Fit.{worker_fit}
-use mathlib.Core.Bool.{Bool}
-use mathlib.Core.List.{List}
-use mathlib.Core.Path.{◌≡◌, ap, ◌∙◌}
-use Prim.Native.Nat.{ℕ}
+use Rattle.std.proofs.Common.{Bool, List, ap, ◌∙◌, ℕ, ◌≡◌}
 
 -- whether worker i is fit
 abbrev pub is_fit : List ℕ → Settings → ℕ → Bool

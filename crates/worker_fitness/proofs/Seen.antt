@@ -1,12 +1,6 @@
--- A worker's index and scan lie below one width: that of the window that it has seen, where it has seen one, or the pool's. So one bound is asked for in place of
--- two, and it is at least 1 where the index lies below it.
-use Prim.Native.Nat.{ℕ, ◌≤◌, ◌<◌}
-use mathlib.Core.Path.{◌≡◌, refl, sym, ap}
-use mathlib.Core.Bool.{Bool, true, false}
-use native.Mathlib.Nat.{le_refl}
-use native.Mathlib.Omega.{arith}
-use lib.Dec.{ltb, leb, eqb}
-use borrow.Author.Tests.{le-leb, lt-ltb, leb-true, ltb-true}
+-- A worker's index and scan lie below one width: that of the window that it has seen, where it has seen one, or the pool's. So one bound is asked for in
+-- place of two, and it is at least 1 where the index lies below it.
+use Rattle.std.proofs.Common.{ℕ, ◌≤◌, ◌<◌, refl, ap, Bool, true, false, le_refl, ltb, leb, eqb, le-leb, lt-ltb, leb-true, ltb-true, ◌≡◌, sym, arith}
 use Rattle.laws.specs.Choice.{cond, both, both_false, both_one}
 use Rattle.rules.specs.Fit.{phase_fit, past_window, seen_fit, worker_fit}
 use Rattle.rules.specs.Limits.{windowed}

@@ -1,9 +1,9 @@
 // The workers: worker by worker, their words.
 #![tactic(auto)]
 
-ghost use Rattle.std.specs.Prelude.{true, ◌≡◌, ◌+◌, ◌≤◌, eqb, length};
+ghost use Rattle.std.specs.Prelude.{true, ◌≡◌, ℕ, Bool, ◌+◌, ◌<◌, ◌≤◌, eqb, length};
 ghost use Rattle.worker_fitness.specs.Words.{word_fit};
-ghost use Rattle.laws.specs.Choice.{cond, both, all_below};
+ghost use Rattle.laws.specs.Choice.{cond, both};
 ghost use Rattle.rules.specs.Fit.{phase_fit, past_window, worker_fit, workers_fit};
 ghost use Rattle.rules.specs.Layout.{needed, worker_at, worker_words};
 ghost use Rattle.rules.specs.Limits.{Bounds, windowed};
@@ -16,56 +16,47 @@ use queue_windows::has_windows;
 use rules::Settings;
 use rules::numbers::{
     COMMIT, CONFIRM, IDLE, READ, SHIFT, TAKE_COMMIT, TAKE_CONFIRM, TAKE_READ, TAKE_SHIFT,
-    TAKE_WINDOW, TAKING, WINDOW,
+    TAKE_WINDOW, WINDOW,
 };
 
-// Whether `x` is a phase of a queue: a match, which the compiler turns into one look at a word of bits.
+// The phases of a queue, a bit each.
+const QUEUE_PHASES: u32 = 1 << IDLE
+    | 1 << WINDOW
+    | 1 << READ
+    | 1 << COMMIT
+    | 1 << SHIFT
+    | 1 << TAKE_WINDOW
+    | 1 << TAKE_READ
+    | 1 << TAKE_COMMIT
+    | 1 << TAKE_SHIFT
+    | 1 << TAKE_CONFIRM;
+
+// Whether `x` is a phase of a queue: one look at the word of bits.
+#[tactic(auto, using(crate::proofs::Phases::queue_phases))]
 fn queue_phase_fit(x: u32) -> bool
     ensures { result ≡ phase_fit 0 x }
 {
-    match x {
-        IDLE => true,
-        WINDOW => true,
-        READ => true,
-        COMMIT => true,
-        SHIFT => true,
-        TAKE_WINDOW => true,
-        TAKE_READ => true,
-        TAKE_COMMIT => true,
-        TAKE_SHIFT => true,
-        TAKE_CONFIRM => true,
-        _ => false,
-    }
+    x <= TAKE_CONFIRM && QUEUE_PHASES >> x & 1 == 1
 }
 
 // Whether `x` is a phase of a pool of the kind.
+#[tactic(auto, using(crate::proofs::Phases::stack_phases))]
 fn phase_fit(kind: u32, x: u32) -> bool
     ensures { result ≡ phase_fit kind x }
 {
     if kind == 0 {
-        return queue_phase_fit(x);
+        queue_phase_fit(x)
+    } else {
+        matches!(x, IDLE..=CONFIRM | TAKE_WINDOW..=TAKE_CONFIRM)
     }
-    if TAKE_CONFIRM < x {
-        return false;
-    }
-    if CONFIRM < x {
-        if x <= TAKING {
-            return false;
-        }
-    }
-    true
 }
 
 // Whether a worker in phase `x` is past its window phase, and so has seen a window.
+#[tactic(auto, using(crate::proofs::Phases::window_phases))]
 pub fn past_window(x: u32) -> bool
     ensures { result ≡ past_window x }
 {
-    match x {
-        IDLE => false,
-        WINDOW => false,
-        TAKE_WINDOW => false,
-        _ => true,
-    }
+    !matches!(x, IDLE | WINDOW | TAKE_WINDOW)
 }
 
 // The width that index and scan of the worker at `at`, in phase `x`, lie below: that of the window that it has seen, or the pool's. The word is
@@ -88,15 +79,14 @@ fn stack_unseen(words: &[u32], g: Settings, at: usize) -> bool
     requires { at + worker_words g.edition ≤ length words.now }
     ensures { result ≡ cond (windowed g) (cond (eqb g.kind 0) true (both (eqb (slot_at g words.now at).bottom 0) (eqb (slot_at g words.now at).width 0))) true }
 {
-    if is_windowed(g) {
-        if g.kind != 0 {
-            return (words[at + BOTTOM] == 0) & (words[at + SEEN_WIDTH] == 0);
-        }
+    if !is_windowed(g) || g.kind == 0 {
+        return true;
     }
-    true
+    (words[at + BOTTOM] == 0) & (words[at + SEEN_WIDTH] == 0)
 }
 
-// Whether the worker at `at` is fit.
+// Whether the worker at `at` is fit: the tests are made together, so that no branch is on a worker's words.
+#[tactic(auto, using(rules::proofs::Workers::slot_within))]
 fn worker_fit(words: &[u32], g: Settings, at: usize) -> bool
     requires { at + worker_words g.edition ≤ length words.now }
     ensures { result ≡ worker_fit g (slot_at g words.now at) }
@@ -107,38 +97,31 @@ fn worker_fit(words: &[u32], g: Settings, at: usize) -> bool
     phase_fit(g.kind, x) & ((width <= g.width) & (inside & stack_unseen(words, g, at)))
 }
 
-// Whether the worker at `at` is idle and fit.
+// Whether the worker at `at` is idle and fit: the tests are made together, so that one branch is on an idle worker's words.
+#[tactic(auto, using(rules::proofs::Workers::slot_within))]
 fn idle_fit(words: &[u32], g: Settings, at: usize) -> bool
     requires { at + worker_words g.edition ≤ length words.now }
     ensures { result ≡ true → worker_fit g (slot_at g words.now at) ≡ true }
 {
-    if words[at] != IDLE {
-        return false;
-    }
-    if words[at + INDEX] < g.width {
-        if words[at + SCAN] < g.width {
-            return stack_unseen(words, g, at);
-        }
-    }
-    false
+    let inside = (words[at + INDEX] < g.width) & (words[at + SCAN] < g.width);
+    (words[at] == IDLE) & inside & stack_unseen(words, g, at)
 }
 
-// The first worker from `first` on that is not idle and fit, or how many there are. The idle ones, which are many as a rule, are passed in a short loop.
-fn not_idle_from(words: &[u32], g: Settings, first: u32) -> u32
+// Whether every worker is fit, by a test of one at a place. An idle one, of which there are many as a rule, is told by few of its words.
+fn each_fit<F: Fn(usize) -> bool>(words: &[u32], g: Settings, fit: F) -> bool
     requires bounds { Bounds g }
-    requires g_in_bounds { (needed g ≤ length words.now) × (first ≤ g.workers) }
-    ensures { (first ≤ result) × (result ≤ g.workers) × (all_below first (λ i. worker_fit g (slot_at g words.now (worker_at g i))) ≡ true → all_below result (λ i. worker_fit g (slot_at g words.now (worker_at g i))) ≡ true) }
+    requires g_in_bounds { needed g ≤ length words.now }
+    requires callable { (i : ℕ) → i < g.workers → F.pre fit (worker_at g i) }
+    requires tells { (i : ℕ) (r : Bool) → i < g.workers → F.post fit (worker_at g i) r → r ≡ worker_fit g (slot_at g words.now (worker_at g i)) }
+    ensures { result ≡ workers_fit words.now g }
 {
-    let n = g.workers;
-    let mut i = first;
-    while i < n {
-        if idle_fit(words, g, worker_at(g, i)) {
-            i += 1;
-        } else {
-            return i;
+    for i in 0..g.workers {
+        let at = worker_at(g, i);
+        if !idle_fit(words, g, at) && !fit(at) {
+            return false;
         }
     }
-    i
+    true
 }
 
 // Whether every worker is fit, in any edition.
@@ -147,41 +130,30 @@ pub fn workers_fit(words: &[u32], g: Settings) -> bool
     requires g_in_bounds { needed g ≤ length words.now }
     ensures { result ≡ workers_fit words.now g }
 {
-    let n = g.workers;
-    let mut i = not_idle_from(words, g, 0);
-    while i < n {
-        if worker_fit(words, g, worker_at(g, i)) {
-            i = not_idle_from(words, g, i + 1);
-        } else {
-            return false;
-        }
-    }
-    true
+    each_fit(words, g, |at| worker_fit(words, g, at))
 }
 
 // Whether word `k` of a worker is fit, whose index and scan lie below a width.
+#[tactic(auto, using(laws::specs::Tests::tests), unfolding(crate::specs::Words::word_fit, laws::specs::Choice::cond))]
 fn word_fit(g: Settings, width: u32, k: usize, x: u32) -> bool
     ensures { result ≡ word_fit g width k x }
 {
-    if k == PHASE {
-        return phase_fit(g.kind, x);
+    match k {
+        PHASE => phase_fit(g.kind, x),
+        INDEX | SCAN => x < width,
+        SEEN_WIDTH if g.kind == 0 => width <= g.width,
+        BOTTOM.. if g.kind != 0 => x == 0,
+        _ => true,
     }
-    if k == INDEX {
-        return x < width;
-    }
-    if k == SCAN {
-        return x < width;
-    }
-    if g.kind == 0 {
-        if k == SEEN_WIDTH {
-            return width <= g.width;
-        }
-        return true;
-    }
-    if k < BOTTOM {
-        return true;
-    }
-    x == 0
+}
+
+// Whether every word of the worker at `at` is fit, in the shipped edition.
+fn words_fit(words: &[u32], g: Settings, at: usize) -> bool
+    requires { (at + worker_words g.edition ≤ length words.now) × (g.edition ≡ shipped) }
+    ensures { result ≡ worker_fit g (slot_at g words.now at) }
+{
+    let width = width_of(words, g, at, words[at]);
+    (0..WORKER_WORDS).all(|k| word_fit(g, width, k, words[at + k]))
 }
 
 // Whether every word of every worker is fit, in the shipped edition.
@@ -190,22 +162,5 @@ pub fn every_fit(words: &[u32], g: Settings) -> bool
     requires g_in_bounds { (needed g ≤ length words.now) × (g.edition ≡ shipped) }
     ensures { result ≡ workers_fit words.now g }
 {
-    let n = g.workers;
-    let mut fit = true;
-    let mut i = not_idle_from(words, g, 0);
-    'workers: while i < n {
-        let at = worker_at(g, i);
-        let width = width_of(words, g, at, words[at]);
-        let mut k: usize = 0;
-        while k < WORKER_WORDS {
-            let x = words[at + k];
-            if !word_fit(g, width, k, x) {
-                fit = false;
-                break 'workers;
-            }
-            k += 1;
-        }
-        i = not_idle_from(words, g, i + 1);
-    }
-    fit
+    each_fit(words, g, |at| words_fit(words, g, at))
 }

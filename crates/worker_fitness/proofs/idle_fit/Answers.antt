@@ -1,21 +1,16 @@
 -- `worker_fitness::idle_fit` meets its contract: an idle worker has seen no window, and a stack's has no words of one.
-use mathlib.Core.Path.{sym, ◌∙◌}
-use native.Mathlib.Omega.{arith}
+use Rattle.std.proofs.Common.{eqb-true, ltb-true, sym, ◌∙◌}
+use Rattle.laws.specs.Choice.{both_true}
+use Rattle.laws.specs.Looks.{and_both}
 use Rattle.rules.specs.Worker.{slot_at}
-use Rattle.rules.proofs.Workers.{slot_within}
 use Rattle.worker_fitness.proofs.Idle.{idle_fits}
 use Rattle.worker_fitness.proofs.idle_fit.Goals as goal
 
-pub bounds-words-at : goal.bounds-words-at
-bounds-words-at c = omega (arith, slot_within c.args.g.edition, c.requires)
-
-pub bounds-words-at-2 : goal.bounds-words-at-2
-bounds-words-at-2 c = omega (arith, slot_within c.args.g.edition, c.requires)
-
-pub bounds-words-at-then-words-at : goal.bounds-words-at-then-words-at
-bounds-words-at-then-words-at c = omega (arith, slot_within c.args.g.edition, c.requires)
-
-pub returns-then-words-at-2 : goal.returns-then-words-at-2
+pub returns : goal.returns
 unfolding slot_at
-returns-then-words-at-2 c =
-    λ e. idle_fits c.args.g _ c.if-words-at-ne-IDLE.false c.if-words-at.true c.if-words-at-2.true (sym c.stack_unseen.ensures ∙ e)
+returns c =
+    λ e.
+    let all = both_true _ _ (simp and_both at e) in
+    let own = both_true _ _ all.0 in
+    let inside = both_true _ _ own.1 in
+    idle_fits c.args.g _ (eqb-true _ _ own.0) (ltb-true _ _ inside.0) (ltb-true _ _ inside.1) (sym c.stack_unseen.ensures ∙ all.1)

@@ -3,31 +3,27 @@ use Rattle.laws.specs.Looks.{and_both}
 use Rattle.rules.proofs.Workers.{windowed_is, words_two}
 use Rattle.rules.specs.Worker.{slot_at}
 use Rattle.laws.specs.Choice.{cond}
-use borrow.Author.Tests.{eq-eqb, ne_eqb}
-use native.Mathlib.Omega.{arith}
-use mathlib.Core.Path.{refl, sym, ◌∙◌}
+use Rattle.laws.specs.Tests.{tests}
+use Rattle.std.proofs.Common.{refl, ◌∙◌, ne_eqb}
+use Rattle.std.proofs.Common.{sym, arith}
 use Rattle.worker_fitness.proofs.stack_unseen.Goals as goal
 
 pub bounds-words-at : goal.bounds-words-at
 bounds-words-at c =
-    let has = sym c.is_windowed.ensures ∙ c.if-is_windowed.true in
+    let has = sym c.is_windowed.ensures ∙ c.if-not-is_windowed.false in
     omega (arith, words_two _ (windowed_is c.args.g has), c.requires)
 
-pub bounds-words-at-then-g-ne0 : goal.bounds-words-at-then-g-ne0
-bounds-words-at-then-g-ne0 c =
-    let has = sym c.is_windowed.ensures ∙ c.if-is_windowed.true in
+pub bounds-words-at-2 : goal.bounds-words-at-2
+bounds-words-at-2 c =
+    let has = sym c.is_windowed.ensures ∙ c.if-not-is_windowed.false in
     omega (arith, words_two _ (windowed_is c.args.g has), c.requires)
 
-pub returns-then-g-ne0 : goal.returns-then-g-ne0
+pub returns-then-not-is_windowed : goal.returns-then-not-is_windowed
+unfolding cond
+returns-then-not-is_windowed c = grind (arith, tests)
+
+pub returns : goal.returns
 unfolding slot_at cond
-returns-then-g-ne0 c =
-    simp and_both
-    (rw (sym c.is_windowed.ensures ∙ c.if-is_windowed.true, ne_eqb _ _ c.if-g-ne0.true) refl)
-
-pub returns-else-g-ne0 : goal.returns-else-g-ne0
-unfolding cond
-returns-else-g-ne0 c = rw (sym c.is_windowed.ensures ∙ c.if-is_windowed.true, eq-eqb _ _ c.if-g-ne0.false) refl
-
-pub returns-else-is_windowed : goal.returns-else-is_windowed
-unfolding cond
-returns-else-is_windowed c = rw (sym c.is_windowed.ensures ∙ c.if-is_windowed.false) refl
+returns c =
+    let has = sym c.is_windowed.ensures ∙ c.if-not-is_windowed.false in
+    simp and_both (rw (has, ne_eqb _ _ c.if-g-eq0.false) refl)

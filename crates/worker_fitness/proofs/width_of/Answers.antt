@@ -1,14 +1,9 @@
 -- `worker_fitness::width_of` meets its contract: the edition, the kind and the phase pick the same branch of the choice.
-use lib.Dec.{eqb}
-use mathlib.Core.Path.{◌≡◌}
+use Rattle.std.proofs.Common.{eqb, refl, true, ◌∙◌, ◌≡◌, arith, sym}
 use Rattle.rules.specs.Limits.{windowed}
-use mathlib.Core.Path.{refl}
-use native.Mathlib.Omega.{arith}
 use Rattle.rules.proofs.Workers.{windowed_is, words_two}
 use Rattle.rules.specs.Worker.{slot_at}
 use Rattle.laws.specs.Choice.{cond, both_true}
-use mathlib.Core.Bool.{true}
-use mathlib.Core.Path.{sym, ◌∙◌}
 use Rattle.worker_fitness.proofs.width_of.Goals as goal
 
 pub bounds-words-at : goal.bounds-words-at

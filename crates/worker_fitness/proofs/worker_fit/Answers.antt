@@ -1,19 +1,8 @@
 -- `worker_fitness::worker_fit` meets its contract: its tests, over one width, are the list's.
 use Rattle.worker_fitness.proofs.Seen.{worker_by_width}
 use Rattle.laws.specs.Looks.{and_both}
-use Rattle.rules.proofs.Workers.{slot_within}
 use Rattle.rules.specs.Worker.{slot_at}
-use native.Mathlib.Omega.{arith}
 use Rattle.worker_fitness.proofs.worker_fit.Goals as goal
-
-pub bounds-words-at : goal.bounds-words-at
-bounds-words-at c = omega (arith, slot_within c.args.g.edition, c.requires)
-
-pub bounds-words-at-2 : goal.bounds-words-at-2
-bounds-words-at-2 c = omega (arith, slot_within c.args.g.edition, c.requires)
-
-pub bounds-words-at-3 : goal.bounds-words-at-3
-bounds-words-at-3 c = omega (arith, slot_within c.args.g.edition, c.requires)
 
 pub returns : goal.returns
 unfolding slot_at

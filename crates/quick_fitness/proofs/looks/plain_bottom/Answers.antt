@@ -1,16 +1,12 @@
 -- `quick_fitness::looks::plain_bottom` meets its contract: T minus the depth, and where that would be below 0 or in a stack, 0.
 use Rattle.quick_fitness.specs.Plain.{plain_bottom}
 use Rattle.laws.specs.Choice.{cond}
-use Rattle.std.proofs.Common.{refl, arith, eq-eqb, ne_eqb}
+use Rattle.std.proofs.Common.{refl, eq-eqb, ne_eqb}
 use Rattle.quick_fitness.proofs.looks.plain_bottom.Goals as goal
 
-pub returns-then-g-mark : goal.returns-then-g-mark
+pub returns-then-g-eq0 : goal.returns-then-g-eq0
 unfolding plain_bottom cond
-returns-then-g-mark c = rw (eq-eqb _ _ c.if-g-eq0.true) refl
-
-pub returns-else-g-mark : goal.returns-else-g-mark
-unfolding plain_bottom cond
-returns-else-g-mark c = rw (eq-eqb _ _ c.if-g-eq0.true) (omega arith)
+returns-then-g-eq0 c = rw (eq-eqb _ _ c.if-g-eq0.true) c.saturating_sub.ensures
 
 pub returns-else-g-eq0 : goal.returns-else-g-eq0
 unfolding plain_bottom cond

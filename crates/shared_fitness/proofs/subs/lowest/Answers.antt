@@ -13,6 +13,6 @@ pub returns-then-has_windows : goal.returns-then-has_windows
 unfolding cond
 returns-then-has_windows c = c.take_bottom.ensures ∙ rw (sym c.has_windows.ensures ∙ c.if-has_windows.true) refl
 
-pub returns : goal.returns
+pub returns-else-has_windows : goal.returns-else-has_windows
 unfolding cond
-returns c = rw (sym c.has_windows.ensures ∙ c.if-has_windows.false) refl
+returns-else-has_windows c = rw (sym c.has_windows.ensures ∙ c.if-has_windows.false) refl

@@ -1,5 +1,5 @@
--- `shared_fitness::subs::queue_fit` meets its contract: where the last put row is above the level, the wrapped difference is how far, less 1; else it is above every number of 32
--- bits.
+-- `shared_fitness::subs::queue_fit` meets its contract: where the last put row is above the level, the wrapped difference is how far, less 1; else it is
+-- above every number of 32 bits.
 use Rattle.rules.specs.declared.Settings.{Settings}
 use Rattle.rules.specs.Windows.{level_of}
 use Rattle.rules.specs.Fit.{above_by, queue_sub_fit}
@@ -17,10 +17,13 @@ queue_by g bottom put taken above {level} e f = go (eqb put taken) refl
     go true h = refl
     go false h = f ∙ ap (above_by g.rows put) e
 
-wraps_above : (rows put level above : ℕ) → rows < 2 ^ 32 → put < 2 ^ 32 → level < 2 ^ 32 → above < 2 ^ 64 → (above + (level + 1)) % 2 ^ 64 ≡ put
-    → ltb above rows ≡ above_by rows put level
-wraps_above rows put level above a b c d e = go (ltb level put) refl
+wraps_above : (rows put level : ℕ) → rows < 2 ^ 32 → put < 2 ^ 32 → level < 2 ^ 32
+    → ltb ((put + (2 ^ 64 - (level + 1))) % 2 ^ 64) rows ≡ above_by rows put level
+wraps_above rows put level a b c = go (ltb level put) refl
   where
+    above : ℕ
+    above = (put + (2 ^ 64 - (level + 1))) % 2 ^ 64
+
     within : level < put → (t : Bool) → leb (put - level) rows ≡ t → ltb above rows ≡ t
     within l true h = lt-ltb above rows (omega (arith, leb-true (put - level) rows h))
     within l false h = le-ltb above rows (omega (arith, leb-false (put - level) rows h))
@@ -32,4 +35,4 @@ wraps_above rows put level above a b c d e = go (ltb level put) refl
 pub returns : goal.returns
 returns c =
     let a = c.args in
-    queue_by a.g a.bottom a.put a.taken c.wrapping_sub_u64-above.result c.level_of-level.ensures (search (wraps_above, rules))
+    rw (c.from.ensures, c.from-2.ensures, c.from-3.ensures) (queue_by a.g a.bottom a.put a.taken _ c.level_of-level.ensures (wraps_above a.g.rows a.put c.level_of-level.result (search rules) (search rules) (search rules)))

@@ -8,6 +8,6 @@ pub returns-then-g-eq0 : goal.returns-then-g-eq0
 unfolding sub_fit cond
 returns-then-g-eq0 c = rw (eq-eqb _ _ c.if-g-eq0.true) (c.queue_fit.ensures ∙ simp (c.sub_of-sub.ensures.0, c.sub_of-sub.ensures.1))
 
-pub returns : goal.returns
+pub returns-else-g-eq0 : goal.returns-else-g-eq0
 unfolding sub_fit cond
-returns c = rw (ne_eqb _ _ c.if-g-eq0.false) (simp c.sub_of-sub-2.ensures.0)
+returns-else-g-eq0 c = rw (ne_eqb _ _ c.if-g-eq0.false) (simp c.sub_of.ensures.0)

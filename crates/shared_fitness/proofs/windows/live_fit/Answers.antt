@@ -1,10 +1,11 @@
--- `shared_fitness::windows::live_fit` meets its contract: each window gone through is within limits, and the top so far is the bottom of the next. Sums of 64 bits do not wrap.
+-- `shared_fitness::windows::live_fit` meets its contract: each window gone through is within limits, and the top so far is the bottom of the next. Sums of
+-- 64 bits do not wrap.
 use Rattle.rules.specs.declared.Size.{Size}
 use Rattle.rules.specs.declared.Settings.{Settings}
 use Rattle.rules.specs.Windows.{nth_size, bottom_of}
 use Rattle.rules.specs.Limits.{size_fit}
 use Rattle.laws.specs.Choice.{all_below_fails, all_below_more, all_below_none}
-use Rattle.std.proofs.Common.{◌≡◌, ℕ, ◌+◌, ◌-◌, Bool, true, false, List, sym, refl, ap, ◌∙◌, add-one, arith, rules}
+use Rattle.std.proofs.Common.{◌≡◌, ℕ, ◌+◌, Bool, List, sym, refl, ap, ◌∙◌, add-one, arith, rules}
 use Rattle.shared_fitness.proofs.windows.live_fit.Goals as goal
 
 -- whether the size of window k is within limits
@@ -16,7 +17,7 @@ unfolding bottom_of
 next_bottom ws g k = rw (add-one k) refl
 
 pub loop-k-init : goal.loop-k-init
-loop-k-init c = (search rules, search rules, all_below_none _, c.take_bottom-top.ensures)
+loop-k-init c = (search rules, all_below_none _, c.from-top.ensures ∙ c.take_bottom.ensures)
 
 pub loop-k-preserved : goal.loop-k-preserved
 loop-k-preserved c =
@@ -24,14 +25,13 @@ loop-k-preserved c =
     let a = c.args in
     let size = c.nth_size-size.ensures in (
       omega arith,
-      omega arith,
-      all_below_more l.k (is_fit a.words.now a.g) l.invariant.2 (ap (size_fit a.g) (sym size) ∙ sym c.size_fit.ensures ∙ c.if-size_fit.true),
-      omega (arith, l.invariant.3, next_bottom a.words.now a.g l.k, ap (λ (s : Size). s.depth) size),
+      all_below_more l.k (is_fit a.words.now a.g) l.invariant.1 (ap (size_fit a.g) (sym size) ∙ sym c.size_fit.ensures ∙ c.if-not-size_fit.false),
+      omega (arith, l.invariant.2, next_bottom a.words.now a.g l.k, ap (λ (s : Size). s.depth) size),
     )
 
-pub returns-else-size_fit : goal.returns-else-size_fit
-returns-else-size_fit c =
+pub returns-then-not-size_fit : goal.returns-then-not-size_fit
+returns-then-not-size_fit c =
     let l = c.loop-k in
     let a = c.args in
-    let unfit = ap (size_fit a.g) (sym c.nth_size-size.ensures) ∙ sym c.size_fit.ensures ∙ c.if-size_fit.false in
+    let unfit = ap (size_fit a.g) (sym c.nth_size-size.ensures) ∙ sym c.size_fit.ensures ∙ c.if-not-size_fit.true in
     sym (rw (all_below_fails a.live (is_fit a.words.now a.g) l.k c.loop-k-test.true unfit) refl)

@@ -1,11 +1,12 @@
--- `shared_fitness::windows::windows_fit` meets its contract: the edition and the kind pick the same branch of `windows_fit`, and an edition without windows has no words to ask.
+-- `shared_fitness::windows::windows_fit` meets its contract: the edition and the kind pick the same branch of `windows_fit`, and an edition without windows
+-- has no words to ask.
 use Rattle.shared_fitness.proofs.Stacks.{stack_windows}
 use Rattle.rules.proofs.Workers.{windowed_is, windowed_not, windows_none, windows_some}
 use Rattle.rules.specs.declared.Settings.{Settings}
 use Rattle.rules.specs.Limits.{windowed}
 use Rattle.rules.specs.Fit.{windows_fit}
 use Rattle.laws.specs.Choice.{cond, all_below_none}
-use Rattle.std.proofs.Common.{◌≡◌, ℕ, ◌-◌, true, false, List, sym, refl, ◌∙◌, arith, eq-eqb, ne_eqb}
+use Rattle.std.proofs.Common.{◌≡◌, ℕ, true, false, List, sym, refl, ◌∙◌, arith, eq-eqb, ne_eqb}
 use Rattle.shared_fitness.proofs.windows.windows_fit.Goals as goal
 
 -- none of an edition that has no windows
@@ -15,22 +16,22 @@ none_by ws g old = rw (old, windows_none g.edition (windowed_not g old)) (all_be
 
 pub sizes_fit-requires-clause-most_live_in_bounds : goal.sizes_fit-requires-clause-most_live_in_bounds
 sizes_fit-requires-clause-most_live_in_bounds c =
-    let has = sym c.is_windowed.ensures ∙ c.if-is_windowed.true in omega (arith, c.requires.g_in_bounds, windows_some _ (windowed_is c.args.g has))
+    let has = sym c.is_windowed.ensures ∙ c.if-not-is_windowed.false in omega (arith, c.requires.g_in_bounds, windows_some _ (windowed_is c.args.g has))
 
 pub returns-then-g-eq0 : goal.returns-then-g-eq0
 unfolding windows_fit cond
-returns-then-g-eq0 c = c.sizes_fit.ensures ∙ rw (sym c.is_windowed.ensures ∙ c.if-is_windowed.true, eq-eqb _ _ c.if-g-eq0.true) refl
+returns-then-g-eq0 c = c.sizes_fit.ensures ∙ rw (sym c.is_windowed.ensures ∙ c.if-not-is_windowed.false, eq-eqb _ _ c.if-g-eq0.true) refl
 
 pub zeros-requires : goal.zeros-requires
 zeros-requires c =
-    let has = sym c.is_windowed.ensures ∙ c.if-is_windowed.true in
+    let has = sym c.is_windowed.ensures ∙ c.if-not-is_windowed.false in
     omega (arith, c.requires.g_in_bounds, windows_some _ (windowed_is c.args.g has), c.windows_at-at.ensures)
 
-pub returns-then-is_windowed : goal.returns-then-is_windowed
-returns-then-is_windowed c =
+pub returns : goal.returns
+returns c =
     let a = c.args in
-    let has = sym c.is_windowed.ensures ∙ c.if-is_windowed.true in
+    let has = sym c.is_windowed.ensures ∙ c.if-not-is_windowed.false in
     c.zeros.ensures ∙ stack_windows a.words.now a.g c.windows_at-at.ensures has (ne_eqb _ _ c.if-g-eq0.false)
 
-pub returns : goal.returns
-returns c = let a = c.args in sym (none_by a.words.now a.g (sym c.is_windowed.ensures ∙ c.if-is_windowed.false))
+pub returns-then-not-is_windowed : goal.returns-then-not-is_windowed
+returns-then-not-is_windowed c = let a = c.args in sym (none_by a.words.now a.g (sym c.is_windowed.ensures ∙ c.if-not-is_windowed.true))
