@@ -22,4 +22,4 @@ shown_ends m ws p (End fault) = end_ends m p.tally p.position fault ws
 
 pub returns-clause-out_after : goal.returns-clause-out_after
 unfolding stretch_turn
-returns-clause-out_after c = simp (← c.turn_of-t.ensures, shown_ends, c.ends.ensures, c.append_output-used.ensures.0, c.append_output-used.ensures.1)
+returns-clause-out_after c = simp (← c.turn_of-output.ensures, shown_ends, c.ends.ensures, c.append_output-used.ensures.end, c.append_output-used.ensures.text_put)
