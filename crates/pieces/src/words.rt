@@ -1,65 +1,67 @@
 // The words of lent bytes, a turn for each, and what the turns print as text in lent output.
 ghost use Rattle.std.specs.Prelude.{◌≡◌, ◌+◌, ◌<◌, ◌≤◌, ◌^◌, length};
+ghost use Rattle.lines.specs.Area.{line_bytes};
+ghost use Rattle.lines.specs.Lines.{line_of, numbers_of};
 ghost use Rattle.printing.specs.Printings.{printed_text};
 ghost use Rattle.turns.specs.Turn.{shown};
 ghost use Rattle.pieces.specs.Stretch.{turn_bytes, put_at, stretched, stretch_turn, stretch_of};
 
 use crate::stretch::{Stretch, goes_on, turns_in};
-use lines::{LINE_BYTES, SUMMARY_BYTES, closing_text, entry_text, summary_text};
+use lines::{Entry, LINE_BYTES, SUMMARY_BYTES, closing_text, entry_text, summary_text};
 use printing::{Mode, Output, Printed, ends, print_end};
 use turns::{Printer, Turn, turn_of};
 
-// Puts a text into the output at `used`; where it ends.
-fn append(out: &mut [u8], used: usize, text: &[u8]) -> usize
-    requires { used + length text.now ≤ length out.old }
-    ensures end { result ≡ used + length text.now }
-    ensures text_put { out.new ≡ put_at out.old used text.now }
+// Puts a text at the start of `room`; how many bytes it has.
+fn append(room: &mut [u8], text: &[u8]) -> usize
+    requires { length text.now ≤ length room.old }
+    ensures bytes { result ≡ length text.now }
+    ensures text { room.new ≡ put_at room.old 0 text.now }
 {
-    let end = used + text.len();
-    out[used..end].copy_from_slice(text);
-    end
+    room[..text.len()].copy_from_slice(text);
+    text.len()
 }
 
-// Puts what is printed into the output at `used`; where it ends.
-fn append_printed(out: &mut [u8], used: usize, printed: Printed) -> usize
-    requires { used + turn_bytes ≤ length out.old }
-    ensures end { result ≡ used + length (printed_text printed) }
-    ensures text_put { out.new ≡ put_at out.old used (printed_text printed) }
-    ensures inside { result ≤ length out.old }
+// Puts there the line of an entry.
+fn append_line(room: &mut [u8], e: Entry) -> usize
+    requires { line_bytes ≤ length room.old }
+    ensures bytes { result ≡ length (line_of (numbers_of e)) }
+    ensures text { room.new ≡ put_at room.old 0 (line_of (numbers_of e)) }
+    ensures inside { result ≤ line_bytes }
+{
+    append(room, entry_text(&mut [0; LINE_BYTES], e))
+}
+
+// Puts there what is printed.
+fn append_printed(room: &mut [u8], printed: Printed) -> usize
+    requires { turn_bytes ≤ length room.old }
+    ensures bytes { result ≡ length (printed_text printed) }
+    ensures text { room.new ≡ put_at room.old 0 (printed_text printed) }
+    ensures inside { result ≤ turn_bytes }
 {
     match printed {
-        Printed::Nothing => used,
-        Printed::Line(e) | Printed::Last(e) => {
-            append(out, used, entry_text(&mut [0; LINE_BYTES], e))
-        }
+        Printed::Nothing => 0,
+        Printed::Line(e) | Printed::Last(e) => append_line(room, e),
         Printed::Closing { held, worst } => {
-            append(out, used, closing_text(&mut [0; LINE_BYTES], held, worst))
+            append(room, closing_text(&mut [0; LINE_BYTES], held, worst))
         }
-        Printed::Totals(s) => append(out, used, summary_text(&mut [0; SUMMARY_BYTES], s)),
+        Printed::Totals(s) => append(room, summary_text(&mut [0; SUMMARY_BYTES], s)),
     }
 }
 
-// Puts what a turn prints there. What is printed of the file's end is made here, from what the printer counted.
-fn append_output(
-    words: &[u32],
-    mode: Mode,
-    p: Printer,
-    out: &mut [u8],
-    used: usize,
-    x: Output,
-) -> usize
-    requires { used + turn_bytes ≤ length out.old }
-    ensures end { result ≡ used + length (printed_text (shown mode words.now p x)) }
-    ensures text_put { out.new ≡ put_at out.old used (printed_text (shown mode words.now p x)) }
-    ensures inside { result ≤ length out.old }
+// Puts there what a turn prints. What is printed of the file's end is made here, from what the printer counted.
+fn append_output(room: &mut [u8], words: &[u32], mode: Mode, p: Printer, x: Output) -> usize
+    requires { turn_bytes ≤ length room.old }
+    ensures bytes { result ≡ length (printed_text (shown mode words.now p x)) }
+    ensures text { room.new ≡ put_at room.old 0 (printed_text (shown mode words.now p x)) }
+    ensures inside { result ≤ turn_bytes }
 {
-    let printed = match x {
-        Output::Quiet => return used,
-        Output::Line(e) => Printed::Line(e),
-        Output::Last(e) => Printed::Last(e),
-        Output::End(fault) => print_end(words, mode, p.tally, p.position, fault),
-    };
-    append_printed(out, used, printed)
+    match x {
+        Output::Quiet => 0,
+        Output::Line(e) | Output::Last(e) => append_line(room, e),
+        Output::End(fault) => {
+            append_printed(room, print_end(words, mode, p.tally, p.position, fault))
+        }
+    }
 }
 
 // One turn.
@@ -70,11 +72,11 @@ fn turn(words: &mut [u32], mode: Mode, s: Stretch, src: &[u8], out: &mut [u8]) -
     ensures used_in_bounds { result.used ≤ length out.old }
 {
     let Turn { printer, output } = turn_of(words, mode, s.printer, src, s.at);
-    let used = append_output(words, mode, printer, out, s.used, output);
+    let bytes = append_output(&mut out[s.used..], words, mode, printer, output);
     Stretch {
         printer,
         at: s.at + 1,
-        used,
+        used: s.used + bytes,
         complete: ends(output),
     }
 }

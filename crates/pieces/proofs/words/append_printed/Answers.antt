@@ -4,30 +4,28 @@ use Rattle.laws.specs.Choice.{cond}
 use Rattle.lines.specs.Area.{used_part}
 use Rattle.pieces.proofs.words.append_printed.Goals as goal
 
-pub returns-in-Closing-clause-end : goal.returns-in-Closing-clause-end
+pub returns-in-Closing-clause-bytes : goal.returns-in-Closing-clause-bytes
 unfolding used_part cond
-returns-in-Closing-clause-end c = rw c.in-Closing.is (rw c.closing_text.ensures.text at c.append.ensures.end)
+returns-in-Closing-clause-bytes c = rw c.in-Closing.is (rw c.closing_text.ensures.text at c.append.ensures.bytes)
 
-pub returns-in-Closing-clause-text_put : goal.returns-in-Closing-clause-text_put
+pub returns-in-Closing-clause-text : goal.returns-in-Closing-clause-text
 unfolding used_part cond
-returns-in-Closing-clause-text_put c = rw c.in-Closing.is (rw c.closing_text.ensures.text at c.append.ensures.text_put)
+returns-in-Closing-clause-text c = rw c.in-Closing.is (rw c.closing_text.ensures.text at c.append.ensures.text)
 
-pub returns-in-Totals-clause-end : goal.returns-in-Totals-clause-end
+pub returns-in-Totals-clause-bytes : goal.returns-in-Totals-clause-bytes
 unfolding used_part cond
-returns-in-Totals-clause-end c = rw c.in-Totals.is (rw c.summary_text.ensures.text at c.append-in-Totals.ensures.end)
+returns-in-Totals-clause-bytes c = rw c.in-Totals.is (rw c.summary_text.ensures.text at c.append-in-Totals.ensures.bytes)
 
-pub returns-in-Totals-clause-text_put : goal.returns-in-Totals-clause-text_put
+pub returns-in-Totals-clause-text : goal.returns-in-Totals-clause-text
 unfolding used_part cond
-returns-in-Totals-clause-text_put c = rw c.in-Totals.is (rw c.summary_text.ensures.text at c.append-in-Totals.ensures.text_put)
+returns-in-Totals-clause-text c = rw c.in-Totals.is (rw c.summary_text.ensures.text at c.append-in-Totals.ensures.text)
 
-pub returns-in-Line-clause-end : goal.returns-in-Line-clause-end
-unfolding used_part cond
-returns-in-Line-clause-end c =
-    let end = rw c.entry_text.ensures.text at c.append-in-Line.ensures.end in
-    elim c.in-Line.is [ inl line ↦ rw line end | inr last ↦ rw last end ]
+pub returns-in-Line-clause-bytes : goal.returns-in-Line-clause-bytes
+returns-in-Line-clause-bytes c =
+    let bytes = c.append_line.ensures.bytes in
+    elim c.in-Line.is [ inl line ↦ rw line bytes | inr last ↦ rw last bytes ]
 
-pub returns-in-Line-clause-text_put : goal.returns-in-Line-clause-text_put
-unfolding used_part cond
-returns-in-Line-clause-text_put c =
-    let put = rw c.entry_text.ensures.text at c.append-in-Line.ensures.text_put in
-    elim c.in-Line.is [ inl line ↦ rw line put | inr last ↦ rw last put ]
+pub returns-in-Line-clause-text : goal.returns-in-Line-clause-text
+returns-in-Line-clause-text c =
+    let text = c.append_line.ensures.text in
+    elim c.in-Line.is [ inl line ↦ rw line text | inr last ↦ rw last text ]
