@@ -1,4 +1,5 @@
 pub mod Area
+pub mod Behind
 pub mod Decimal
 pub mod Lines
 pub mod Templates

@@ -1,10 +1,5 @@
 -- Every summary fits its area: its template has as many marks as numbers, and each number has at most 20 digits.
-use Prim.Native.Nat.{◌^◌, ◌<◌, ◌≤◌}
-use mathlib.Core.List.{List, [], ◌∷◌}
-use mathlib.Core.Path.{◌≡◌, refl}
-use native.Mathlib.Omega.{arith}
-use lib.Dec.{eqb}
-use lib.ListN.{length, length-append}
+use Rattle.std.proofs.Common.{◌≡◌, ◌^◌, ◌<◌, ◌≤◌, List, [], ◌∷◌, eqb, length, refl, arith, length-append}
 use Rattle.laws.specs.Choice.{cond, cases}
 use Rattle.lines.specs.Templates.{marks, filled}
 use Rattle.lines.specs.Summary.{faulty_text, counts_text, counts_of, first_line, counts_lines, summary_text, first_line_bytes, summary_bytes}

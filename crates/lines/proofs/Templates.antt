@@ -1,21 +1,16 @@
--- A filled template from one of its bytes on: the byte, or the number that its mark stands for, and the text from the next byte on (`at_byte`, `at_mark`);
--- never longer than the whole (`part_most`), and at most 20 bytes for each number longer than the template (`filled_most`). So an area with room for the
--- whole has it for each byte and number in turn, from the last one on (`put_mark`, `put_plain`).
-use Prim.Native.Nat.{ℕ, zero, suc, ◌+◌, ◌*◌, ◌-◌, ◌^◌, ◌<◌, ◌≤◌}
-use mathlib.Core.Bool.{Bool, true, false}
-use mathlib.Core.List.{List, [], ◌∷◌, ◌++◌}
-use mathlib.Core.Path.{◌≡◌, refl, sym, ap, ◌∙◌}
-use native.Mathlib.Omega.{arith}
+-- A filled template in two parts: each part filled with its own numbers (`filled_append`), so the last byte or number can be put before what is behind it
+-- (`byte_step`, `mark_step`). It is at most 20 bytes for each number longer than the template (`filled_most`).
+use Rattle.std.proofs.Common.{◌≡◌, ℕ, suc, ◌+◌, ◌*◌, ◌^◌, ◌<◌, ◌≤◌, Bool, true, false, eqb, List, [], ◌∷◌, ◌++◌, length, drop, refl, sym, ap, ◌∙◌, arith, length-append, append_assoc, append-nil}
+use Rattle.std.proofs.Math.Seq.{drop-length}
+use Rattle.std.proofs.lemmas.List.{nil_from_length}
 use borrow.Author.Tests.{eq-eqb, ne_eqb, eqb-true, eqb-false}
-use lib.Dec.{eqb}
-use lib.ListN.{length, drop, get_or, set, length-append}
-use lib.Seq.{drop-cons}
 use Rattle.laws.specs.Choice.{cond}
 use Rattle.rules.specs.Statement.{All}
 use Rattle.lines.specs.Lines.{decimal}
-use Rattle.lines.specs.Area.{written, put_before}
+use Rattle.lines.specs.Area.{Written, put}
 use Rattle.lines.specs.Templates.{mark, filled, marks}
-use Rattle.lines.proofs.Area.{put_byte, put_start, put_on}
+use Rattle.lines.proofs.Area.{put_put, put_none}
+use Rattle.lines.proofs.Behind.{last_taken}
 use Rattle.lines.proofs.Decimal.{decimal_most}
 
 -- ---- a byte, and a mark
@@ -35,96 +30,127 @@ marks_byte : (b : ℕ) (bs : List ℕ) → (b ≡ mark → ⊥) → marks (b ∷
 unfolding marks cond
 marks_byte b bs e = simp (ne_eqb b mark e) (omega arith)
 
-marks_on : (b : ℕ) (bs : List ℕ) → marks bs ≤ marks (b ∷ bs)
-unfolding marks
-marks_on b bs = omega arith
-
-marks_part : (bs : List ℕ) (i : ℕ) → marks (drop i bs) ≤ marks bs
-marks_part bs zero = omega arith
-marks_part [] (suc i) = omega arith
-marks_part (b ∷ bs) (suc i) = omega (arith, marks_part bs i, marks_on b bs)
-
--- a template from its byte before i on
-from : (bs : List ℕ) (i : ℕ) → 1 ≤ i → i ≤ length bs → drop (i - 1) bs ≡ get_or bs (i - 1) 0 ∷ drop i bs
-from bs i low high = let e : suc (i - 1) ≡ i = omega arith in drop-cons bs (i - 1) 0 (omega arith) ∙ rw e
-
-module _ (bs xs : List ℕ) (all : marks bs ≡ length xs) (i k : ℕ) (low : 1 ≤ i) (high : i ≤ length bs) (left : k + marks (drop i bs) ≡ length xs) where
-  at_mark : get_or bs (i - 1) 0 ≡ mark
-      → (1 ≤ k) × (k - 1 + marks (drop (i - 1) bs) ≡ length xs)
-      × (filled (drop (i - 1) bs) (drop (k - 1) xs) ≡ decimal (get_or xs (k - 1) 0) ++ filled (drop i bs) (drop k xs))
-  at_mark e =
-      let parts = from bs i low high in
-      let more : marks (drop (i - 1) bs) ≡ 1 + marks (drop i bs) = rw parts (marks_mark _ (drop i bs) e) in
-      let least : 1 ≤ k = omega (arith, marks_part bs (i - 1)) in
-      let number = from xs k least (omega arith) in
-      (least, omega arith, rw (parts, number) (filled_mark _ (drop i bs) _ (drop k xs) e))
-
-  at_byte : (get_or bs (i - 1) 0 ≡ mark → ⊥)
-      → (k + marks (drop (i - 1) bs) ≡ length xs)
-      × (filled (drop (i - 1) bs) (drop k xs) ≡ (get_or bs (i - 1) 0 ∷ []) ++ filled (drop i bs) (drop k xs))
-  at_byte e =
-      let parts = from bs i low high in
-      let same : marks (drop (i - 1) bs) ≡ marks (drop i bs) = rw parts (marks_byte _ (drop i bs) e) in
-      (omega arith, rw parts (filled_byte _ (drop i bs) (drop k xs) e))
-
--- ---- how long it is
-pub no_marks : marks [] ≡ 0
+no_marks : marks [] ≡ 0
 unfolding marks
 no_marks = refl
 
-pub filled_none : (xs : List ℕ) → filled [] xs ≡ []
+filled_none : (xs : List ℕ) → filled [] xs ≡ []
 unfolding filled
 filled_none xs = refl
 
-part_by : (b : ℕ) (bs xs : List ℕ) (i k : ℕ) (t : Bool) → eqb b mark ≡ t → marks (b ∷ bs) ≡ length xs → k + marks (drop i bs) ≡ length xs
-    → ((xs' : List ℕ) (k' : ℕ) → marks bs ≡ length xs' → k' + marks (drop i bs) ≡ length xs' → length (filled (drop i bs) (drop k' xs')) ≤ length (filled bs xs'))
-    → length (filled (drop i bs) (drop k xs)) ≤ length (filled (b ∷ bs) xs)
-part_by b bs [] i k true e all left ih = absurd (omega (arith, marks_mark b bs (eqb-true b mark e)))
-part_by b bs (x ∷ xs) i zero true e all left ih = absurd (omega (arith, marks_mark b bs (eqb-true b mark e), marks_part bs i))
-part_by b bs (x ∷ xs) i (suc k) true e all left ih =
-    let more = marks_mark b bs (eqb-true b mark e) in
-    rw (filled_mark b bs x xs (eqb-true b mark e)) (simp length-append (omega (arith, ih xs k (omega arith) (omega arith))))
-part_by b bs xs i k false e all left ih =
-    let same = marks_byte b bs (eqb-false b mark e) in
-    rw (filled_byte b bs xs (eqb-false b mark e)) (omega (arith, ih xs k (omega arith) left))
+-- ---- two parts
+marks_append : (front bs : List ℕ) → marks (front ++ bs) ≡ marks front + marks bs
+unfolding marks
+marks_append [] bs = omega arith
+marks_append (a ∷ front) bs = omega (arith, marks_append front bs)
 
-part_most : (bs xs : List ℕ) (i k : ℕ) → marks bs ≡ length xs → k + marks (drop i bs) ≡ length xs
-    → length (filled (drop i bs) (drop k xs)) ≤ length (filled bs xs)
-part_most bs xs zero k all left = let none : k ≡ 0 = omega arith in rw none (omega arith)
-part_most [] xs (suc i) k all left = let none : k ≡ 0 = omega (arith, no_marks) in rw none (omega arith)
-part_most (b ∷ bs) xs (suc i) k all left = part_by b bs xs i k _ refl all left (λ xs' k' all' left'. part_most bs xs' i k' all' left')
+append_by : (a : ℕ) (front bs xs ys : List ℕ) (t : Bool) → eqb a mark ≡ t → marks (a ∷ front) ≡ length xs
+    → ((xs' : List ℕ) → marks front ≡ length xs' → filled (front ++ bs) (xs' ++ ys) ≡ filled front xs' ++ filled bs ys)
+    → filled (a ∷ (front ++ bs)) (xs ++ ys) ≡ filled (a ∷ front) xs ++ filled bs ys
+append_by a front bs [] ys true t e ih = absurd (omega (arith, marks_mark a front (eqb-true a mark t)))
+append_by a front bs (x ∷ xs) ys true t e ih =
+    let is = eqb-true a mark t in
+    let rest = ih xs (omega (arith, marks_mark a front is)) in
+    filled_mark a (front ++ bs) x (xs ++ ys) is ∙ (rw (rest, filled_mark a front x xs is) (simp append_assoc))
+append_by a front bs xs ys false t e ih =
+    let no = eqb-false a mark t in
+    let rest = ih xs (omega (arith, marks_byte a front no)) in
+    filled_byte a (front ++ bs) (xs ++ ys) no ∙ rw (rest, filled_byte a front xs no)
 
--- ---- an area that holds the text from byte i and number k on, and the piece before it
-module _ (area₀ : List ℕ) (end : ℕ) (bs xs : List ℕ) (all : marks bs ≡ length xs) (room : length (filled bs xs) ≤ end) (inside : end ≤ length area₀)
-    (area : List ℕ) (at i k : ℕ) (low : 1 ≤ i) (high : i ≤ length bs) (left : k + marks (drop i bs) ≡ length xs)
-    (behind : written area at ≡ put_before area₀ end (filled (drop i bs) (drop k xs))) where
-  put_piece : (piece : List ℕ) (j : ℕ) → j + marks (drop (i - 1) bs) ≡ length xs
-      → filled (drop (i - 1) bs) (drop j xs) ≡ piece ++ filled (drop i bs) (drop k xs)
-      → (length piece ≤ at) × (at ≤ length area₀) × (put_before area at piece ≡ put_before area₀ end (filled (drop (i - 1) bs) (drop j xs)))
-  put_piece piece j rest parts =
-      let text = filled (drop i bs) (drop k xs) in
-      let start = put_start area₀ end text area at behind in
-      let most = part_most bs xs (i - 1) j all rest in
-      let long = simp length-append at (ap length parts) in
-      (omega arith, omega arith, put_on area₀ end text area at piece behind (omega arith) inside ∙ rw parts)
+filled_append : (front bs xs ys : List ℕ) → marks front ≡ length xs → filled (front ++ bs) (xs ++ ys) ≡ filled front xs ++ filled bs ys
+filled_append [] bs [] ys e = rw (filled_none [])
+filled_append [] bs (x ∷ xs) ys e = absurd (omega (arith, no_marks))
+filled_append (a ∷ front) bs xs ys e = append_by a front bs xs ys _ refl e (λ xs' e'. filled_append front bs xs' ys e')
 
-  pub put_mark : get_or bs (i - 1) 0 ≡ mark
-      → (1 ≤ k) × (k - 1 + marks (drop (i - 1) bs) ≡ length xs) × (length (decimal (get_or xs (k - 1) 0)) ≤ at) × (at ≤ length area₀)
-      × (put_before area at (decimal (get_or xs (k - 1) 0)) ≡ put_before area₀ end (filled (drop (i - 1) bs) (drop (k - 1) xs)))
-  put_mark e =
-      let (least, rest, parts) = at_mark bs xs all i k low high left e in
-      let (fits, within, put) = put_piece (decimal (get_or xs (k - 1) 0)) (k - 1) rest parts in
-      (least, rest, fits, within, put)
+-- ---- the text is put from one of its bytes and one of its numbers on
+-- `bytes` and `numbers` are what is left of the template and of its numbers
+pub record Behind (w now : Written) (bs xs bytes numbers : List ℕ) : Type 0 where
+  pub bytes_all : bytes ++ drop (length bytes) bs ≡ bs
+  pub numbers_all : numbers ++ drop (length numbers) xs ≡ xs
+  pub a_number_each : marks bytes ≡ length numbers
+  pub stands : now ≡ put w (filled (drop (length bytes) bs) (drop (length numbers) xs))
 
-  pub put_plain : length area ≡ length area₀ → (get_or bs (i - 1) 0 ≡ mark → ⊥)
-      → (k + marks (drop (i - 1) bs) ≡ length xs) × (1 ≤ at) × (at ≤ length area₀)
-      × (written (set area (at - 1) (get_or bs (i - 1) 0)) (at - 1) ≡ put_before area₀ end (filled (drop (i - 1) bs) (drop k xs)))
-  put_plain same e =
-      let b = get_or bs (i - 1) 0 in
-      let (rest, parts) = at_byte bs xs all i k low high left e in
-      let (fits, within, put) = put_piece (b ∷ []) k rest parts in
-      (rest, fits, within, sym (put_byte area at b fits (omega arith)) ∙ put)
+pub behind_none : (w : Written) (bs xs : List ℕ) → marks bs ≡ length xs → Behind w w bs xs bs xs
+behind_none w bs xs e =
+    record {
+      bytes_all = rw drop-length (append-nil bs);
+      numbers_all = rw drop-length (append-nil xs);
+      a_number_each = e;
+      stands = rw (drop-length bs, filled_none) (sym (put_none w));
+    }
 
+pub behind_all : (w now : Written) (bs xs bytes numbers : List ℕ) → Behind w now bs xs bytes numbers → length bytes ≡ 0 → now ≡ put w (filled bs xs)
+behind_all w now bs xs bytes numbers h e =
+    let empty = nil_from_length bytes e in
+    let none : length numbers ≡ 0 = omega (arith, ap marks empty, h.a_number_each, no_marks) in
+    rw (e, none) at h.stands
+
+module _ (w now : Written) (bs xs bytes numbers : List ℕ) (h : Behind w now bs xs bytes numbers) (room : length (filled bs xs) ≤ w.room) where
+  behind_text : List ℕ
+  behind_text = filled (drop (length bytes) bs) (drop (length numbers) xs)
+
+  -- there is room for the last piece of what is left, filled
+  piece_room : (front piece : List ℕ) → filled bytes numbers ≡ front ++ piece → length piece ≤ now.room
+  unfolding behind_text
+  piece_room front piece e =
+      let parts = filled_append bytes (drop (length bytes) bs) numbers (drop (length numbers) xs) h.a_number_each in
+      let whole : filled bs xs ≡ filled bytes numbers ++ behind_text = (rw (h.bytes_all, h.numbers_all) at parts) in
+      let here = ap (λ (t : Written). t.room) h.stands in
+      omega (arith, simp length-append at (ap length whole), simp length-append at (ap length e))
+
+  piece_put : (piece : List ℕ) → put now piece ≡ put w (piece ++ behind_text)
+  unfolding behind_text
+  piece_put piece = ap (λ (t : Written). put t piece) h.stands ∙ put_put w behind_text piece
+
+  module _ (rest : List ℕ) (b : ℕ) (last : bytes ≡ rest ++ (b ∷ [])) where
+    -- a byte before it
+    byte_left : (b ≡ mark → ⊥) → marks rest ≡ length numbers
+    byte_left plain = omega (arith, ap marks last ∙ marks_append rest (b ∷ []), marks_byte b [] plain, no_marks, h.a_number_each)
+
+    pub byte_room : (b ≡ mark → ⊥) → 0 < now.room
+    byte_room plain =
+        let parts = filled_append rest (b ∷ []) numbers [] (byte_left plain) in
+        piece_room (filled rest numbers) (b ∷ [])
+        (ap (filled bytes) (sym (append-nil numbers)) ∙ (ap (λ (l : List ℕ). filled l (numbers ++ [])) last ∙ (parts ∙ rw (filled_byte b [] [] plain, filled_none []))))
+
+    pub byte_step : (b ≡ mark → ⊥) → Behind w (put now (b ∷ [])) bs xs rest numbers
+    unfolding behind_text
+    byte_step plain =
+        let (next, all) = last_taken bs bytes rest b h.bytes_all last in
+        record {
+          bytes_all = all;
+          numbers_all = h.numbers_all;
+          a_number_each = byte_left plain;
+          stands = piece_put (b ∷ []) ∙ rw next (rw (filled_byte b (drop (length bytes) bs) (drop (length numbers) xs) plain));
+        }
+
+    -- a mark: a number is left for it
+    pub mark_left : b ≡ mark → 0 < length numbers
+    mark_left is = omega (arith, ap marks last ∙ marks_append rest (b ∷ []), marks_mark b [] is, h.a_number_each)
+
+    module _ (is : b ≡ mark) (others : List ℕ) (x : ℕ) (taken : numbers ≡ others ++ (x ∷ [])) where
+      others_left : marks rest ≡ length others
+      others_left = omega (arith, ap marks last ∙ marks_append rest (b ∷ []), marks_mark b [] is, no_marks, h.a_number_each, ap length taken, length-append others (x ∷ []))
+
+      pub number_room : length (decimal x) ≤ now.room
+      number_room =
+          let parts = filled_append rest (b ∷ []) others (x ∷ []) others_left in
+          piece_room (filled rest others) (decimal x)
+          (ap (filled bytes) taken ∙ (ap (λ (l : List ℕ). filled l (others ++ (x ∷ []))) last ∙ (parts ∙ rw (filled_mark b [] x [] is, filled_none [], append-nil))))
+
+      pub mark_step : Behind w (put now (decimal x)) bs xs rest others
+      unfolding behind_text
+      mark_step =
+          let (next, all) = last_taken bs bytes rest b h.bytes_all last in
+          let (number, others_all) = last_taken xs numbers others x h.numbers_all taken in
+          record {
+            bytes_all = all;
+            numbers_all = others_all;
+            a_number_each = others_left;
+            stands = piece_put (decimal x) ∙ rw (next, number) (rw (filled_mark b (drop (length bytes) bs) x (drop (length numbers) xs) is));
+          }
+
+-- ---- how long it is
 -- numbers of 64 bits
 abbrev pub Short : List ℕ → Type 0
 Short xs = All (λ (x : ℕ). x < 2 ^ 64) xs
@@ -136,7 +162,7 @@ filled_by b bs [] true e all short ih = absurd (omega (arith, marks_mark b bs (e
 filled_by b bs (x ∷ xs) true e all short ih =
     let more = marks_mark b bs (eqb-true b mark e) in
     rw (filled_mark b bs x xs (eqb-true b mark e))
-    (simp length-append (omega (arith, decimal_most 19 x (omega (arith, short.0)), ih xs (omega arith) short.1)))
+    (simp length-append (omega (arith, decimal_most 20 x (omega arith) (omega (arith, short.0)) short.0, ih xs (omega arith) short.1)))
 filled_by b bs xs false e all short ih =
     let same = marks_byte b bs (eqb-false b mark e) in
     rw (filled_byte b bs xs (eqb-false b mark e)) (omega (arith, ih xs (omega arith) short))

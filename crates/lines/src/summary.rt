@@ -1,10 +1,9 @@
 // The lines of a summary.
 ghost use Rattle.std.specs.Prelude.{◌≡◌, ◌≤◌, length};
-ghost use Rattle.lines.specs.Area.{written, put_before, put_last, used_part};
+ghost use Rattle.lines.specs.Area.{put, used_part};
 ghost use Rattle.lines.specs.Summary.{first_line, counts_lines, summary_text, first_line_bytes, summary_bytes};
 
-use crate::filled::put_filled;
-use crate::line::put_text;
+use crate::tail::Tail;
 use rules::numbers::STEP_LIMIT;
 
 // A summary's area: 20 digits of each of its 14 numbers and 104 bytes of templates are at most 384.
@@ -27,62 +26,52 @@ pub struct Summary {
     pub steps: u32,
 }
 
-// Puts the lines of the counts before `end`; where they start.
-fn put_counts(area: &mut [u8], end: usize, s: Summary) -> usize
-    requires { (summary_bytes ≤ end) × (end ≤ length area.old) }
-    ensures { written area.new result ≡ put_before area.old end (counts_lines s) }
+// Puts the lines of the counts.
+fn put_counts(lines: &mut Tail<'_>, s: Summary)
+    requires { summary_bytes ≤ lines.old.room }
+    ensures { lines.new ≡ put lines.old (counts_lines s) }
 {
-    let numbers = [
-        s.words,
-        s.puts,
-        s.takes,
-        s.empties,
-        s.fulls,
-        s.refused,
-        s.held as u64,
-        s.worst as u64,
-        s.bound as u64,
-        s.lost,
-        s.steps as u64,
-        STEP_LIMIT as u64,
-    ];
-    put_filled(
-        area,
-        end,
+    lines.put_filled(
         b"words #\nput # taken # empty # full # refused #\nheld #\nworst # bound #\nlost #\nsteps # of #\n",
-        &numbers,
+        &[
+            s.words,
+            s.puts,
+            s.takes,
+            s.empties,
+            s.fulls,
+            s.refused,
+            s.held as u64,
+            s.worst as u64,
+            s.bound as u64,
+            s.lost,
+            s.steps as u64,
+            STEP_LIMIT as u64,
+        ],
     )
 }
 
-// Puts the first line before `end`; where it starts.
-fn put_first(area: &mut [u8], end: usize, s: Summary) -> usize
-    requires { (first_line_bytes ≤ end) × (end ≤ length area.old) }
-    ensures { written area.new result ≡ put_before area.old end (first_line s) }
+// Puts the first line.
+fn put_first(lines: &mut Tail<'_>, s: Summary)
+    requires { first_line_bytes ≤ lines.old.room }
+    ensures { lines.new ≡ put lines.old (first_line s) }
 {
     if s.fault == 0 {
-        return put_text(area, end, b"whole\n");
+        lines.put_text(b"whole\n")
+    } else {
+        lines.put_filled(b"faulty # at #\n", &[s.fault as u64, s.words])
     }
-    let numbers = [s.fault as u64, s.words];
-    put_filled(area, end, b"faulty # at #\n", &numbers)
-}
-
-// Puts a summary at the end of the area; where it starts.
-fn put_summary(area: &mut [u8], s: Summary) -> usize
-    ensures { written area.new result ≡ put_last summary_bytes area.old (summary_text s) }
-{
-    let end = area.len();
-    if end < SUMMARY_BYTES {
-        return end;
-    }
-    let at = put_counts(area, end, s);
-    put_first(area, at, s)
 }
 
 // A summary, as the used part of the area; nothing of an area of fewer than 512 bytes.
 pub fn summary_text<'a>(area: &'a mut [u8], s: Summary) -> &'a [u8]
-    ensures { result.now ≡ used_part summary_bytes area.old (summary_text s) }
+    ensures text { result.now ≡ used_part summary_bytes area.old (summary_text s) }
+    ensures short { length result.now ≤ summary_bytes }
 {
-    let at = put_summary(area, s);
-    let t = &area[..];
-    &t[at..]
+    if area.len() < SUMMARY_BYTES {
+        return &[];
+    }
+    let mut lines = Tail::new(area);
+    put_counts(&mut lines, s);
+    put_first(&mut lines, s);
+    lines.text()
 }

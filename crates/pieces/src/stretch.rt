@@ -22,9 +22,8 @@ pub struct Stretch {
 pub fn begin() -> Stretch
     ensures { result ≡ new_stretch }
 {
-    let printer = start();
     Stretch {
-        printer,
+        printer: start(),
         at: 0,
         used: 0,
         complete: false,
@@ -35,25 +34,12 @@ pub fn begin() -> Stretch
 pub fn goes_on(out: &[u8], s: Stretch) -> bool
     ensures { result ≡ goes_on s (length out.now) }
 {
-    if s.complete {
-        return false;
-    }
-    if out.len() < TURN_BYTES {
-        return false;
-    }
-    if out.len() - TURN_BYTES < s.used {
-        return false;
-    }
-    true
+    !s.complete && s.used.saturating_add(TURN_BYTES) <= out.len()
 }
 
 // How many turns the lent bytes have.
 pub fn turns_in(src: &[u8], last: bool) -> usize
     ensures { (result ≡ turns_in src.now last) × (result < 2 ^ 63) }
 {
-    if last {
-        src.len() / WORD_BYTES + 1
-    } else {
-        src.len() / WORD_BYTES
-    }
+    src.len() / WORD_BYTES + usize::from(last)
 }

@@ -1,7 +1,6 @@
 -- `lines::summary::put_first` meets its contract: the tests of the definition are those of the branches. Assumes nothing.
-use native.Mathlib.Omega.{arith}
+use Rattle.std.proofs.Common.{◌∙◌, arith}
 use borrow.Author.Tests.{eq-eqb, ne_eqb}
-use mathlib.Core.Path.{◌∙◌}
 use Rattle.laws.specs.Choice.{cond}
 use Rattle.lines.specs.Summary.{first_line}
 use Rattle.lines.proofs.Summaries.{faulty_marks, faulty_most}
@@ -11,12 +10,12 @@ pub returns-then-s-eq0 : goal.returns-then-s-eq0
 unfolding first_line cond
 returns-then-s-eq0 c = c.put_text.ensures ∙ simp (eq-eqb _ _ c.if-s-eq0.true)
 
-pub put_filled-requires-clause-template_value : goal.put_filled-requires-clause-template_value
-put_filled-requires-clause-template_value c = faulty_marks
+pub put_filled-requires-clause-a_number_each : goal.put_filled-requires-clause-a_number_each
+put_filled-requires-clause-a_number_each c = faulty_marks
 
-pub put_filled-requires-clause-numbers_len_bound : goal.put_filled-requires-clause-numbers_len_bound
-put_filled-requires-clause-numbers_len_bound c = omega (arith, faulty_most c.args.s (omega (arith, c.well_formed)), c.requires)
+pub put_filled-requires-clause-room : goal.put_filled-requires-clause-room
+put_filled-requires-clause-room c = omega (arith, faulty_most c.args.s (omega (arith, c.well_formed)), c.requires)
 
-pub returns : goal.returns
+pub returns-else-s-eq0 : goal.returns-else-s-eq0
 unfolding first_line cond
-returns c = c.put_filled.ensures ∙ simp (ne_eqb _ _ c.if-s-eq0.false)
+returns-else-s-eq0 c = c.put_filled.ensures ∙ simp (ne_eqb _ _ c.if-s-eq0.false)

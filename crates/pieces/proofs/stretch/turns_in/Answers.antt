@@ -1,12 +1,15 @@
--- `pieces::stretch::turns_in` meets its contract: the test of the definition is that of the branch. Assumes nothing.
+-- `pieces::stretch::turns_in` meets its contract: one turn more where the bytes are the last. Assumes nothing.
+use Rattle.std.proofs.Common.{◌≡◌, ℕ, ◌+◌, ◌/◌, ◌≤◌, Bool, true, false, length, arith}
+use mir.Val.{bool_byte}
 use Rattle.laws.specs.Choice.{cond}
-use borrow.Author.Rules.{rules}
 use Rattle.pieces.proofs.stretch.turns_in.Goals as goal
 
-pub returns-then-last : goal.returns-then-last
+one_more : (last : Bool) (n : ℕ) → (n + bool_byte last ≡ cond last (n + 1) n) × (bool_byte last ≤ 1)
 unfolding cond
-returns-then-last c = (simp c.if-last.true, search rules)
+one_more true n = (omega arith, omega arith)
+one_more false n = (omega arith, omega arith)
 
-pub returns-else-last : goal.returns-else-last
-unfolding cond
-returns-else-last c = (simp c.if-last.false, search rules)
+pub returns : goal.returns
+returns c =
+    let (turns, most) = one_more c.args.last (length c.args.src.now / 4) in
+    rw c.from.ensures (turns, omega arith)
