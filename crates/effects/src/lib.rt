@@ -158,20 +158,13 @@ pub fn nothing_for(side: Side) -> Outcome
 }
 
 // The worker's words with another extra, scan and sum.
-// Stays: each word is named: of a copy with three words changed, the compiler carries those on either side in one register, and takes them apart again.
 pub fn with_pass(old: Slot, extra: u32, scan: u32, sum: u32) -> Slot
     ensures { result ≡ with_pass old extra scan sum }
 {
     Slot {
-        number: old.number,
-        value: old.value,
-        index: old.index,
-        window: old.window,
         extra,
         scan,
-        seen: old.seen,
         sum,
-        bottom: old.bottom,
-        width: old.width,
+        ..old
     }
 }
