@@ -107,30 +107,19 @@ fn idle_fit(words: &[u32], g: Settings, at: usize) -> bool
     (words[at] == IDLE) & inside & stack_unseen(words, g, at)
 }
 
-// Whether every worker is fit, by a test of one at a place. An idle one, of which there are many as a rule, is told by few of its words.
-fn each_fit<F: Fn(usize) -> bool>(words: &[u32], g: Settings, fit: F) -> bool
-    requires bounds { Bounds g }
-    requires g_in_bounds { needed g ≤ length words.now }
-    requires callable { (i : ℕ) → i < g.workers → F.pre fit (worker_at g i) }
-    requires tells { (i : ℕ) (r : Bool) → i < g.workers → F.post fit (worker_at g i) r → r ≡ worker_fit g (slot_at g words.now (worker_at g i)) }
-    ensures { result ≡ workers_fit words.now g }
-{
-    for i in 0..g.workers {
-        let at = worker_at(g, i);
-        if !idle_fit(words, g, at) && !fit(at) {
-            return false;
-        }
-    }
-    true
-}
-
-// Whether every worker is fit, in any edition.
+// Whether every worker is fit, in any edition. An idle one, of which there are many as a rule, is told by few of its words.
 pub fn workers_fit(words: &[u32], g: Settings) -> bool
     requires bounds { Bounds g }
     requires g_in_bounds { needed g ≤ length words.now }
     ensures { result ≡ workers_fit words.now g }
 {
-    each_fit(words, g, |at| worker_fit(words, g, at))
+    for i in 0..g.workers {
+        let at = worker_at(g, i);
+        if !idle_fit(words, g, at) && !worker_fit(words, g, at) {
+            return false;
+        }
+    }
+    true
 }
 
 // Whether word `k` of a worker is fit, whose index and scan lie below a width.
@@ -147,20 +136,25 @@ fn word_fit(g: Settings, width: u32, k: usize, x: u32) -> bool
     }
 }
 
-// Whether every word of the worker at `at` is fit, in the shipped edition.
-fn words_fit(words: &[u32], g: Settings, at: usize) -> bool
-    requires { (at + worker_words g.edition ≤ length words.now) × (g.edition ≡ shipped) }
-    ensures { result ≡ worker_fit g (slot_at g words.now at) }
-{
-    let width = width_of(words, g, at, words[at]);
-    (0..WORKER_WORDS).all(|k| word_fit(g, width, k, words[at + k]))
-}
-
 // Whether every word of every worker is fit, in the shipped edition.
 pub fn every_fit(words: &[u32], g: Settings) -> bool
     requires bounds { Bounds g }
     requires g_in_bounds { (needed g ≤ length words.now) × (g.edition ≡ shipped) }
     ensures { result ≡ workers_fit words.now g }
 {
-    each_fit(words, g, |at| words_fit(words, g, at))
+    let mut fit = true;
+    'workers: for i in 0..g.workers {
+        let at = worker_at(g, i);
+        if idle_fit(words, g, at) {
+            continue;
+        }
+        let width = width_of(words, g, at, words[at]);
+        for k in 0..WORKER_WORDS {
+            if !word_fit(g, width, k, words[at + k]) {
+                fit = false;
+                break 'workers;
+            }
+        }
+    }
+    fit
 }
