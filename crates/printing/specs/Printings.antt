@@ -11,7 +11,8 @@ use Rattle.rules.specs.declared.Stamp.{Stamp}
 use Rattle.rules.specs.Answers.{Answered}
 use Rattle.rules.specs.declared.Answer.TheVariants.{Moving, Put, Taken, Empty, Full}
 use Rattle.runfile.specs.declared.item.Item.{Item}
-use Rattle.runfile.specs.declared.item.Item.TheVariants.{Open, Make, BeginPut, BeginTake, Step, End, SetSize, Bad}
+use Rattle.runfile.specs.declared.item.Item.TheVariants.{Open, Make, Says}
+use Rattle.runfile.specs.declared.item.Said.TheVariants.{BeginPut, BeginTake, Step, End, SetSize}
 use Rattle.replay.specs.Replay.{Event}
 use Rattle.lines.specs.Lines.{line_of, numbers_of, closing_of}
 use Rattle.lines.specs.Summary.{summary_text}
@@ -28,12 +29,11 @@ use Rattle.printing.specs.declared.printed.Printed.TheVariants.{Nothing, Line, L
 abbrev pub worker_in : Item → ℕ
 worker_in (Open opening) = 0
 worker_in (Make g) = 0
-worker_in (BeginPut worker value) = worker
-worker_in (BeginTake worker) = worker
-worker_in (Step worker) = worker
-worker_in End = 0
-worker_in (SetSize width depth) = 0
-worker_in Bad = 0
+worker_in (Says (BeginPut worker value)) = worker
+worker_in (Says (BeginTake worker)) = worker
+worker_in (Says (Step worker)) = worker
+worker_in (Says End) = 0
+worker_in (Says (SetSize width depth)) = 0
 
 -- the entry of an item that was put or taken
 abbrev pub item_entry : ℕ → ℕ → ℕ → ℕ → ℕ → Row → Stamp → ℕ → Entry

@@ -10,12 +10,12 @@ use lines::Summary;
 use tally::Tally;
 
 // By the lister: the fault's line, or the closing line where there is none.
+#[tactic(auto, unfolding(crate::specs::Printings::listed_end, laws::specs::Choice::cond))]
 fn list_end(words: &[u32], t: Tally, position: u64, fault: u32) -> Printed
     ensures { result ≡ listed_end t position fault words.now }
 {
     if fault != 0 {
-        let last = plain_entry(position, fault, 0);
-        return Printed::Last(last);
+        return Printed::Last(plain_entry(position, fault, 0));
     }
     Printed::Closing {
         held: items(words),
@@ -23,6 +23,7 @@ fn list_end(words: &[u32], t: Tally, position: u64, fault: u32) -> Printed
     }
 }
 
+// By the summary: its lines.
 fn sum_end(words: &[u32], t: Tally, position: u64, fault: u32) -> Printed
     ensures { result ≡ summary_end t position fault words.now }
 {
@@ -43,6 +44,7 @@ fn sum_end(words: &[u32], t: Tally, position: u64, fault: u32) -> Printed
 }
 
 // By a program: the file ends at a position, by a fault of this number (0: none).
+#[tactic(auto, unfolding(crate::specs::Printings::end_printed))]
 pub fn print_end(words: &[u32], mode: Mode, t: Tally, position: u64, fault: u32) -> Printed
     ensures { result ≡ end_printed mode t position fault words.now }
 {

@@ -13,17 +13,12 @@ use slots::lost_of;
 // Those of a fit pool, worker by worker.
 fn fit_lost(words: &[u32], g: Settings) -> u64
     requires fit_pool { FitPool g words.now }
-    requires edition_value { g.edition ≡ shipped }
+    requires shipped_edition { g.edition ≡ shipped }
     ensures { result ≡ lost_below words.now g g.workers }
 {
-    let workers = g.workers;
     let mut n: u64 = 0;
-    let mut i: u32 = 0;
-    while i < workers {
-        let at = worker_at(g, i);
-        let lost = lost_of(words, at);
-        n += lost as u64;
-        i += 1;
+    for i in 0..g.workers {
+        n += u64::from(lost_of(words, worker_at(g, i)));
     }
     n
 }
@@ -35,6 +30,5 @@ pub fn lost(words: &[u32]) -> u64
     if refusal(words, SHIPPED) != 0 {
         return 0;
     }
-    let g = settings(words);
-    fit_lost(words, g)
+    fit_lost(words, settings(words))
 }

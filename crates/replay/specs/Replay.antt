@@ -1,7 +1,7 @@
 -- THE REPLAY of a run file, from its bytes to its events: for each word its position, what it says, the call that it makes and the answer; the
 -- pool's words after it; and the fault that ends the file.
 -- What the programs print are printings of it.
-use Rattle.std.specs.Prelude.{ℕ, ◌+◌, List, [], ◌∷◌, eqb, replicate, Ok}
+use Rattle.std.specs.Prelude.{ℕ, ◌+◌, List, [], ◌∷◌, eqb, replicate, Option, Some, None, Ok}
 use Rattle.laws.specs.Choice.{cond}
 use Rattle.rules.specs.Answers.{Out, out, bad_word, number_of}
 use Rattle.rules.specs.Layout.{most_words}
@@ -18,7 +18,8 @@ use Rattle.runfile.specs.declared.word.Read.TheVariants.{Word, Cut, End as NoMor
 use Rattle.runfile.specs.declared.item.Place.{Place}
 use Rattle.runfile.specs.declared.item.Place.TheVariants.{First, Second, Later, Past}
 use Rattle.runfile.specs.declared.item.Item.{Item}
-use Rattle.runfile.specs.declared.item.Item.TheVariants.{Open, Make, BeginPut, BeginTake, Step, End, SetSize, Bad}
+use Rattle.runfile.specs.declared.item.Item.TheVariants.{Open, Make, Says}
+use Rattle.runfile.specs.declared.item.Said.TheVariants.{BeginPut, BeginTake, Step, End, SetSize}
 
 -- ---- what a word asks for
 -- nothing, that the pool be made, or a call of demand 3's list
@@ -30,12 +31,11 @@ pub data Asked : Type 0 where
 abbrev pub asked_of : Item → Asked
 asked_of (Open opening) = nothing
 asked_of (Make g) = making (shipped_from g)
-asked_of (BeginPut worker value) = calling (begin_put worker value)
-asked_of (BeginTake worker) = calling (begin_take worker)
-asked_of (Step worker) = calling (step worker)
-asked_of End = nothing
-asked_of (SetSize width depth) = calling (set_size width depth)
-asked_of Bad = nothing
+asked_of (Says (BeginPut worker value)) = calling (begin_put worker value)
+asked_of (Says (BeginTake worker)) = calling (begin_take worker)
+asked_of (Says (Step worker)) = calling (step worker)
+asked_of (Says End) = nothing
+asked_of (Says (SetSize width depth)) = calling (set_size width depth)
 
 -- what is answered, and the pool's words afterwards
 unfoldable pub out_of : List ℕ → Asked → Out
@@ -48,24 +48,17 @@ out_of ws (calling c) = call_of shipped ws c
 abbrev pub place_after : Item → Answered → Place
 place_after (Open opening) a = Second opening
 place_after (Make g) a = Later
-place_after (BeginPut worker value) a = Later
-place_after (BeginTake worker) a = Later
-place_after (Step worker) a = Later
-place_after End a = Past
-place_after (SetSize width depth) a = Later
-place_after Bad a = Past
+place_after (Says (BeginPut worker value)) a = Later
+place_after (Says (BeginTake worker)) a = Later
+place_after (Says (Step worker)) a = Later
+place_after (Says End) a = Past
+place_after (Says (SetSize width depth)) a = Later
 
--- the fault that a word is: "a kind out of place, a nonzero spare bit, bytes after the end", or a pool that is not made, since
--- "the lister stops after 22"
+-- the fault that a word is: a pool that is not made, since "the lister stops after 22"
 abbrev pub fault_in : Item → Answered → ℕ
 fault_in (Open opening) a = no_fault
 fault_in (Make g) a = number_of a
-fault_in (BeginPut worker value) a = no_fault
-fault_in (BeginTake worker) a = no_fault
-fault_in (Step worker) a = no_fault
-fault_in End a = no_fault
-fault_in (SetSize width depth) a = no_fault
-fault_in Bad a = bad_word
+fault_in (Says said) a = no_fault
 
 -- ---- one word
 -- what a word did: its position, what it says, and the answer to the call that it makes, `Moving` where it makes none
@@ -98,9 +91,14 @@ unfoldable pub item_next : List ℕ → ℕ → Item → Replayed
 item_next ws position item =
     replayed (answered position item (out_of ws (asked_of item)).answer) (out_of ws (asked_of item)).words
 
+-- a word that says nothing is a fault too: "a kind out of place, a nonzero spare bit, bytes after the end"
+unfoldable pub word_next : List ℕ → ℕ → Option Item → Replayed
+word_next ws position (Some item) = item_next ws position item
+word_next ws position None = replayed (ends bad_word) ws
+
 -- what stands at a position, in its place
 unfoldable pub next_of : List ℕ → Place → ℕ → Read → Replayed
-next_of ws place position (Word word) = item_next ws position (item_of place word)
+next_of ws place position (Word word) = word_next ws position (item_of place word)
 next_of ws place position Cut = replayed (ends (fault_of place Cut)) ws
 next_of ws place position NoMore = replayed (ends (fault_of place NoMore)) ws
 

@@ -1,10 +1,5 @@
 -- `printing::printed::listed` meets its contract: a take alone is tested, for no other answer has a distance. Assumes nothing.
-use Prim.Native.Nat.{ℕ}
-use mathlib.Core.Bool.{Bool, true, false}
-use mathlib.Core.Path.{◌≡◌, refl}
-use native.Mathlib.Omega.{arith}
-use lib.Dec.{ltb}
-use borrow.Author.Tests.{le-ltb}
+use Rattle.std.proofs.Common.{◌≡◌, ℕ, Bool, true, false, refl, arith, ltb, le-ltb}
 use Rattle.laws.specs.Choice.{cond}
 use Rattle.lines.specs.declared.line.Entry.{Entry}
 use Rattle.printing.specs.Printings.{answer_printed, listed_of}
@@ -29,20 +24,20 @@ returns-in-Moving c = λ end. simp (near, c.in-Moving.is)
 
 pub returns-in-Put : goal.returns-in-Put
 unfolding listed_of answer_printed cond
-returns-in-Put c = λ end. simp (near, c.item_line.ensures, c.worker_in.ensures, c.in-Put.is)
+returns-in-Put c = λ end. simp (near, c.plain_of.ensures, c.in-Put.is)
 
 pub returns-in-Taken : goal.returns-in-Taken
 unfolding listed_of answer_printed
-returns-in-Taken c = λ end. simp (c.taken_line.ensures, c.worker_in-in-Taken.ensures, c.in-Taken.is) (either_printed end _ _ _)
+returns-in-Taken c = λ end. simp (c.taken_line.ensures, c.plain_of-in-Taken.ensures, c.in-Taken.is) (either_printed end _ _ _)
 
 pub returns-in-Empty : goal.returns-in-Empty
 unfolding listed_of answer_printed cond
-returns-in-Empty c = λ end. simp (near, c.plain_line.ensures, c.worker_in-in-Empty.ensures, c.in-Empty.is)
+returns-in-Empty c = λ end. simp (near, c.plain_of-in-Empty.ensures, c.in-Empty.is)
 
 pub returns-in-Full : goal.returns-in-Full
 unfolding listed_of answer_printed cond
-returns-in-Full c = λ end. simp (near, c.plain_line-in-Full.ensures, c.worker_in-in-Full.ensures, c.in-Full.is)
+returns-in-Full c = λ end. simp (near, c.plain_of-in-Full.ensures, c.in-Full.is)
 
 pub returns-in-Refused : goal.returns-in-Refused
 unfolding listed_of answer_printed cond
-returns-in-Refused c = λ end. simp (near, c.plain_line-in-Refused.ensures, c.worker_in-in-Refused.ensures, c.in-Refused.is)
+returns-in-Refused c = λ end. simp (near, c.plain_of-in-Refused.ensures, c.in-Refused.is)
