@@ -87,13 +87,12 @@ fn next_word(words: &mut [u32], place: Place, position: u64, word: u32) -> Told
     }
 }
 
-// What a reader of `src` at word `at` has for the replay, at a place and a position of the file: either the reader yields a word, or the file
-// ends, by a fault (after the end word by none). Where there is no word the reader is asked again: its answer, kept for that, would burden every word.
+// What a reader has for the replay, at a place and a position of the file: either the reader yields a word, or the file ends, by a fault (after the
+// end word by none). Where there is no word the reader is asked again: its answer, kept for that, would burden every word.
 #[tactic(auto, unfolding(crate::specs::Replay::next_of))]
-pub fn next(words: &mut [u32], place: Place, position: u64, src: &[u8], at: usize) -> Told
-    ensures { replayed (next_told position result) words.new ≡ next_of words.old place position (read_at src.now at) }
+pub fn next(words: &mut [u32], place: Place, position: u64, reader: Reader<'_>) -> Told
+    ensures { replayed (next_told position result) words.new ≡ next_of words.old place position (read_at reader.entry.src.now reader.entry.at) }
 {
-    let reader = Reader { src, at };
     let Read::Word(word) = reader.read() else {
         return Told::Ends(fault(place, reader.read()));
     };

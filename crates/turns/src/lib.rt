@@ -9,6 +9,7 @@ ghost use Rattle.turns.specs.Turn.{new_printer, printing, turned, turn_by, turn_
 use printing::{Mode, Output, print_event};
 use replay::{Told, next, place_after};
 use runfile::item::Place;
+use runfile::reader::Reader;
 use tally::{Tally, bound_in, count};
 
 // Where a program is in a file: the next word's place and position, and what is counted.
@@ -88,6 +89,6 @@ fn print_told(mode: Mode, p: Printer, told: Told) -> Turn
 pub fn turn_of(words: &mut [u32], mode: Mode, p: Printer, src: &[u8], at: usize) -> Turn
     ensures { turned mode result words.new ≡ turn_of mode words.old p (read_at src.now at) }
 {
-    let told = next(words, p.place, p.position, src, at);
+    let told = next(words, p.place, p.position, Reader { src, at });
     print_told(mode, p, told)
 }
