@@ -7,8 +7,8 @@ ghost use Rattle.runfile.specs.Items.{kind_of, bits, first_of, second_of, size_o
 ghost use Rattle.runfile.specs.Faults.{fault_of};
 
 use crate::word::Read;
-use rules::Settings;
-use rules::numbers::{BAD_WORD, FILE_CUT, SHIPPED};
+use rules::numbers::SHIPPED;
+use rules::{Refusal, Settings};
 
 // The kinds of words, as the file has them in the top four bits; to the code they are the cases of `Item` and `Said`.
 const OPEN: u32 = 1;
@@ -49,9 +49,6 @@ const WORKER_BIT: u32 = 22;
 
 // Of a size word, after the width and the depth, which begin where the first word's do.
 const SIZE_SPARE_BIT: u32 = 12;
-
-// No fault.
-pub const NO_FAULT: u32 = 0;
 
 // The settings that the first word holds; kind 1 is a stack (paper 01's pile).
 #[derive(Clone, Copy)]
@@ -191,12 +188,12 @@ pub fn decode(place: Place, word: u32) -> Option<Item>
 }
 
 // The fault where the reader yields no word: none where the file ends after its end word.
-pub fn fault(place: Place, read: Read) -> u32
+pub fn fault(place: Place, read: Read) -> Option<Refusal>
     ensures { result ≡ fault_of place read }
 {
     match (place, read) {
-        (_, Read::Word(_)) | (Place::Past, Read::End) => NO_FAULT,
-        (Place::Past, Read::Cut) => BAD_WORD,
-        (_, Read::Cut | Read::End) => FILE_CUT,
+        (_, Read::Word(_)) | (Place::Past, Read::End) => None,
+        (Place::Past, Read::Cut) => Some(Refusal::BadWord),
+        (_, Read::Cut | Read::End) => Some(Refusal::FileCut),
     }
 }
