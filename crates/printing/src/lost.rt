@@ -4,10 +4,9 @@ ghost use Rattle.rules.specs.Fit.{FitPool};
 ghost use Rattle.rules.specs.Make.{shipped};
 ghost use Rattle.printing.specs.Lost.{lost_below, lost_of};
 
-use fitness::refusal;
-use image::{settings, worker_at};
+use fitness::fit_settings;
+use image::worker_at;
 use rules::Settings;
-use rules::numbers::SHIPPED;
 use slots::lost_of;
 
 // Those of a fit pool, worker by worker.
@@ -27,8 +26,8 @@ fn fit_lost(words: &[u32], g: Settings) -> u64
 pub fn lost(words: &[u32]) -> u64
     ensures { result ≡ lost_of shipped words.now }
 {
-    if refusal(words, SHIPPED) != 0 {
-        return 0;
+    match fit_settings(words) {
+        Ok(g) => fit_lost(words, g),
+        Err(_) => 0,
     }
-    fit_lost(words, settings(words))
 }

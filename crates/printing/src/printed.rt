@@ -9,8 +9,7 @@ ghost use Rattle.printing.specs.Outputs.{Outputs, stops_after};
 
 use lines::{Entry, Summary};
 use replay::Done;
-use rules::numbers::OVER_BOUND;
-use rules::{Answer, Row, Stamp};
+use rules::{Answer, Refusal, Row, Stamp};
 use runfile::item::Said;
 use tally::Tally;
 
@@ -31,13 +30,13 @@ pub enum Printed {
     Totals(Summary),
 }
 
-// What is handed on of a word: the line of an event, or the fault that ends the file (0: none).
+// What is handed on of a word: the line of an event, or the fault that ends the file, if there is one.
 #[derive(Clone, Copy)]
 pub enum Output {
     Quiet,
     Line(Entry),
     Last(Entry),
-    End(u32),
+    End(Option<Refusal>),
 }
 
 // Whether a program stops after an output.
@@ -80,7 +79,7 @@ fn taken_line(bound: u32, line: Entry) -> Output
     ensures { result ≡ cond (ltb bound line.distance) (Output.Last (plain line.position over_bound line.worker)) (Output.Line line) }
 {
     if bound < line.distance {
-        Output::Last(plain_entry(line.position, OVER_BOUND, line.worker))
+        Output::Last(plain_entry(line.position, Refusal::OverBound.number(), line.worker))
     } else {
         Output::Line(line)
     }
@@ -98,26 +97,30 @@ fn listed(bound: u32, d: Done) -> Output
     ensures { Outputs result (listed_of bound (event_done d)) }
 {
     match d.answer {
-        Answer::Moving => Output::Quiet,
-        Answer::Put {
-            value,
-            sub,
-            row,
-            stamp,
-        } => Output::Line(Entry {
+        Ok(Answer::Moving) => Output::Quiet,
+        Ok(
+            Answer::Put {
+                value,
+                sub,
+                row,
+                stamp,
+            },
+        ) => Output::Line(Entry {
             value,
             sub,
             row,
             stamp,
             ..plain_of(d, 1)
         }),
-        Answer::Taken {
-            value,
-            sub,
-            row,
-            stamp,
-            distance,
-        } => taken_line(
+        Ok(
+            Answer::Taken {
+                value,
+                sub,
+                row,
+                stamp,
+                distance,
+            },
+        ) => taken_line(
             bound,
             Entry {
                 value,
@@ -128,9 +131,9 @@ fn listed(bound: u32, d: Done) -> Output
                 ..plain_of(d, 2)
             },
         ),
-        Answer::Empty => Output::Line(plain_of(d, 3)),
-        Answer::Full => Output::Line(plain_of(d, 4)),
-        Answer::Refused(n) => Output::Line(plain_of(d, n)),
+        Ok(Answer::Empty) => Output::Line(plain_of(d, 3)),
+        Ok(Answer::Full) => Output::Line(plain_of(d, 4)),
+        Err(refusal) => Output::Line(plain_of(d, refusal.number())),
     }
 }
 

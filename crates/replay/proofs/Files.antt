@@ -2,8 +2,8 @@
 -- word's position (`positions_count`).
 -- A file's words follow each other as `out_of` says (`Chain`), by induction on what the reader yields. The first of them opens, the second makes the pool,
 -- and none after it does (`Begins`). What follows each other without a make is a run.
-use Rattle.std.proofs.Common.{◌≡◌, ℕ, ◌+◌, Bool, true, false, Option, Some, None, List, [], ◌∷◌, ◌++◌, map, refl, sym, ap, subst, ◌∙◌, zero-add, arith, eqb, length}
-use mathlib.Core.Bool.{false≢true}
+use Rattle.std.proofs.Common.{◌≡◌, ℕ, ◌+◌, Bool, true, false, Option, Some, None, Ok, Err, List, [], ◌∷◌, ◌++◌, map, refl, sym, ap, subst, ◌∙◌, zero-add, arith, eqb, length}
+use Rattle.std.proofs.lemmas.Option.{none-some, same_Some}
 use mathlib.Core.Option.{none, some}
 use Rattle.laws.specs.Choice.{cond, cases}
 use Rattle.rules.specs.Answers.{Out, number_of}
@@ -13,6 +13,7 @@ use Rattle.rules.specs.Make.{shipped, shipped_from, make_of}
 use Rattle.rules.specs.Run.{Event, event_of, call_of, run}
 use Rattle.rules.specs.Statement.{All}
 use Rattle.rules.specs.declared.Settings.{Settings}
+use Rattle.rules.specs.declared.Refusal.{Refusal}
 use Rattle.rules.specs.Answers.{Answered}
 use Rattle.runfile.specs.Words.{reads_of}
 use Rattle.runfile.specs.Items.{item_of}
@@ -22,7 +23,7 @@ use Rattle.runfile.specs.declared.item.Place.{Place}
 use Rattle.runfile.specs.declared.item.Place.TheVariants.{First}
 use Rattle.runfile.specs.declared.item.Item.{Item}
 use Rattle.runfile.specs.declared.item.Item.TheVariants.{Open, Make, Says}
-use Rattle.replay.specs.Replay.{Asked, nothing, making, calling, asked_of, out_of, fault_in, event, item_next, word_next, next_of, Happened, Replay, goes_on, next_place, replay_from, replay_of, lent, goes, ends}
+use Rattle.replay.specs.Replay.{unless, Asked, nothing, making, calling, asked_of, out_of, fault_in, event, item_next, word_next, next_of, Happened, Replay, goes_on, next_place, replay_from, replay_of, lent}
 use Rattle.replay.specs.Files.{pool_in, with_call, events_in, calls_in, words_in, RunsOn, RunsOnPool, FilesAreRuns, PositionsCount, RunsGiveFiles}
 use Rattle.replay.proofs.Begins.{Late, AllLate, Making, Begun, front_begins}
 
@@ -35,12 +36,11 @@ Chain position ws (x ∷ xs) =
     × (x.event.position ≡ position) × Chain (position + 1) x.words xs
 
 -- an event is where a word is no fault
-chain_on : (ws : List ℕ) (position : ℕ) (item : Item) (b : Bool) (rest : Replay) (o : Out) → o ≡ out_of ws (asked_of item)
+chain_on : (ws : List ℕ) (position : ℕ) (item : Item) (fault : Option Refusal) (rest : Replay) (o : Out) → o ≡ out_of ws (asked_of item)
     → Chain (position + 1) o.words rest.events
-    → Chain position ws (goes_on position (cond b (goes (event position item o.answer)) (ends (fault_in item o.answer))) o.words rest).events
-unfolding cond
-chain_on ws position item true rest o e h = (ap (λ (x : Out). x.answer) e, ap (λ (x : Out). x.words) e, refl, h)
-chain_on ws position item false rest o e h = tt
+    → Chain position ws (goes_on position (unless fault (event position item o.answer)) o.words rest).events
+chain_on ws position item None rest o e h = (ap (λ (x : Out). x.answer) e, ap (λ (x : Out). x.words) e, refl, h)
+chain_on ws position item (Some refusal) rest o e h = tt
 
 chain_word : (position : ℕ) (ws : List ℕ) (said : Option Item) (rest : Replay)
     → Chain (position + 1) (word_next ws position said).words rest.events
@@ -199,23 +199,28 @@ pub record EndsAt (at : ℕ) (ws : List ℕ) (r : Replay) : Type 0 where
   pub last : r.end.words ≡ words_in ws r.events
 
 -- a fault leaves the words: a make that is refused too
-make_kept : (ws : List ℕ) (g : Settings) → eqb (number_of (make_of ws g).answer) 0 ≡ false → (make_of ws g).words ≡ ws
+make_kept : (ws : List ℕ) (g : Settings) (refusal : Refusal) → (make_of ws g).answer ≡ Err refusal → (make_of ws g).words ≡ ws
 unfolding make_of
-make_kept ws g =
-    cases (λ (o : Out). eqb (number_of o.answer) 0 ≡ false → o.words ≡ ws) (settings_fit g) _ _
-    (λ _. cases (λ (o : Out). eqb (number_of o.answer) 0 ≡ false → o.words ≡ ws) _ _ _ (λ _ _. refl) (λ _ e. absurd (false≢true (sym e)))) (λ _ _. refl)
+make_kept ws g refusal = cases Kept (settings_fit g) _ _ (λ _. cases Kept _ _ _ (λ _ _. refl) (λ _ e. let z : ◌≡◌ {A = ℕ} 0 1 = cc in absurd (omega arith))) (λ _ _. refl)
+  where
+    Kept : Out → Type 0
+    Kept o = o.answer ≡ Err refusal → o.words ≡ ws
 
-fault_kept : (ws : List ℕ) (item : Item) → eqb (fault_in item (out_of ws (asked_of item)).answer) 0 ≡ false → (out_of ws (asked_of item)).words ≡ ws
+make_refused : (g : Settings) (a : Answered) (refusal : Refusal) → fault_in (Make g) a ≡ Some refusal → a ≡ Err refusal
+make_refused g (Ok a) refusal e = absurd (none-some refusal e)
+make_refused g (Err k) refusal e = rw (same_Some k refusal e) refl
+
+fault_kept : (ws : List ℕ) (item : Item) (refusal : Refusal) → fault_in item (out_of ws (asked_of item)).answer ≡ Some refusal → (out_of ws (asked_of item)).words ≡ ws
 unfolding out_of
-fault_kept ws (Open opening) e = refl
-fault_kept ws (Make g) e = make_kept ws (shipped_from g) e
-fault_kept ws (Says said) e = absurd (false≢true (sym e))
+fault_kept ws (Open opening) refusal e = refl
+fault_kept ws (Make g) refusal e = make_kept ws (shipped_from g) refusal (make_refused g _ refusal e)
+fault_kept ws (Says said) refusal e = absurd (none-some refusal e)
 
-ending_on : (b : Bool) (at : ℕ) (ws : List ℕ) (item : Item) (a : Answered) (ws' : List ℕ) (rest : Replay) → (b ≡ false → ws' ≡ ws) → EndsAt (at + 1) ws' rest
-    → EndsAt at ws (goes_on at (cond b (goes (event at item a)) (ends (fault_in item a))) ws' rest)
-unfolding cond words_in
-ending_on true at ws item a ws' rest kept h = let p = h.after in record { after = omega arith; last = h.last }
-ending_on false at ws item a ws' rest kept h = record { after = omega arith; last = kept refl }
+ending_on : (fault : Option Refusal) (at : ℕ) (ws : List ℕ) (item : Item) (a : Answered) (ws' : List ℕ) (rest : Replay)
+    → ((refusal : Refusal) → fault ≡ Some refusal → ws' ≡ ws) → EndsAt (at + 1) ws' rest → EndsAt at ws (goes_on at (unless fault (event at item a)) ws' rest)
+unfolding words_in
+ending_on None at ws item a ws' rest kept h = let p = h.after in record { after = omega arith; last = h.last }
+ending_on (Some refusal) at ws item a ws' rest kept h = record { after = omega arith; last = kept refusal refl }
 
 ending_word : (at : ℕ) (ws : List ℕ) (said : Option Item) (rest : Replay) → EndsAt (at + 1) (word_next ws at said).words rest
     → EndsAt at ws (goes_on at (word_next ws at said).next (word_next ws at said).words rest)

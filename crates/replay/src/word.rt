@@ -1,6 +1,6 @@
 // One word of a run file on the pool.
 ghost use Rattle.std.specs.Prelude.{◌≡◌, ℕ, replicate};
-ghost use Rattle.rules.specs.Answers.{out};
+ghost use Rattle.rules.specs.Answers.{Answered, out};
 ghost use Rattle.rules.specs.Layout.{most_words};
 ghost use Rattle.rules.specs.Make.{shipped};
 ghost use Rattle.replay.specs.Replay.{asked_of, out_of, place_after, replayed, item_next, word_next, next_of};
@@ -10,12 +10,10 @@ ghost use Rattle.runfile.specs.Words.{read_at};
 
 use crate::event::{Done, Told};
 use image::MOST_WORDS;
-use rules::numbers::BAD_WORD;
-use rules::{Answer, Settings};
+use rules::{Answer, Refusal, Settings};
 use runfile::item::{Item, Place, Said, decode, fault};
 use runfile::reader::Reader;
 use runfile::word::Read;
-use step::answers::number;
 
 // The lent words before a file's first word: enough for the largest pool.
 pub fn lent_words() -> [u32; MOST_WORDS]
@@ -26,7 +24,7 @@ pub fn lent_words() -> [u32; MOST_WORDS]
 
 // The place after a word that is neither of the first two, whatever its answer is.
 pub fn place_after(said: Said) -> Place
-    ensures { (a : Answer) → result ≡ place_after (Item.Says said) a }
+    ensures { (a : Answered) → result ≡ place_after (Item.Says said) a }
 {
     if matches!(said, Said::End) {
         Place::Past
@@ -39,26 +37,24 @@ pub fn place_after(said: Said) -> Place
 fn make(words: &mut [u32], g: Settings) -> Told
     ensures { (position : ℕ) → replayed (next_told position result) words.new ≡ item_next words.old position (Item.Make g) }
 {
-    let a = pool::make(
+    match pool::make(
         words, g.kind, g.width, g.depth, g.shift, g.rows, g.workers, g.stride,
-    );
-    let n = number(a);
-    if n != 0 {
-        return Told::Ends(n);
+    ) {
+        Ok(_) => Told::Makes(g),
+        Err(refusal) => Told::Ends(Some(refusal)),
     }
-    Told::Makes(g)
 }
 
-// The answer to the call that a later word makes, `Moving` where it makes none.
+// What the call that a later word makes comes to, `Moving` where it makes none.
 #[tactic(auto, unfolding(crate::specs::Replay::out_of, rules::specs::Run::call_of))]
-fn answer_to(words: &mut [u32], said: Said) -> Answer
+fn answer_to(words: &mut [u32], said: Said) -> Result<Answer, Refusal>
     ensures { out result words.new ≡ out_of words.old (asked_of (Item.Says said)) }
 {
     match said {
         Said::BeginPut { worker, value } => pool::begin_put(words, u32::from(worker), value),
         Said::BeginTake { worker } => pool::begin_take(words, u32::from(worker)),
         Said::Step { worker } => pool::step(words, u32::from(worker)),
-        Said::End => Answer::Moving,
+        Said::End => Ok(Answer::Moving),
         Said::SetSize { width, depth } => {
             pool::set_size(words, u32::from(width), u32::from(depth))
         }
@@ -71,7 +67,7 @@ fn next_word(words: &mut [u32], place: Place, position: u64, word: u32) -> Told
     ensures { replayed (next_told position result) words.new ≡ word_next words.old position (item_of place word) }
 {
     let Some(item) = decode(place, word) else {
-        return Told::Ends(BAD_WORD);
+        return Told::Ends(Some(Refusal::BadWord));
     };
     match item {
         Item::Open(opening) => Told::Opens(opening),

@@ -21,6 +21,7 @@ use Rattle.rules.specs.Run.{Call, begin_put, begin_take, step, set_size, call_of
 use Rattle.rules.specs.Sequential.{bound_by, demand3_rows, most_passed}
 use Rattle.rules.specs.declared.Settings.{Settings}
 use Rattle.rules.specs.declared.Size.{Size}
+use Rattle.rules.specs.declared.Refusal.{Refusal}
 use Rattle.rules.specs.Answers.{Answered}
 use Rattle.rules.specs.declared.Side.{Side}
 use Rattle.rules.specs.declared.Side.TheVariants.{Putting, Taking}
@@ -32,7 +33,7 @@ use Rattle.rules.proofs.Transfer.{related_fit, made_related, related_after}
 use Rattle.rules.proofs.counts.Held.{count_none, count_all}
 use Rattle.rules.proofs.words.Made.{accepted}
 use Rattle.runfile.specs.Items.{item_of}
-use Rattle.runfile.specs.Faults.{fault_of}
+use Rattle.runfile.specs.Faults.{fault_number, fault_of}
 use Rattle.runfile.specs.declared.word.Read.{Read}
 use Rattle.runfile.specs.declared.word.Read.TheVariants.{Word, Cut, End as NoMore}
 use Rattle.runfile.specs.declared.item.Place.TheVariants.{First, Second, Later, Past}
@@ -40,7 +41,7 @@ use Rattle.runfile.specs.declared.item.Item.{Item as Saying}
 use Rattle.runfile.specs.declared.item.Item.TheVariants.{Open, Make, Says}
 use Rattle.runfile.specs.declared.item.Said.TheVariants.{BeginPut, BeginTake, Step, End, SetSize}
 use Rattle.runfile.specs.declared.item.Place.{Place}
-use Rattle.replay.specs.Replay.{Asked, nothing, making, calling, asked_of, out_of, item_next, word_next, next_of, Happened, Replay, goes_on, next_place, replay_from, replay_of, lent, fault_in, Next}
+use Rattle.replay.specs.Replay.{unless, Event as Done, Asked, nothing, making, calling, asked_of, out_of, item_next, word_next, next_of, Happened, Replay, goes_on, next_place, replay_from, replay_of, lent, fault_in}
 use Rattle.replay.specs.Files.{pool_in, with_call, events_in, calls_in, words_in, RunsOn, RunsOnPool, FrontOf}
 use Rattle.replay.proofs.Files.{files_are_runs}
 use Rattle.tally.specs.Tally.{no_tally, bound_in, passed_in, bound_after, tally_after}
@@ -365,7 +366,7 @@ pub all_within : (bytes : List ℕ) → Within no_tally (replay_of bytes).events
 all_within bytes = within_fronts no_tally (replay_of bytes).events (λ ys zs e. (known_front bytes ys (zs, e)).close)
 
 -- ---- the fault that ends a file: none has a number above that of a bad word
-fault_of_law : (place : Place) (read : Read) → fault_of place read ≤ bad_word
+fault_of_law : (place : Place) (read : Read) → fault_number (fault_of place read) ≤ bad_word
 fault_of_law place (Word word) = omega arith
 fault_of_law First Cut = omega arith
 fault_of_law (Second opening) Cut = omega arith
@@ -382,20 +383,28 @@ make_number_law ws g =
     let Low : Out → Type 0 = λ o. number_of o.answer ≤ bad_word in
     cases Low _ _ _ (λ _. cases Low _ _ _ (λ _. omega arith) (λ _. omega arith)) (λ _. omega arith)
 
-fault_in_law : (ws : List ℕ) (item : Saying) → fault_in item (out_of ws (asked_of item)).answer ≤ bad_word
+make_fault_law : (g : Settings) (a : Answered) → number_of a ≤ bad_word → fault_number (fault_in (Make g) a) ≤ bad_word
+make_fault_law g (Ok a) h = omega arith
+make_fault_law g (Err refusal) h = h
+
+fault_in_law : (ws : List ℕ) (item : Saying) → fault_number (fault_in item (out_of ws (asked_of item)).answer) ≤ bad_word
 unfolding out_of
 fault_in_law ws (Open opening) = omega arith
-fault_in_law ws (Make g) = make_number_law ws (shipped_from g)
+fault_in_law ws (Make g) = make_fault_law g _ (make_number_law ws (shipped_from g))
 fault_in_law ws (Says said) = omega arith
 
-faults_word : (position : ℕ) (ws : List ℕ) (said : Perhaps Saying) (rest : Replay) → rest.end.fault ≤ bad_word
-    → (goes_on position (word_next ws position said).next (word_next ws position said).words rest).end.fault ≤ bad_word
+unless_law : (fault : Perhaps Refusal) (e : Done) (position : ℕ) (ws : List ℕ) (rest : Replay) → fault_number fault ≤ bad_word → fault_number rest.end.fault ≤ bad_word
+    → fault_number (goes_on position (unless fault e) ws rest).end.fault ≤ bad_word
+unless_law None e position ws rest f h = h
+unless_law (Some refusal) e position ws rest f h = f
+
+faults_word : (position : ℕ) (ws : List ℕ) (said : Perhaps Saying) (rest : Replay) → fault_number rest.end.fault ≤ bad_word
+    → fault_number (goes_on position (word_next ws position said).next (word_next ws position said).words rest).end.fault ≤ bad_word
 unfolding word_next item_next
-faults_word position ws (Some item) rest h =
-    cases (λ (n : Next). (goes_on position n (out_of ws (asked_of item)).words rest).end.fault ≤ bad_word) _ _ _ (λ _. h) (λ _. fault_in_law ws item)
+faults_word position ws (Some item) rest h = unless_law (fault_in item (out_of ws (asked_of item)).answer) _ position _ rest (fault_in_law ws item) h
 faults_word position ws None rest h = omega arith
 
-pub faults : (place : Place) (position : ℕ) (ws : List ℕ) (reads : List Read) → (replay_from place position ws reads).end.fault ≤ bad_word
+pub faults : (place : Place) (position : ℕ) (ws : List ℕ) (reads : List Read) → fault_number (replay_from place position ws reads).end.fault ≤ bad_word
 unfolding replay_from next_of
 faults place position ws [] = fault_of_law place NoMore
 faults place position ws (Cut ∷ reads) = fault_of_law place Cut

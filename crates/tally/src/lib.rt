@@ -3,11 +3,11 @@
 
 ghost use Rattle.std.specs.Prelude.{◌≡◌};
 ghost use Rattle.rules.specs.Limits.{Bounds};
-ghost use Rattle.rules.specs.Run.{distance_in};
+ghost use Rattle.rules.specs.Answers.{number_of};
 ghost use Rattle.rules.specs.Sequential.{most_passed};
 ghost use Rattle.runfile.specs.declared.item.Item.TheVariants.{Says};
 ghost use Rattle.replay.specs.Told.{event_done};
-ghost use Rattle.tally.specs.Tally.{bound_in, passed_in, bound_after, wrap_on, tallied};
+ghost use Rattle.tally.specs.Tally.{bound_in, passed_in, bound_after, tallied};
 
 use image::in_edition;
 use limits::settings_fit;
@@ -15,7 +15,6 @@ use replay::Done;
 use rules::numbers::SHIPPED;
 use rules::{Answer, Settings};
 use runfile::item::Said;
-use step::answers::number;
 
 // How many operations were put, taken, empty and full, how many calls were refused, the greatest distance, and the bound on one.
 #[derive(Clone, Copy, Default)]
@@ -55,16 +54,6 @@ pub fn bound_in(g: Settings) -> u32
     }
 }
 
-// A take's distance; no other answer has one.
-fn distance_in(a: Answer) -> u32
-    ensures { result ≡ distance_in a }
-{
-    match a {
-        Answer::Taken { distance, .. } => distance,
-        _ => 0,
-    }
-}
-
 // What a take from a window of a size may pass over.
 fn passed_in(width: u8, depth: u8) -> u32
     ensures { result ≡ passed_in (record { width = width; depth = depth }) }
@@ -72,38 +61,50 @@ fn passed_in(width: u8, depth: u8) -> u32
     u32::from(width).saturating_sub(1) * u32::from(depth)
 }
 
-// The bound after a word that is neither of the first two, and whose answer has this number: a size that is set may raise it.
+// The bound after a word that is neither of the first two: a size that is set may raise it.
 #[tactic(auto, unfolding(laws::specs::Choice::cond))]
-fn bound_after(bound: u32, said: Said, n: u32) -> u32
-    ensures { result ≡ bound_after bound (Says said) n }
+fn bound_after(bound: u32, d: Done) -> u32
+    ensures { result ≡ bound_after bound (Says d.said) (number_of d.answer) }
 {
-    match said {
-        Said::SetSize { width, depth } if n == 0 => bound.max(passed_in(width, depth)),
+    match (d.said, d.answer) {
+        (Said::SetSize { width, depth }, Ok(Answer::Moving)) => bound.max(passed_in(width, depth)),
         _ => bound,
     }
 }
 
-// Counts on where something is so.
-#[tactic(auto, unfolding(laws::specs::Choice::cond))]
-fn on(x: u64, so: bool) -> u64
-    ensures { result ≡ wrap_on x so }
-{
-    x.wrapping_add(u64::from(so))
-}
-
 // The tally with an event.
-#[tactic(auto, unfolding(crate::specs::Tally::tallied))]
+#[tactic(auto, unfolding(crate::specs::Tally::tallied, laws::specs::Choice::cond))]
 pub fn count(t: Tally, d: Done) -> Tally
     ensures { result ≡ tallied t (event_done d) }
 {
-    let n = number(d.answer);
-    Tally {
-        puts: on(t.puts, n == 1),
-        takes: on(t.takes, n == 2),
-        empties: on(t.empties, n == 3),
-        fulls: on(t.fulls, n == 4),
-        refused: on(t.refused, 4 < n),
-        worst: t.worst.max(distance_in(d.answer)),
-        bound: bound_after(t.bound, d.said, n),
+    let bound = bound_after(t.bound, d);
+    match d.answer {
+        Ok(Answer::Moving) => Tally { bound, ..t },
+        Ok(Answer::Put { .. }) => Tally {
+            puts: t.puts.wrapping_add(1),
+            bound,
+            ..t
+        },
+        Ok(Answer::Taken { distance, .. }) => Tally {
+            takes: t.takes.wrapping_add(1),
+            worst: t.worst.max(distance),
+            bound,
+            ..t
+        },
+        Ok(Answer::Empty) => Tally {
+            empties: t.empties.wrapping_add(1),
+            bound,
+            ..t
+        },
+        Ok(Answer::Full) => Tally {
+            fulls: t.fulls.wrapping_add(1),
+            bound,
+            ..t
+        },
+        Err(_) => Tally {
+            refused: t.refused.wrapping_add(1),
+            bound,
+            ..t
+        },
     }
 }

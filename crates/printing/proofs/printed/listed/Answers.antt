@@ -1,6 +1,7 @@
 -- `printing::printed::listed` meets its contract: a take alone is tested, for no other answer has a distance. Assumes nothing.
-use Rattle.std.proofs.Common.{◌≡◌, ℕ, Bool, true, false, refl, arith, ltb, le-ltb}
+use Rattle.std.proofs.Common.{◌≡◌, ℕ, Bool, true, false, Option, refl, arith, ltb, le-ltb}
 use Rattle.laws.specs.Choice.{cond}
+use Rattle.rules.specs.declared.Refusal.{Refusal}
 use Rattle.lines.specs.declared.line.Entry.{Entry}
 use Rattle.printing.specs.Printings.{answer_printed, listed_of}
 use Rattle.printing.specs.Outputs.{printed_by}
@@ -13,31 +14,31 @@ use Rattle.printing.proofs.printed.listed.Goals as goal
 near : (bound : ℕ) → ltb bound 0 ≡ false
 near bound = le-ltb bound 0 (omega arith)
 
-either_printed : (end : ℕ → Printed) (over : Bool) (last line : Entry) → printed_by end (cond over (LastOut last) (LineOut line)) ≡ cond over (Last last) (Line line)
+either_printed : (end : Option Refusal → Printed) (over : Bool) (last line : Entry) → printed_by end (cond over (LastOut last) (LineOut line)) ≡ cond over (Last last) (Line line)
 unfolding cond
 either_printed end true last line = refl
 either_printed end false last line = refl
 
-pub returns-in-Moving : goal.returns-in-Moving
+pub returns-in-Ok-Moving : goal.returns-in-Ok-Moving
 unfolding listed_of answer_printed cond
-returns-in-Moving c = λ end. simp (near, c.in-Moving.is)
+returns-in-Ok-Moving c = λ end. simp (near, c.in-Ok-Moving.is)
 
-pub returns-in-Put : goal.returns-in-Put
+pub returns-in-Ok-Put : goal.returns-in-Ok-Put
 unfolding listed_of answer_printed cond
-returns-in-Put c = λ end. simp (near, c.plain_of.ensures, c.in-Put.is)
+returns-in-Ok-Put c = λ end. simp (near, c.plain_of.ensures, c.in-Ok-Put.is)
 
-pub returns-in-Taken : goal.returns-in-Taken
+pub returns-in-Ok-Taken : goal.returns-in-Ok-Taken
 unfolding listed_of answer_printed
-returns-in-Taken c = λ end. simp (c.taken_line.ensures, c.plain_of-in-Taken.ensures, c.in-Taken.is) (either_printed end _ _ _)
+returns-in-Ok-Taken c = λ end. simp (c.taken_line.ensures, c.plain_of-in-Ok-Taken.ensures, c.in-Ok-Taken.is) (either_printed end _ _ _)
 
-pub returns-in-Empty : goal.returns-in-Empty
+pub returns-in-Ok-Empty : goal.returns-in-Ok-Empty
 unfolding listed_of answer_printed cond
-returns-in-Empty c = λ end. simp (near, c.plain_of-in-Empty.ensures, c.in-Empty.is)
+returns-in-Ok-Empty c = λ end. simp (near, c.plain_of-in-Ok-Empty.ensures, c.in-Ok-Empty.is)
 
-pub returns-in-Full : goal.returns-in-Full
+pub returns-in-Ok-Full : goal.returns-in-Ok-Full
 unfolding listed_of answer_printed cond
-returns-in-Full c = λ end. simp (near, c.plain_of-in-Full.ensures, c.in-Full.is)
+returns-in-Ok-Full c = λ end. simp (near, c.plain_of-in-Ok-Full.ensures, c.in-Ok-Full.is)
 
-pub returns-in-Refused : goal.returns-in-Refused
+pub returns-in-Err : goal.returns-in-Err
 unfolding listed_of answer_printed cond
-returns-in-Refused c = λ end. simp (near, c.plain_of-in-Refused.ensures, c.in-Refused.is)
+returns-in-Err c = λ end. simp (near, c.plain_of-in-Err.ensures, c.in-Err.is)
