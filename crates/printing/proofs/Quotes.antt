@@ -238,7 +238,7 @@ closing_adds_up bytes held worst e =
 -- ---- no listing stops with a 30
 end_not_over : (t : Tally) (position : ℕ) (fault : Option Refusal) (ws : List ℕ) → fault_number fault ≤ bad_word → NotOver (end_printed Listing t position fault ws)
 unfolding end_printed listed_end
-end_not_over t position None ws l e u = let z : ◌≡◌ {A = ℕ} 0 1 = cc in absurd (omega arith)
+end_not_over t position None ws l e u over = let z : ◌≡◌ {A = ℕ} 0 1 = cc in absurd (omega arith)
 end_not_over t position (Some refusal) ws l e u over = let same : refusal_number refusal ≡ e.number = cc in omega arith
 
 answers_not_over : (xs : List Happened) (x : Printed) → NotOver x → All NotOver (map answer_line xs ++ (x ∷ []))

@@ -96,31 +96,31 @@ fn plain_of(d: Done, number: u32) -> Entry
 fn listed(bound: u32, d: Done) -> Output
     ensures { Outputs result (listed_of bound (event_done d)) }
 {
-    match d.answer {
-        Ok(Answer::Moving) => Output::Quiet,
-        Ok(
-            Answer::Put {
-                value,
-                sub,
-                row,
-                stamp,
-            },
-        ) => Output::Line(Entry {
+    let answer = match d.answer {
+        Ok(answer) => answer,
+        Err(refusal) => return Output::Line(plain_of(d, refusal.number())),
+    };
+    match answer {
+        Answer::Moving => Output::Quiet,
+        Answer::Put {
+            value,
+            sub,
+            row,
+            stamp,
+        } => Output::Line(Entry {
             value,
             sub,
             row,
             stamp,
             ..plain_of(d, 1)
         }),
-        Ok(
-            Answer::Taken {
-                value,
-                sub,
-                row,
-                stamp,
-                distance,
-            },
-        ) => taken_line(
+        Answer::Taken {
+            value,
+            sub,
+            row,
+            stamp,
+            distance,
+        } => taken_line(
             bound,
             Entry {
                 value,
@@ -131,9 +131,8 @@ fn listed(bound: u32, d: Done) -> Output
                 ..plain_of(d, 2)
             },
         ),
-        Ok(Answer::Empty) => Output::Line(plain_of(d, 3)),
-        Ok(Answer::Full) => Output::Line(plain_of(d, 4)),
-        Err(refusal) => Output::Line(plain_of(d, refusal.number())),
+        Answer::Empty => Output::Line(plain_of(d, 3)),
+        Answer::Full => Output::Line(plain_of(d, 4)),
     }
 }
 

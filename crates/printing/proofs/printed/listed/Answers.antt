@@ -19,26 +19,26 @@ unfolding cond
 either_printed end true last line = refl
 either_printed end false last line = refl
 
-pub returns-in-Ok-Moving : goal.returns-in-Ok-Moving
+pub returns-in-Moving : goal.returns-in-Moving
 unfolding listed_of answer_printed cond
-returns-in-Ok-Moving c = λ end. simp (near, c.in-Ok-Moving.is)
+returns-in-Moving c = λ end. simp (near, c.in-Ok.is, c.in-Moving.is)
 
-pub returns-in-Ok-Put : goal.returns-in-Ok-Put
+pub returns-in-Put : goal.returns-in-Put
 unfolding listed_of answer_printed cond
-returns-in-Ok-Put c = λ end. simp (near, c.plain_of.ensures, c.in-Ok-Put.is)
+returns-in-Put c = λ end. simp (near, c.plain_of-in-Put.ensures, c.in-Ok.is, c.in-Put.is)
 
-pub returns-in-Ok-Taken : goal.returns-in-Ok-Taken
+pub returns-in-Taken : goal.returns-in-Taken
 unfolding listed_of answer_printed
-returns-in-Ok-Taken c = λ end. simp (c.taken_line.ensures, c.plain_of-in-Ok-Taken.ensures, c.in-Ok-Taken.is) (either_printed end _ _ _)
+returns-in-Taken c = λ end. simp (c.taken_line.ensures, c.plain_of-in-Taken.ensures, c.in-Ok.is, c.in-Taken.is) (either_printed end _ _ _)
 
-pub returns-in-Ok-Empty : goal.returns-in-Ok-Empty
+pub returns-in-Empty : goal.returns-in-Empty
 unfolding listed_of answer_printed cond
-returns-in-Ok-Empty c = λ end. simp (near, c.plain_of-in-Ok-Empty.ensures, c.in-Ok-Empty.is)
+returns-in-Empty c = λ end. simp (near, c.plain_of-in-Empty.ensures, c.in-Ok.is, c.in-Empty.is)
 
-pub returns-in-Ok-Full : goal.returns-in-Ok-Full
+pub returns-in-Full : goal.returns-in-Full
 unfolding listed_of answer_printed cond
-returns-in-Ok-Full c = λ end. simp (near, c.plain_of-in-Ok-Full.ensures, c.in-Ok-Full.is)
+returns-in-Full c = λ end. simp (near, c.plain_of-in-Full.ensures, c.in-Ok.is, c.in-Full.is)
 
 pub returns-in-Err : goal.returns-in-Err
 unfolding listed_of answer_printed cond
-returns-in-Err c = λ end. simp (near, c.plain_of-in-Err.ensures, c.in-Err.is)
+returns-in-Err c = λ end. simp (near, c.plain_of.ensures, c.number.ensures, c.in-Err.is)
