@@ -14,6 +14,7 @@ use runfile::item::Said;
 use tally::Tally;
 
 // Which program prints: the lister, or the summary.
+// Stays: a trait with an impl for each would put the type into every function down to the loop over a file; the two places that ask are a match each.
 #[derive(Clone, Copy)]
 pub enum Mode {
     Listing,

@@ -10,7 +10,8 @@ use crate::word::Read;
 use rules::numbers::SHIPPED;
 use rules::{Refusal, Settings};
 
-// The kinds of words, as the file has them in the top four bits; to the code they are the cases of `Item` and `Said`.
+// The kinds of words, in the top four bits.
+// Stays: these numbers are the file's format; what a word of a kind says is a case of `Item` or `Said`, and an enum of the kinds would list these twice.
 const OPEN: u32 = 1;
 
 const MAKE: u32 = 2;
