@@ -12,7 +12,7 @@ use borrow.Author.Tests.{le-ltb, ne_eqb, eqb-false}
 use lib.Dec.{eqb, ltb}
 use lib.ListN.{length, length-map, get_or}
 use Rattle.laws.specs.Choice.{cond, cases, cond_both, cond_under, cond_false}
-use Rattle.rules.specs.Answers.{number_of, fields_of, bad_word}
+use Rattle.rules.specs.Answers.{number_of, fields_of, refusal_number, bad_word}
 use Rattle.rules.specs.Make.{shipped}
 use Rattle.rules.specs.Statement.{All}
 use Rattle.rules.specs.Consequences.{items_in}
@@ -36,7 +36,9 @@ use Rattle.printing.specs.declared.printed.Mode.TheVariants.{Listing, Summing}
 use Rattle.printing.specs.declared.printed.Printed.{Printed}
 use Rattle.printing.specs.declared.printed.Printed.TheVariants.{Nothing, Closing}
 use Rattle.tally.proofs.Events.{Quiet, AllQuiet, no_distance, Close, Within, known_file, all_within, faults}
-use Rattle.std.specs.Prelude.{Ok, Err}
+use Rattle.std.specs.Prelude.{Option, Some, None, Ok, Err}
+use Rattle.rules.specs.declared.Refusal.{Refusal}
+use Rattle.runfile.specs.Faults.{fault_number}
 
 -- ---- the line of an answer
 abbrev entry_of : ℕ → ℕ → Answered → Entry
@@ -162,9 +164,10 @@ unfolding lines_if
 lines_end among [] x e = rw e
 lines_end among (y ∷ ys) x e = ap (λ (l : List Entry). line_if among y ++ l) (lines_end among ys x e)
 
-end_no_line : (among : ℕ → Bool) (t : Tally) (position fault : ℕ) (ws : List ℕ) → line_if among (end_printed Listing t position fault ws) ≡ []
+end_no_line : (among : ℕ → Bool) (t : Tally) (position : ℕ) (fault : Option Refusal) (ws : List ℕ) → line_if among (end_printed Listing t position fault ws) ≡ []
 unfolding end_printed listed_end
-end_no_line among t position fault ws = cases (λ (x : Printed). line_if among x ≡ []) (eqb fault 0) _ _ (λ _. refl) (λ _. refl)
+end_no_line among t position None ws = refl
+end_no_line among t position (Some refusal) ws = refl
 
 -- so the lines have the items of the calls' answers
 items_more : (n position worker : ℕ) (ws : List ℕ) (a : Answered) (q : Asked) (es : List Entry) (rest : List Event) → 1 ≤ n → Quiet q a → map item_on es ≡ items_in n rest
@@ -220,12 +223,11 @@ worst_is : (bytes : List ℕ) → (tally_over no_tally (replay_of bytes).events)
 worst_is bytes = rw (lines_are (only 2) bytes) (worst_over no_tally (replay_of bytes).events ∙ zero-max _)
 
 -- a closing line's two numbers
-closing_is : (t : Tally) (position fault : ℕ) (ws : List ℕ) (held worst : ℕ) → end_printed Listing t position fault ws ≡ Closing held worst
+closing_is : (t : Tally) (position : ℕ) (fault : Option Refusal) (ws : List ℕ) (held worst : ℕ) → end_printed Listing t position fault ws ≡ Closing held worst
     → (held_of shipped ws ≡ held) × (t.worst ≡ worst)
 unfolding end_printed listed_end
-closing_is t position fault ws held worst =
-    cases (λ (x : Printed). x ≡ Closing held worst → (held_of shipped ws ≡ held) × (t.worst ≡ worst)) (eqb fault 0) _ _
-    (λ _ e. (cc, cc)) (λ _ e. let z : ◌≡◌ {A = ℕ} 0 1 = cc in absurd (omega arith))
+closing_is t position None ws held worst e = (cc, cc)
+closing_is t position (Some refusal) ws held worst e = let z : ◌≡◌ {A = ℕ} 0 1 = cc in absurd (omega arith)
 
 pub closing_adds_up : ClosingAddsUp
 closing_adds_up bytes held worst e =
@@ -234,11 +236,10 @@ closing_adds_up bytes held worst e =
     (omega (arith, c.0, adds_up bytes), sym c.1 ∙ worst_is bytes)
 
 -- ---- no listing stops with a 30
-end_not_over : (t : Tally) (position fault : ℕ) (ws : List ℕ) → fault ≤ bad_word → NotOver (end_printed Listing t position fault ws)
+end_not_over : (t : Tally) (position : ℕ) (fault : Option Refusal) (ws : List ℕ) → fault_number fault ≤ bad_word → NotOver (end_printed Listing t position fault ws)
 unfolding end_printed listed_end
-end_not_over t position fault ws l =
-    cases NotOver (eqb fault 0) _ _ (λ _ e u. let z : ◌≡◌ {A = ℕ} 0 1 = cc in absurd (omega arith))
-    (λ _ e u over. let same : fault ≡ e.number = cc in omega arith)
+end_not_over t position None ws l e u over = let z : ◌≡◌ {A = ℕ} 0 1 = cc in absurd (omega arith)
+end_not_over t position (Some refusal) ws l e u over = let same : refusal_number refusal ≡ e.number = cc in omega arith
 
 answers_not_over : (xs : List Happened) (x : Printed) → NotOver x → All NotOver (map answer_line xs ++ (x ∷ []))
 answers_not_over [] x h = (h, tt)

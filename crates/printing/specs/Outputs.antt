@@ -1,13 +1,14 @@
 -- What the code hands on of a word is small: of an event its line, of the file's end the fault alone. What is printed of the end hangs on all that was counted, so it is
 -- made where its text is.
-use Rattle.std.specs.Prelude.{ℕ, Bool, true, false, ◌≡◌}
+use Rattle.std.specs.Prelude.{Bool, true, false, ◌≡◌, Option}
+use Rattle.rules.specs.declared.Refusal.{Refusal}
 use Rattle.printing.specs.declared.printed.Output.{Output}
 use Rattle.printing.specs.declared.printed.Output.TheVariants.{Quiet, Line as LineOut, Last as LastOut, End}
 use Rattle.printing.specs.declared.printed.Printed.{Printed}
 use Rattle.printing.specs.declared.printed.Printed.TheVariants.{Nothing, Line, Last}
 
 -- what is printed, by what is printed of the end at a fault
-abbrev pub printed_by : (ℕ → Printed) → Output → Printed
+abbrev pub printed_by : (Option Refusal → Printed) → Output → Printed
 printed_by end Quiet = Nothing
 printed_by end (LineOut e) = Line e
 printed_by end (LastOut e) = Last e
@@ -15,7 +16,7 @@ printed_by end (End fault) = end fault
 
 -- an event's output: no end
 abbrev pub Outputs : Output → Printed → Type 0
-Outputs x printed = (end : ℕ → Printed) → printed_by end x ≡ printed
+Outputs x printed = (end : Option Refusal → Printed) → printed_by end x ≡ printed
 
 -- whether a program stops after it
 abbrev pub stops_after : Output → Bool

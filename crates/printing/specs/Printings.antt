@@ -1,7 +1,7 @@
 -- THE PRINTINGS of a replay: what each program prints of an event, and of the end of the file. A new program is a case of `Mode` with its lines here.
-use Rattle.std.specs.Prelude.{ℕ, Bool, true, false, List, [], eqb, ltb, get_or, Ok, Err}
+use Rattle.std.specs.Prelude.{ℕ, Bool, true, false, List, [], ltb, get_or, Option, Some, None, Ok, Err}
 use Rattle.laws.specs.Choice.{cond}
-use Rattle.rules.specs.Answers.{over_bound}
+use Rattle.rules.specs.Answers.{refusal_number, over_bound}
 use Rattle.rules.specs.Held.{held_of}
 use Rattle.rules.specs.Layout.{steps_at}
 use Rattle.rules.specs.Make.{shipped}
@@ -10,8 +10,11 @@ use Rattle.rules.specs.declared.Row.{Row}
 use Rattle.rules.specs.declared.Stamp.{Stamp}
 use Rattle.rules.specs.Answers.{Answered}
 use Rattle.rules.specs.declared.Answer.TheVariants.{Moving, Put, Taken, Empty, Full}
+use Rattle.rules.specs.declared.Refusal.{Refusal}
+use Rattle.runfile.specs.Faults.{fault_number}
 use Rattle.runfile.specs.declared.item.Item.{Item}
-use Rattle.runfile.specs.declared.item.Item.TheVariants.{Open, Make, BeginPut, BeginTake, Step, End, SetSize, Bad}
+use Rattle.runfile.specs.declared.item.Item.TheVariants.{Open, Make, Says}
+use Rattle.runfile.specs.declared.item.Said.TheVariants.{BeginPut, BeginTake, Step, End, SetSize}
 use Rattle.replay.specs.Replay.{Event}
 use Rattle.lines.specs.Lines.{line_of, numbers_of, closing_of}
 use Rattle.lines.specs.Summary.{summary_text}
@@ -28,12 +31,11 @@ use Rattle.printing.specs.declared.printed.Printed.TheVariants.{Nothing, Line, L
 abbrev pub worker_in : Item → ℕ
 worker_in (Open opening) = 0
 worker_in (Make g) = 0
-worker_in (BeginPut worker value) = worker
-worker_in (BeginTake worker) = worker
-worker_in (Step worker) = worker
-worker_in End = 0
-worker_in (SetSize width depth) = 0
-worker_in Bad = 0
+worker_in (Says (BeginPut worker value)) = worker
+worker_in (Says (BeginTake worker)) = worker
+worker_in (Says (Step worker)) = worker
+worker_in (Says End) = 0
+worker_in (Says (SetSize width depth)) = 0
 
 -- the entry of an item that was put or taken
 abbrev pub item_entry : ℕ → ℕ → ℕ → ℕ → ℕ → Row → Stamp → ℕ → Entry
@@ -51,7 +53,7 @@ answer_printed position worker (Ok (Put value sub row stamp)) = Line (item_entry
 answer_printed position worker (Ok (Taken value sub row stamp distance)) = Line (item_entry position 2 worker value sub row stamp distance)
 answer_printed position worker (Ok Empty) = Line (plain position 3 worker)
 answer_printed position worker (Ok Full) = Line (plain position 4 worker)
-answer_printed position worker (Err n) = Line (plain position n worker)
+answer_printed position worker (Err refusal) = Line (plain position (refusal_number refusal) worker)
 
 -- "A 30 is printed in place of that take's answer, its last five fields 0", and the lister stops after it
 unfoldable pub listed_of : ℕ → Event → Printed
@@ -61,15 +63,16 @@ listed_of bound e =
     (answer_printed e.position (worker_in e.item) e.answer)
 
 -- "The lister stops after 22, 28, 29, 30, else ends with held H worst D": a fault's line, its worker 0, or the closing line
-unfoldable pub listed_end : Tally → ℕ → ℕ → List ℕ → Printed
-listed_end t position fault ws = cond (eqb fault 0) (Closing (held_of shipped ws) t.worst) (Last (plain position fault 0))
+unfoldable pub listed_end : Tally → ℕ → Option Refusal → List ℕ → Printed
+listed_end t position None ws = Closing (held_of shipped ws) t.worst
+listed_end t position (Some refusal) ws = Last (plain position (refusal_number refusal) 0)
 
 -- ---- the summary: a few lines, at the end alone
-abbrev pub summary_end : Tally → ℕ → ℕ → List ℕ → Printed
+abbrev pub summary_end : Tally → ℕ → Option Refusal → List ℕ → Printed
 summary_end t position fault ws =
     Totals
     record {
-      fault = fault;
+      fault = fault_number fault;
       words = position;
       puts = t.puts;
       takes = t.takes;
@@ -89,8 +92,8 @@ unfoldable pub event_printed : Mode → Tally → Event → Printed
 event_printed Listing t e = listed_of t.bound e
 event_printed Summing t e = Nothing
 
--- and of the end of a file: the position where it ends, the fault's number (0: none), and the pool's words
-unfoldable pub end_printed : Mode → Tally → ℕ → ℕ → List ℕ → Printed
+-- and of the end of a file: the position where it ends, the fault, if there is one, and the pool's words
+unfoldable pub end_printed : Mode → Tally → ℕ → Option Refusal → List ℕ → Printed
 end_printed Listing t position fault ws = listed_end t position fault ws
 end_printed Summing t position fault ws = summary_end t position fault ws
 

@@ -7,27 +7,29 @@ use crate::printed::{Mode, Printed, plain_entry};
 use held::items;
 use image::steps_counted;
 use lines::Summary;
+use rules::Refusal;
 use tally::Tally;
 
 // By the lister: the fault's line, or the closing line where there is none.
-fn list_end(words: &[u32], t: Tally, position: u64, fault: u32) -> Printed
+#[tactic(auto, unfolding(crate::specs::Printings::listed_end))]
+fn list_end(words: &[u32], t: Tally, position: u64, fault: Option<Refusal>) -> Printed
     ensures { result ≡ listed_end t position fault words.now }
 {
-    if fault != 0 {
-        let last = plain_entry(position, fault, 0);
-        return Printed::Last(last);
-    }
-    Printed::Closing {
-        held: items(words),
-        worst: t.worst,
+    match fault {
+        Some(refusal) => Printed::Last(plain_entry(position, refusal.number(), 0)),
+        None => Printed::Closing {
+            held: items(words),
+            worst: t.worst,
+        },
     }
 }
 
-fn sum_end(words: &[u32], t: Tally, position: u64, fault: u32) -> Printed
+// By the summary: its lines.
+fn sum_end(words: &[u32], t: Tally, position: u64, fault: Option<Refusal>) -> Printed
     ensures { result ≡ summary_end t position fault words.now }
 {
     Printed::Totals(Summary {
-        fault,
+        fault: fault.map_or(0, Refusal::number),
         words: position,
         puts: t.puts,
         takes: t.takes,
@@ -42,8 +44,15 @@ fn sum_end(words: &[u32], t: Tally, position: u64, fault: u32) -> Printed
     })
 }
 
-// By a program: the file ends at a position, by a fault of this number (0: none).
-pub fn print_end(words: &[u32], mode: Mode, t: Tally, position: u64, fault: u32) -> Printed
+// By a program: the file ends at a position, by a fault or by none.
+#[tactic(auto, unfolding(crate::specs::Printings::end_printed))]
+pub fn print_end(
+    words: &[u32],
+    mode: Mode,
+    t: Tally,
+    position: u64,
+    fault: Option<Refusal>,
+) -> Printed
     ensures { result ≡ end_printed mode t position fault words.now }
 {
     match mode {

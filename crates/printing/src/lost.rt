@@ -4,26 +4,20 @@ ghost use Rattle.rules.specs.Fit.{FitPool};
 ghost use Rattle.rules.specs.Make.{shipped};
 ghost use Rattle.printing.specs.Lost.{lost_below, lost_of};
 
-use fitness::refusal;
-use image::{settings, worker_at};
+use fitness::fit_settings;
+use image::worker_at;
 use rules::Settings;
-use rules::numbers::SHIPPED;
 use slots::lost_of;
 
 // Those of a fit pool, worker by worker.
 fn fit_lost(words: &[u32], g: Settings) -> u64
     requires fit_pool { FitPool g words.now }
-    requires edition_value { g.edition ≡ shipped }
+    requires shipped_edition { g.edition ≡ shipped }
     ensures { result ≡ lost_below words.now g g.workers }
 {
-    let workers = g.workers;
     let mut n: u64 = 0;
-    let mut i: u32 = 0;
-    while i < workers {
-        let at = worker_at(g, i);
-        let lost = lost_of(words, at);
-        n += lost as u64;
-        i += 1;
+    for i in 0..g.workers {
+        n += u64::from(lost_of(words, worker_at(g, i)));
     }
     n
 }
@@ -32,9 +26,8 @@ fn fit_lost(words: &[u32], g: Settings) -> u64
 pub fn lost(words: &[u32]) -> u64
     ensures { result ≡ lost_of shipped words.now }
 {
-    if refusal(words, SHIPPED) != 0 {
-        return 0;
+    match fit_settings(words) {
+        Ok(g) => fit_lost(words, g),
+        Err(_) => 0,
     }
-    let g = settings(words);
-    fit_lost(words, g)
 }

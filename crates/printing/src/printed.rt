@@ -2,17 +2,19 @@
 ghost use Rattle.std.specs.Prelude.{◌≡◌, ltb};
 ghost use Rattle.laws.specs.Choice.{cond};
 ghost use Rattle.rules.specs.Answers.{over_bound};
-ghost use Rattle.replay.specs.Told.{item_said, event_done};
-ghost use Rattle.printing.specs.Printings.{worker_in, plain, item_entry, listed_of, event_printed};
+ghost use Rattle.runfile.specs.declared.item.Item.TheVariants.{Says};
+ghost use Rattle.replay.specs.Told.{event_done};
+ghost use Rattle.printing.specs.Printings.{worker_in, plain, listed_of, event_printed};
 ghost use Rattle.printing.specs.Outputs.{Outputs, stops_after};
 
 use lines::{Entry, Summary};
-use replay::{Done, Said};
-use rules::numbers::OVER_BOUND;
-use rules::{Answer, Row, Stamp};
+use replay::Done;
+use rules::{Answer, Refusal, Row, Stamp};
+use runfile::item::Said;
 use tally::Tally;
 
 // Which program prints: the lister, or the summary.
+// Stays: a trait with an impl for each would put the type into every function down to the loop over a file; the two places that ask are a match each.
 #[derive(Clone, Copy)]
 pub enum Mode {
     Listing,
@@ -29,37 +31,30 @@ pub enum Printed {
     Totals(Summary),
 }
 
-// What is handed on of a word: the line of an event, or the fault that ends the file (0: none).
+// What is handed on of a word: the line of an event, or the fault that ends the file, if there is one.
 #[derive(Clone, Copy)]
 pub enum Output {
     Quiet,
     Line(Entry),
     Last(Entry),
-    End(u32),
+    End(Option<Refusal>),
 }
 
 // Whether a program stops after an output.
 pub fn ends(x: Output) -> bool
     ensures { result ≡ stops_after x }
 {
-    match x {
-        Output::Quiet => false,
-        Output::Line(_) => false,
-        Output::Last(_) => true,
-        Output::End(_) => true,
-    }
+    matches!(x, Output::Last(_) | Output::End(_))
 }
 
 // The worker that a word names.
 fn worker_in(said: Said) -> u8
-    ensures { result ≡ worker_in (item_said said) }
+    ensures { result ≡ worker_in (Says said) }
 {
     match said {
-        Said::BeginPut { worker, value: _ } => worker,
-        Said::BeginTake { worker } => worker,
-        Said::Step { worker } => worker,
-        Said::End => 0,
-        Said::SetSize { width: _, depth: _ } => 0,
+        Said::BeginPut { worker, .. } | Said::BeginTake { worker } | Said::Step { worker } =>
+            worker,
+        Said::End | Said::SetSize { .. } => 0,
     }
 }
 
@@ -79,72 +74,47 @@ pub fn plain_entry(position: u64, number: u32, worker: u8) -> Entry
     }
 }
 
-// The line of an item that was put or taken.
-fn item_line(
-    position: u64,
-    number: u32,
-    worker: u8,
-    value: u32,
-    sub: u32,
-    row: Row,
-    stamp: Stamp,
-    distance: u32,
-) -> Output
-    ensures { result ≡ Output.Line (item_entry position number worker value sub row stamp distance) }
-{
-    Output::Line(Entry {
-        position,
-        number,
-        worker,
-        value,
-        sub,
-        row,
-        stamp,
-        distance,
-    })
-}
-
 // The line of a take: 30 in its place where the distance is above the bound.
-fn taken_line(
-    bound: u32,
-    position: u64,
-    worker: u8,
-    value: u32,
-    sub: u32,
-    row: Row,
-    stamp: Stamp,
-    distance: u32,
-) -> Output
-    ensures { result ≡ cond (ltb bound distance) (Output.Last (plain position over_bound worker)) (Output.Line (item_entry position 2 worker value sub row stamp distance)) }
+#[tactic(auto, unfolding(laws::specs::Choice::cond))]
+fn taken_line(bound: u32, line: Entry) -> Output
+    ensures { result ≡ cond (ltb bound line.distance) (Output.Last (plain line.position over_bound line.worker)) (Output.Line line) }
 {
-    if bound < distance {
-        let last = plain_entry(position, OVER_BOUND, worker);
-        return Output::Last(last);
+    if bound < line.distance {
+        Output::Last(plain_entry(line.position, Refusal::OverBound.number(), line.worker))
+    } else {
+        Output::Line(line)
     }
-    item_line(position, 2, worker, value, sub, row, stamp, distance)
 }
 
-fn plain_line(position: u64, number: u32, worker: u8) -> Output
-    ensures { result ≡ Output.Line (plain position number worker) }
+// The entry of an event of this number, its last five fields 0.
+fn plain_of(d: Done, number: u32) -> Entry
+    ensures { result ≡ plain d.position number (worker_in (Says d.said)) }
 {
-    let e = plain_entry(position, number, worker);
-    Output::Line(e)
+    plain_entry(d.position, number, worker_in(d.said))
 }
 
 // What the lister prints of an event. The answer 0, of most words, has no line: it is told first, and asks for nothing else.
 fn listed(bound: u32, d: Done) -> Output
     ensures { Outputs result (listed_of bound (event_done d)) }
 {
-    let said = d.said;
-    let a = d.answer;
-    match a {
+    let answer = match d.answer {
+        Ok(answer) => answer,
+        Err(refusal) => return Output::Line(plain_of(d, refusal.number())),
+    };
+    match answer {
         Answer::Moving => Output::Quiet,
         Answer::Put {
             value,
             sub,
             row,
             stamp,
-        } => item_line(d.position, 1, worker_in(said), value, sub, row, stamp, 0),
+        } => Output::Line(Entry {
+            value,
+            sub,
+            row,
+            stamp,
+            ..plain_of(d, 1)
+        }),
         Answer::Taken {
             value,
             sub,
@@ -153,17 +123,17 @@ fn listed(bound: u32, d: Done) -> Output
             distance,
         } => taken_line(
             bound,
-            d.position,
-            worker_in(said),
-            value,
-            sub,
-            row,
-            stamp,
-            distance,
+            Entry {
+                value,
+                sub,
+                row,
+                stamp,
+                distance,
+                ..plain_of(d, 2)
+            },
         ),
-        Answer::Empty => plain_line(d.position, 3, worker_in(said)),
-        Answer::Full => plain_line(d.position, 4, worker_in(said)),
-        Answer::Refused(n) => plain_line(d.position, n, worker_in(said)),
+        Answer::Empty => Output::Line(plain_of(d, 3)),
+        Answer::Full => Output::Line(plain_of(d, 4)),
     }
 }
 

@@ -1,23 +1,26 @@
 -- HOW A FILE BEGINS: its first word opens and leaves the words lent, its second makes the pool, and none after it does (`file_begins`), since a word's place says
 -- which kinds may stand there. So does each front part of it (`front_begins`).
-use Prim.Native.Nat.{ℕ, ◌+◌}
-use mathlib.Core.List.{List, [], ◌∷◌, ◌++◌}
-use mathlib.Core.Path.{◌≡◌, refl, subst}
-use borrow.Author.Tests.{eqb-true}
+use Rattle.std.proofs.Common.{◌≡◌, ℕ, ◌+◌, Option, Some, None, Ok, Err, ◌⊎◌, inl, inr, List, [], ◌∷◌, ◌++◌, refl, subst}
+use Rattle.std.specs.Option.{option_map}
 use Rattle.laws.specs.Choice.{cond, cases}
-use Rattle.rules.specs.Answers.{number_of}
+use Rattle.rules.specs.Answers.{Out, number_of}
+use Rattle.rules.specs.Make.{shipped_from, make_of}
+use Rattle.rules.specs.declared.Answer.TheVariants.{Moving}
+use Rattle.rules.specs.declared.Refusal.{Refusal}
 use Rattle.rules.specs.Statement.{All}
 use Rattle.rules.specs.declared.Settings.{Settings}
 use Rattle.rules.specs.Answers.{Answered}
 use Rattle.runfile.specs.Words.{reads_of}
-use Rattle.runfile.specs.Items.{first_of, second_of, size_item, later_of, item_of}
+use Rattle.runfile.specs.Items.{first_of, second_of, size_of, later_of, item_of}
 use Rattle.runfile.specs.declared.word.Read.{Read}
 use Rattle.runfile.specs.declared.word.Read.TheVariants.{Word, Cut, End as NoMore}
 use Rattle.runfile.specs.declared.item.Opening.{Opening}
 use Rattle.runfile.specs.declared.item.Place.TheVariants.{First, Second, Later, Past}
 use Rattle.runfile.specs.declared.item.Item.{Item as Saying}
-use Rattle.runfile.specs.declared.item.Item.TheVariants.{Open, Make, BeginPut, BeginTake, Step, End, SetSize, Bad}
-use Rattle.replay.specs.Replay.{Asked, nothing, making, calling, asked_of, out_of, item_next, next_of, Happened, goes_on, next_place, replay_from, replay_of, lent, Next}
+use Rattle.runfile.specs.declared.item.Item.TheVariants.{Open, Make, Says}
+use Rattle.runfile.specs.declared.item.Said.{Said}
+use Rattle.runfile.specs.declared.item.Said.TheVariants.{BeginPut, BeginTake, Step, End, SetSize}
+use Rattle.replay.specs.Replay.{Asked, nothing, making, calling, asked_of, out_of, answered, item_next, word_next, next_of, Happened, goes_on, next_place, replay_from, replay_of, lent, Next}
 use Rattle.replay.specs.Files.{FrontOf}
 
 -- after the pool is made: a call, or a word that asks for nothing, which is answered 0
@@ -50,15 +53,23 @@ abbrev pub Begun : List Happened → Type 0
 Begun [] = Unit {0}
 Begun (x ∷ xs) = Opens x × Making xs
 
--- what an item does, and the rest of the file from the place after it
-abbrev onward : ℕ → List ℕ → List Read → Saying → List Happened
-onward position ws reads item =
-    let r = item_next ws position item in
+-- what a word does, and the rest of the file from the place after it
+abbrev onward : ℕ → List ℕ → List Read → Option Saying → List Happened
+onward position ws reads said =
+    let r = word_next ws position said in
     (goes_on position r.next r.words (replay_from (next_place r.next) (position + 1) r.words reads)).events
+
+-- a make is answered 0 or refused
+pub make_answer : (ws : List ℕ) (g : Settings) → ((make_of ws g).answer ≡ Ok Moving) ⊎ ((refusal : Refusal) × ((make_of ws g).answer ≡ Err refusal))
+unfolding make_of
+make_answer ws g = cases Answers _ _ _ (λ _. cases Answers _ _ _ (λ _. inr (_, refl)) (λ _. inl refl)) (λ _. inr (_, refl))
+  where
+    Answers : Out → Type 0
+    Answers o = (o.answer ≡ Ok Moving) ⊎ ((refusal : Refusal) × (o.answer ≡ Err refusal))
 
 -- after the end word nothing happens
 past_none : (position : ℕ) (ws : List ℕ) (reads : List Read) → (replay_from Past position ws reads).events ≡ []
-unfolding replay_from next_of item_next item_of out_of cond
+unfolding replay_from next_of word_next item_of
 past_none position ws [] = refl
 past_none position ws (Cut ∷ reads) = refl
 past_none position ws (NoMore ∷ reads) = refl
@@ -66,37 +77,37 @@ past_none position ws (Word word ∷ reads) = refl
 
 module _ (position : ℕ) (ws : List ℕ) (reads : List Read) where
   -- a word that is a fault
-  bad_none : (P : List Happened → Type 0) → P [] → P (onward position ws reads Bad)
-  unfolding item_next out_of cond
+  bad_none : (P : List Happened → Type 0) → P [] → P (onward position ws reads None)
+  unfolding word_next
   bad_none P h = h
 
-  end_late : AllLate (onward position ws reads End)
-  unfolding item_next out_of cond
+  end_late : AllLate (onward position ws reads (Some (Says End)))
+  unfolding word_next item_next out_of
   end_late = (refl, rw (past_none (position + 1) ws reads) tt)
 
   module _ (rest : (ws' : List ℕ) → AllLate (replay_from Later (position + 1) ws' reads).events) where
     -- a call
-    put_late : (worker value : ℕ) → AllLate (onward position ws reads (BeginPut worker value))
-    unfolding item_next out_of cond
+    put_late : (worker value : ℕ) → AllLate (onward position ws reads (Some (Says (BeginPut worker value))))
+    unfolding word_next item_next out_of
     put_late worker value = (tt, rest _)
 
-    take_late : (worker : ℕ) → AllLate (onward position ws reads (BeginTake worker))
-    unfolding item_next out_of cond
+    take_late : (worker : ℕ) → AllLate (onward position ws reads (Some (Says (BeginTake worker))))
+    unfolding word_next item_next out_of
     take_late worker = (tt, rest _)
 
-    step_late : (worker : ℕ) → AllLate (onward position ws reads (Step worker))
-    unfolding item_next out_of cond
+    step_late : (worker : ℕ) → AllLate (onward position ws reads (Some (Says (Step worker))))
+    unfolding word_next item_next out_of
     step_late worker = (tt, rest _)
 
-    size_late : (width depth : ℕ) → AllLate (onward position ws reads (SetSize width depth))
-    unfolding item_next out_of cond
+    size_late : (width depth : ℕ) → AllLate (onward position ws reads (Some (Says (SetSize width depth))))
+    unfolding word_next item_next out_of
     size_late width depth = (tt, rest _)
 
-    word_late : (word : ℕ) → AllLate (onward position ws reads (later_of word))
-    unfolding later_of size_item
+    word_late : (word : ℕ) → AllLate (onward position ws reads (option_map Says (later_of word)))
+    unfolding later_of size_of
     word_late word =
-        let P : Saying → Type 0 = λ item. AllLate (onward position ws reads item) in
-        let bad : P Bad = bad_none AllLate tt in
+        let P : Option Said → Type 0 = λ said. AllLate (onward position ws reads (option_map Says said)) in
+        let bad : P None = bad_none AllLate tt in
         cases P _ _ _ (λ _. put_late _ _)
         (λ _. cases P _ _ _ (λ _. cases P _ _ _ (λ _. take_late _) (λ _. bad))
         (λ _. cases P _ _ _ (λ _. cases P _ _ _ (λ _. step_late _) (λ _. bad))
@@ -112,18 +123,20 @@ later_late position ws (Word word ∷ reads) = word_late position ws reads (λ w
 
 module _ (position : ℕ) (ws : List ℕ) (reads : List Read) where
   -- a make that is refused is the file's fault
-  make_making : (g : Settings) → Making (onward position ws reads (Make g))
-  unfolding item_next out_of
-  make_making g =
-      let ws' = (item_next ws position (Make g)).words in
-      cases (λ (n : Next). Making (goes_on position n ws' (replay_from (next_place n) (position + 1) ws' reads)).events) _ _ _
-      (λ e. (record { settings = g; item = refl; number = eqb-true _ _ e }, later_late (position + 1) ws' reads)) (λ _. tt)
+  make_making : (g : Settings) → Making (onward position ws reads (Some (Make g)))
+  unfolding word_next item_next out_of
+  make_making g = by (make_of ws (shipped_from g)) (make_answer ws (shipped_from g))
+    where
+      by : (o : Out) → (o.answer ≡ Ok Moving) ⊎ ((refusal : Refusal) × (o.answer ≡ Err refusal))
+          → (let next = answered position (Make g) o.answer in Making (goes_on position next o.words (replay_from (next_place next) (position + 1) o.words reads)).events)
+      by o (inl e) = rw e (record { settings = g; item = refl; number = refl }, later_late (position + 1) o.words reads)
+      by o (inr (refusal, e)) = rw e tt
 
-  word_making : (opening : Opening) (word : ℕ) → Making (onward position ws reads (second_of opening word))
+  word_making : (opening : Opening) (word : ℕ) → Making (onward position ws reads (option_map Make (second_of opening word)))
   unfolding second_of
   word_making opening word =
-      let P : Saying → Type 0 = λ item. Making (onward position ws reads item) in
-      let bad : P Bad = bad_none position ws reads Making tt in
+      let P : Option Settings → Type 0 = λ g. Making (onward position ws reads (option_map Make g)) in
+      let bad : P None = bad_none position ws reads Making tt in
       cases P _ _ _ (λ _. cases P _ _ _ (λ _. make_making _) (λ _. bad)) (λ _. bad)
 
 second_making : (opening : Opening) (position : ℕ) (ws : List ℕ) (reads : List Read) → Making (replay_from (Second opening) position ws reads).events
@@ -133,15 +146,15 @@ second_making opening position ws (Cut ∷ reads) = tt
 second_making opening position ws (NoMore ∷ reads) = tt
 second_making opening position ws (Word word ∷ reads) = word_making position ws reads opening word
 
-open_begun : (position : ℕ) (reads : List Read) (opening : Opening) → Begun (onward position lent reads (Open opening))
-unfolding item_next out_of cond
+open_begun : (position : ℕ) (reads : List Read) (opening : Opening) → Begun (onward position lent reads (Some (Open opening)))
+unfolding word_next item_next out_of
 open_begun position reads opening = (record { opening = opening; item = refl; number = refl; words = refl }, second_making opening (position + 1) lent reads)
 
-word_begun : (position : ℕ) (reads : List Read) (word : ℕ) → Begun (onward position lent reads (first_of word))
+word_begun : (position : ℕ) (reads : List Read) (word : ℕ) → Begun (onward position lent reads (option_map Open (first_of word)))
 unfolding first_of
 word_begun position reads word =
-    let P : Saying → Type 0 = λ item. Begun (onward position lent reads item) in
-    let bad : P Bad = bad_none position lent reads Begun tt in
+    let P : Option Opening → Type 0 = λ opening. Begun (onward position lent reads (option_map Open opening)) in
+    let bad : P None = bad_none position lent reads Begun tt in
     cases P _ _ _ (λ _. cases P _ _ _ (λ _. open_begun position reads _) (λ _. bad)) (λ _. bad)
 
 first_begun : (position : ℕ) (reads : List Read) → Begun (replay_from First position lent reads).events

@@ -2,15 +2,9 @@
 -- word's position (`positions_count`).
 -- A file's words follow each other as `out_of` says (`Chain`), by induction on what the reader yields. The first of them opens, the second makes the pool,
 -- and none after it does (`Begins`). What follows each other without a make is a run.
-use Prim.Native.Nat.{ℕ, ◌+◌}
-use mathlib.Core.Bool.{Bool, true, false, false≢true}
-use mathlib.Core.List.{List, [], ◌∷◌, ◌++◌, map}
+use Rattle.std.proofs.Common.{◌≡◌, ℕ, ◌+◌, Bool, true, false, Option, Some, None, Ok, Err, List, [], ◌∷◌, ◌++◌, map, refl, sym, ap, subst, ◌∙◌, zero-add, arith, eqb, length}
+use Rattle.std.proofs.lemmas.Option.{none-some, same_Some}
 use mathlib.Core.Option.{none, some}
-use mathlib.Core.Path.{◌≡◌, refl, sym, ap, subst, ◌∙◌}
-use native.Mathlib.Nat.{zero-add}
-use native.Mathlib.Omega.{arith}
-use lib.Dec.{eqb}
-use lib.ListN.{length}
 use Rattle.laws.specs.Choice.{cond, cases}
 use Rattle.rules.specs.Answers.{Out, number_of}
 use Rattle.rules.specs.Consequences.{words_after}
@@ -19,6 +13,7 @@ use Rattle.rules.specs.Make.{shipped, shipped_from, make_of}
 use Rattle.rules.specs.Run.{Event, event_of, call_of, run}
 use Rattle.rules.specs.Statement.{All}
 use Rattle.rules.specs.declared.Settings.{Settings}
+use Rattle.rules.specs.declared.Refusal.{Refusal}
 use Rattle.rules.specs.Answers.{Answered}
 use Rattle.runfile.specs.Words.{reads_of}
 use Rattle.runfile.specs.Items.{item_of}
@@ -27,8 +22,8 @@ use Rattle.runfile.specs.declared.word.Read.TheVariants.{Word, Cut, End as NoMor
 use Rattle.runfile.specs.declared.item.Place.{Place}
 use Rattle.runfile.specs.declared.item.Place.TheVariants.{First}
 use Rattle.runfile.specs.declared.item.Item.{Item}
-use Rattle.runfile.specs.declared.item.Item.TheVariants.{Open, Make, BeginPut, BeginTake, Step, End, SetSize, Bad}
-use Rattle.replay.specs.Replay.{Asked, nothing, making, calling, asked_of, out_of, fault_in, answered, event, item_next, next_of, Happened, Replay, goes_on, next_place, replay_from, replay_of, lent, goes, ends}
+use Rattle.runfile.specs.declared.item.Item.TheVariants.{Open, Make, Says}
+use Rattle.replay.specs.Replay.{unless, Asked, nothing, making, calling, asked_of, out_of, fault_in, event, item_next, word_next, next_of, Happened, Replay, goes_on, next_place, replay_from, replay_of, lent}
 use Rattle.replay.specs.Files.{pool_in, with_call, events_in, calls_in, words_in, RunsOn, RunsOnPool, FilesAreRuns, PositionsCount, RunsGiveFiles}
 use Rattle.replay.proofs.Begins.{Late, AllLate, Making, Begun, front_begins}
 
@@ -41,22 +36,27 @@ Chain position ws (x ∷ xs) =
     × (x.event.position ≡ position) × Chain (position + 1) x.words xs
 
 -- an event is where a word is no fault
-chain_on : (ws : List ℕ) (position : ℕ) (item : Item) (b : Bool) (rest : Replay) (o : Out) → o ≡ out_of ws (asked_of item)
+chain_on : (ws : List ℕ) (position : ℕ) (item : Item) (fault : Option Refusal) (rest : Replay) (o : Out) → o ≡ out_of ws (asked_of item)
     → Chain (position + 1) o.words rest.events
-    → Chain position ws (goes_on position (cond b (goes (event position item o.answer)) (ends (fault_in item o.answer))) o.words rest).events
-unfolding cond
-chain_on ws position item true rest o e h = (ap (λ (x : Out). x.answer) e, ap (λ (x : Out). x.words) e, refl, h)
-chain_on ws position item false rest o e h = tt
+    → Chain position ws (goes_on position (unless fault (event position item o.answer)) o.words rest).events
+chain_on ws position item None rest o e h = (ap (λ (x : Out). x.answer) e, ap (λ (x : Out). x.words) e, refl, h)
+chain_on ws position item (Some refusal) rest o e h = tt
+
+chain_word : (position : ℕ) (ws : List ℕ) (said : Option Item) (rest : Replay)
+    → Chain (position + 1) (word_next ws position said).words rest.events
+    → Chain position ws (goes_on position (word_next ws position said).next (word_next ws position said).words rest).events
+unfolding word_next item_next
+chain_word position ws (Some item) rest h = chain_on ws position item _ rest (out_of ws (asked_of item)) refl h
+chain_word position ws None rest h = tt
 
 chain : (place : Place) (position : ℕ) (ws : List ℕ) (reads : List Read) → Chain position ws (replay_from place position ws reads).events
-unfolding replay_from next_of item_next
+unfolding replay_from next_of
 chain place position ws [] = tt
 chain place position ws (Cut ∷ reads) = tt
 chain place position ws (NoMore ∷ reads) = tt
 chain place position ws (Word word ∷ reads) =
-    let item = item_of place word in
-    let o = out_of ws (asked_of item) in
-    chain_on ws position item _ _ o refl (chain (next_place (answered position item o.answer)) (position + 1) o.words reads)
+    let r = word_next ws position (item_of place word) in
+    chain_word position ws (item_of place word) _ (chain (next_place r.next) (position + 1) r.words reads)
 
 -- so do those of a front part
 chain_front : (position : ℕ) (ws : List ℕ) (xs rest : List Happened) → Chain position ws (xs ++ rest) → Chain position ws xs
@@ -199,38 +199,43 @@ pub record EndsAt (at : ℕ) (ws : List ℕ) (r : Replay) : Type 0 where
   pub last : r.end.words ≡ words_in ws r.events
 
 -- a fault leaves the words: a make that is refused too
-make_kept : (ws : List ℕ) (g : Settings) → eqb (number_of (make_of ws g).answer) 0 ≡ false → (make_of ws g).words ≡ ws
+make_kept : (ws : List ℕ) (g : Settings) (refusal : Refusal) → (make_of ws g).answer ≡ Err refusal → (make_of ws g).words ≡ ws
 unfolding make_of
-make_kept ws g =
-    cases (λ (o : Out). eqb (number_of o.answer) 0 ≡ false → o.words ≡ ws) (settings_fit g) _ _
-    (λ _. cases (λ (o : Out). eqb (number_of o.answer) 0 ≡ false → o.words ≡ ws) _ _ _ (λ _ _. refl) (λ _ e. absurd (false≢true (sym e)))) (λ _ _. refl)
+make_kept ws g refusal = cases Kept (settings_fit g) _ _ (λ _. cases Kept _ _ _ (λ _ _. refl) (λ _ e. let z : ◌≡◌ {A = ℕ} 0 1 = cc in absurd (omega arith))) (λ _ _. refl)
+  where
+    Kept : Out → Type 0
+    Kept o = o.answer ≡ Err refusal → o.words ≡ ws
 
-fault_kept : (ws : List ℕ) (item : Item) → eqb (fault_in item (out_of ws (asked_of item)).answer) 0 ≡ false → (out_of ws (asked_of item)).words ≡ ws
+make_refused : (g : Settings) (a : Answered) (refusal : Refusal) → fault_in (Make g) a ≡ Some refusal → a ≡ Err refusal
+make_refused g (Ok a) refusal e = absurd (none-some refusal e)
+make_refused g (Err k) refusal e = rw (same_Some k refusal e) refl
+
+fault_kept : (ws : List ℕ) (item : Item) (refusal : Refusal) → fault_in item (out_of ws (asked_of item)).answer ≡ Some refusal → (out_of ws (asked_of item)).words ≡ ws
 unfolding out_of
-fault_kept ws (Open opening) e = refl
-fault_kept ws (Make g) e = make_kept ws (shipped_from g) e
-fault_kept ws (BeginPut worker value) e = absurd (false≢true (sym e))
-fault_kept ws (BeginTake worker) e = absurd (false≢true (sym e))
-fault_kept ws (Step worker) e = absurd (false≢true (sym e))
-fault_kept ws End e = refl
-fault_kept ws (SetSize width depth) e = absurd (false≢true (sym e))
-fault_kept ws Bad e = refl
+fault_kept ws (Open opening) refusal e = refl
+fault_kept ws (Make g) refusal e = make_kept ws (shipped_from g) refusal (make_refused g _ refusal e)
+fault_kept ws (Says said) refusal e = absurd (none-some refusal e)
 
-ending_on : (b : Bool) (at : ℕ) (ws : List ℕ) (item : Item) (a : Answered) (ws' : List ℕ) (rest : Replay) → (b ≡ false → ws' ≡ ws) → EndsAt (at + 1) ws' rest
-    → EndsAt at ws (goes_on at (cond b (goes (event at item a)) (ends (fault_in item a))) ws' rest)
-unfolding cond words_in
-ending_on true at ws item a ws' rest kept h = let p = h.after in record { after = omega arith; last = h.last }
-ending_on false at ws item a ws' rest kept h = record { after = omega arith; last = kept refl }
+ending_on : (fault : Option Refusal) (at : ℕ) (ws : List ℕ) (item : Item) (a : Answered) (ws' : List ℕ) (rest : Replay)
+    → ((refusal : Refusal) → fault ≡ Some refusal → ws' ≡ ws) → EndsAt (at + 1) ws' rest → EndsAt at ws (goes_on at (unless fault (event at item a)) ws' rest)
+unfolding words_in
+ending_on None at ws item a ws' rest kept h = let p = h.after in record { after = omega arith; last = h.last }
+ending_on (Some refusal) at ws item a ws' rest kept h = record { after = omega arith; last = kept refusal refl }
+
+ending_word : (at : ℕ) (ws : List ℕ) (said : Option Item) (rest : Replay) → EndsAt (at + 1) (word_next ws at said).words rest
+    → EndsAt at ws (goes_on at (word_next ws at said).next (word_next ws at said).words rest)
+unfolding word_next item_next words_in
+ending_word at ws (Some item) rest h = let o = out_of ws (asked_of item) in ending_on _ at ws item o.answer o.words rest (fault_kept ws item) h
+ending_word at ws None rest h = record { after = omega arith; last = refl }
 
 ending : (place : Place) (at : ℕ) (ws : List ℕ) (reads : List Read) → EndsAt at ws (replay_from place at ws reads)
-unfolding replay_from next_of item_next words_in
+unfolding replay_from next_of words_in
 ending place at ws [] = record { after = omega arith; last = refl }
 ending place at ws (Cut ∷ reads) = record { after = omega arith; last = refl }
 ending place at ws (NoMore ∷ reads) = record { after = omega arith; last = refl }
 ending place at ws (Word word ∷ reads) =
-    let item = item_of place word in
-    let o = out_of ws (asked_of item) in
-    ending_on _ at ws item o.answer o.words _ (fault_kept ws item) (ending (next_place (answered at item o.answer)) (at + 1) o.words reads)
+    let r = word_next ws at (item_of place word) in
+    ending_word at ws (item_of place word) _ (ending (next_place r.next) (at + 1) r.words reads)
 
 pub positions_count : PositionsCount
 unfolding replay_of

@@ -1,24 +1,26 @@
 -- THE REPLAY of a run file, from its bytes to its events: for each word its position, what it says, the call that it makes and the answer; the
 -- pool's words after it; and the fault that ends the file.
 -- What the programs print are printings of it.
-use Rattle.std.specs.Prelude.{ℕ, ◌+◌, List, [], ◌∷◌, eqb, replicate, Ok}
-use Rattle.laws.specs.Choice.{cond}
-use Rattle.rules.specs.Answers.{Out, out, bad_word, number_of}
+use Rattle.std.specs.Prelude.{ℕ, ◌+◌, List, [], ◌∷◌, replicate, Option, Some, None, Ok, Err}
+use Rattle.rules.specs.Answers.{Out, out}
 use Rattle.rules.specs.Layout.{most_words}
 use Rattle.rules.specs.Make.{shipped, shipped_from, make_of}
 use Rattle.rules.specs.Run.{Call, begin_put, begin_take, step, set_size, call_of}
 use Rattle.rules.specs.declared.Settings.{Settings}
 use Rattle.rules.specs.Answers.{Answered}
 use Rattle.rules.specs.declared.Answer.TheVariants.{Moving}
+use Rattle.rules.specs.declared.Refusal.{Refusal}
+use Rattle.rules.specs.declared.Refusal.TheVariants.{BadWord}
 use Rattle.runfile.specs.Words.{reads_of}
 use Rattle.runfile.specs.Items.{item_of}
-use Rattle.runfile.specs.Faults.{no_fault, fault_of}
+use Rattle.runfile.specs.Faults.{fault_of}
 use Rattle.runfile.specs.declared.word.Read.{Read}
 use Rattle.runfile.specs.declared.word.Read.TheVariants.{Word, Cut, End as NoMore}
 use Rattle.runfile.specs.declared.item.Place.{Place}
 use Rattle.runfile.specs.declared.item.Place.TheVariants.{First, Second, Later, Past}
 use Rattle.runfile.specs.declared.item.Item.{Item}
-use Rattle.runfile.specs.declared.item.Item.TheVariants.{Open, Make, BeginPut, BeginTake, Step, End, SetSize, Bad}
+use Rattle.runfile.specs.declared.item.Item.TheVariants.{Open, Make, Says}
+use Rattle.runfile.specs.declared.item.Said.TheVariants.{BeginPut, BeginTake, Step, End, SetSize}
 
 -- ---- what a word asks for
 -- nothing, that the pool be made, or a call of demand 3's list
@@ -30,12 +32,11 @@ pub data Asked : Type 0 where
 abbrev pub asked_of : Item → Asked
 asked_of (Open opening) = nothing
 asked_of (Make g) = making (shipped_from g)
-asked_of (BeginPut worker value) = calling (begin_put worker value)
-asked_of (BeginTake worker) = calling (begin_take worker)
-asked_of (Step worker) = calling (step worker)
-asked_of End = nothing
-asked_of (SetSize width depth) = calling (set_size width depth)
-asked_of Bad = nothing
+asked_of (Says (BeginPut worker value)) = calling (begin_put worker value)
+asked_of (Says (BeginTake worker)) = calling (begin_take worker)
+asked_of (Says (Step worker)) = calling (step worker)
+asked_of (Says End) = nothing
+asked_of (Says (SetSize width depth)) = calling (set_size width depth)
 
 -- what is answered, and the pool's words afterwards
 unfoldable pub out_of : List ℕ → Asked → Out
@@ -48,24 +49,18 @@ out_of ws (calling c) = call_of shipped ws c
 abbrev pub place_after : Item → Answered → Place
 place_after (Open opening) a = Second opening
 place_after (Make g) a = Later
-place_after (BeginPut worker value) a = Later
-place_after (BeginTake worker) a = Later
-place_after (Step worker) a = Later
-place_after End a = Past
-place_after (SetSize width depth) a = Later
-place_after Bad a = Past
+place_after (Says (BeginPut worker value)) a = Later
+place_after (Says (BeginTake worker)) a = Later
+place_after (Says (Step worker)) a = Later
+place_after (Says End) a = Past
+place_after (Says (SetSize width depth)) a = Later
 
--- the fault that a word is: "a kind out of place, a nonzero spare bit, bytes after the end", or a pool that is not made, since
--- "the lister stops after 22"
-abbrev pub fault_in : Item → Answered → ℕ
-fault_in (Open opening) a = no_fault
-fault_in (Make g) a = number_of a
-fault_in (BeginPut worker value) a = no_fault
-fault_in (BeginTake worker) a = no_fault
-fault_in (Step worker) a = no_fault
-fault_in End a = no_fault
-fault_in (SetSize width depth) a = no_fault
-fault_in Bad a = bad_word
+-- the fault that a word is: a pool that is not made, since "the lister stops after 22"
+abbrev pub fault_in : Item → Answered → Option Refusal
+fault_in (Open opening) a = None
+fault_in (Make g) (Ok a) = None
+fault_in (Make g) (Err refusal) = Some refusal
+fault_in (Says said) a = None
 
 -- ---- one word
 -- what a word did: its position, what it says, and the answer to the call that it makes, `Moving` where it makes none
@@ -74,10 +69,10 @@ pub record Event : Type 0 where
   pub item : Item
   pub answer : Answered
 
--- how the file goes on: with an event, or it ends, by a fault of this number (0: none)
+-- how the file goes on: with an event, or it ends, by a fault or by none
 pub data Next : Type 0 where
   goes : Event → Next
-  ends : ℕ → Next
+  ends : Option Refusal → Next
 
 -- that, and the pool's words
 pub record Replayed : Type 0 where
@@ -90,17 +85,27 @@ replayed n ws = record { next = n; words = ws }
 abbrev pub event : ℕ → Item → Answered → Event
 event position item a = record { position = position; item = item; answer = a }
 
+-- an event, unless its word is a fault
+abbrev pub unless : Option Refusal → Event → Next
+unless None e = goes e
+unless (Some refusal) e = ends (Some refusal)
+
 -- an item that was answered
 abbrev pub answered : ℕ → Item → Answered → Next
-answered position item a = cond (eqb (fault_in item a) no_fault) (goes (event position item a)) (ends (fault_in item a))
+answered position item a = unless (fault_in item a) (event position item a)
 
 unfoldable pub item_next : List ℕ → ℕ → Item → Replayed
 item_next ws position item =
     replayed (answered position item (out_of ws (asked_of item)).answer) (out_of ws (asked_of item)).words
 
+-- a word that says nothing is a fault too: "a kind out of place, a nonzero spare bit, bytes after the end"
+unfoldable pub word_next : List ℕ → ℕ → Option Item → Replayed
+word_next ws position (Some item) = item_next ws position item
+word_next ws position None = replayed (ends (Some BadWord)) ws
+
 -- what stands at a position, in its place
 unfoldable pub next_of : List ℕ → Place → ℕ → Read → Replayed
-next_of ws place position (Word word) = item_next ws position (item_of place word)
+next_of ws place position (Word word) = word_next ws position (item_of place word)
 next_of ws place position Cut = replayed (ends (fault_of place Cut)) ws
 next_of ws place position NoMore = replayed (ends (fault_of place NoMore)) ws
 
@@ -110,10 +115,10 @@ pub record Happened : Type 0 where
   pub event : Event
   pub words : List ℕ
 
--- where a file ends: the position of the fault that ends it, or after its last word; the fault's number (0: none); the pool's words then
+-- where a file ends: the position of the fault that ends it, or after its last word; the fault, if there is one; the pool's words then
 pub record Ending : Type 0 where
   pub position : ℕ
-  pub fault : ℕ
+  pub fault : Option Refusal
   pub words : List ℕ
 
 pub record Replay : Type 0 where

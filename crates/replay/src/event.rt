@@ -1,31 +1,21 @@
 // What the words of a run file do, in the shape in which it is handed on: small, for it goes from call to call with every word. The settings of the first
 // two words are large, so that these have cases of their own; the events that all of it stands for are `next_told`'s.
-use rules::{Answer, Settings};
-use runfile::item::Opening;
+use rules::{Answer, Refusal, Settings};
+use runfile::item::{Opening, Said};
 
-// What a word after the first two says.
-#[derive(Clone, Copy)]
-pub enum Said {
-    BeginPut { worker: u8, value: u32 },
-    BeginTake { worker: u8 },
-    Step { worker: u8 },
-    End,
-    SetSize { width: u8, depth: u8 },
-}
-
-// What such a word did: its position, what it says, and the answer to the call that it makes, `Moving` where it makes none.
+// What a word after the first two did: its position, what it says, and what the call that it makes comes to, `Moving` where it makes none.
 #[derive(Clone, Copy)]
 pub struct Done {
     pub position: u64,
     pub said: Said,
-    pub answer: Answer,
+    pub answer: Result<Answer, Refusal>,
 }
 
-// How a file goes on: its first word is read, the pool is made, a later word did what it says, or the file ends, by a fault of this number (0: none).
+// How a file goes on: its first word is read, the pool is made, a later word did what it says, or the file ends, by a fault or by none.
 #[derive(Clone, Copy)]
 pub enum Told {
     Opens(Opening),
     Makes(Settings),
     Does(Done),
-    Ends(u32),
+    Ends(Option<Refusal>),
 }

@@ -4,5 +4,5 @@
 mod event;
 mod word;
 
-pub use event::{Done, Said, Told};
+pub use event::{Done, Told};
 pub use word::{lent_words, next, place_after};

@@ -1,20 +1,19 @@
 // One word of a run file on the pool.
 ghost use Rattle.std.specs.Prelude.{◌≡◌, ℕ, replicate};
+ghost use Rattle.rules.specs.Answers.{Answered, out};
 ghost use Rattle.rules.specs.Layout.{most_words};
 ghost use Rattle.rules.specs.Make.{shipped};
-ghost use Rattle.replay.specs.Replay.{place_after, replayed, item_next, next_of};
-ghost use Rattle.replay.specs.Told.{item_said, next_told};
+ghost use Rattle.replay.specs.Replay.{asked_of, out_of, place_after, replayed, item_next, word_next, next_of};
+ghost use Rattle.replay.specs.Told.{next_told};
 ghost use Rattle.runfile.specs.Items.{item_of};
 ghost use Rattle.runfile.specs.Words.{read_at};
 
-use crate::event::{Done, Said, Told};
+use crate::event::{Done, Told};
 use image::MOST_WORDS;
-use rules::numbers::BAD_WORD;
-use rules::{Answer, Settings};
-use runfile::item::{Item, Place, decode, fault};
-use runfile::reader::read_word;
+use rules::{Answer, Refusal, Settings};
+use runfile::item::{Item, Place, Said, decode, fault};
+use runfile::reader::Reader;
 use runfile::word::Read;
-use step::answers::number;
 
 // The lent words before a file's first word: enough for the largest pool.
 pub fn lent_words() -> [u32; MOST_WORDS]
@@ -23,19 +22,14 @@ pub fn lent_words() -> [u32; MOST_WORDS]
     [0; MOST_WORDS]
 }
 
-// The place after a word that is neither of the first two.
-pub fn place_after(said: Said, a: Answer) -> Place
-    ensures { result ≡ place_after (item_said said) a }
+// The place after a word that is neither of the first two, whatever its answer is.
+pub fn place_after(said: Said) -> Place
+    ensures { (a : Answered) → result ≡ place_after (Item.Says said) a }
 {
-    match said {
-        Said::BeginPut {
-            worker: _,
-            value: _,
-        } => Place::Later,
-        Said::BeginTake { worker: _ } => Place::Later,
-        Said::Step { worker: _ } => Place::Later,
-        Said::End => Place::Past,
-        Said::SetSize { width: _, depth: _ } => Place::Later,
+    if matches!(said, Said::End) {
+        Place::Past
+    } else {
+        Place::Later
     }
 }
 
@@ -43,63 +37,60 @@ pub fn place_after(said: Said, a: Answer) -> Place
 fn make(words: &mut [u32], g: Settings) -> Told
     ensures { (position : ℕ) → replayed (next_told position result) words.new ≡ item_next words.old position (Item.Make g) }
 {
-    let a = pool::make(
+    match pool::make(
         words, g.kind, g.width, g.depth, g.shift, g.rows, g.workers, g.stride,
-    );
-    let n = number(a);
-    if n != 0 {
-        return Told::Ends(n);
+    ) {
+        Ok(_) => Told::Makes(g),
+        Err(refusal) => Told::Ends(Some(refusal)),
     }
-    Told::Makes(g)
 }
 
-fn done(position: u64, said: Said, answer: Answer) -> Told
-    ensures { result ≡ Told.Does (record { position = position; said = said; answer = answer }) }
+// What the call that a later word makes comes to, `Moving` where it makes none.
+#[tactic(auto, unfolding(crate::specs::Replay::out_of, rules::specs::Run::call_of))]
+fn answer_to(words: &mut [u32], said: Said) -> Result<Answer, Refusal>
+    ensures { out result words.new ≡ out_of words.old (asked_of (Item.Says said)) }
 {
-    Told::Does(Done {
-        position,
-        said,
-        answer,
-    })
+    match said {
+        Said::BeginPut { worker, value } => pool::begin_put(words, u32::from(worker), value),
+        Said::BeginTake { worker } => pool::begin_take(words, u32::from(worker)),
+        Said::Step { worker } => pool::step(words, u32::from(worker)),
+        Said::End => Ok(Answer::Moving),
+        Said::SetSize { width, depth } => {
+            pool::set_size(words, u32::from(width), u32::from(depth))
+        }
+    }
 }
 
 // What a word does.
+#[tactic(auto, unfolding(crate::specs::Replay::word_next, crate::specs::Replay::item_next, crate::specs::Replay::out_of, laws::specs::Choice::cond))]
 fn next_word(words: &mut [u32], place: Place, position: u64, word: u32) -> Told
-    ensures { replayed (next_told position result) words.new ≡ item_next words.old position (item_of place word) }
+    ensures { replayed (next_told position result) words.new ≡ word_next words.old position (item_of place word) }
 {
-    let item = decode(place, word);
+    let Some(item) = decode(place, word) else {
+        return Told::Ends(Some(Refusal::BadWord));
+    };
     match item {
         Item::Open(opening) => Told::Opens(opening),
         Item::Make(g) => make(words, g),
-        Item::BeginPut { worker, value } => {
-            let a = pool::begin_put(words, worker as u32, value);
-            done(position, Said::BeginPut { worker, value }, a)
+        Item::Says(said) => {
+            let answer = answer_to(words, said);
+            Told::Does(Done {
+                position,
+                said,
+                answer,
+            })
         }
-        Item::BeginTake { worker } => {
-            let a = pool::begin_take(words, worker as u32);
-            done(position, Said::BeginTake { worker }, a)
-        }
-        Item::Step { worker } => {
-            let a = pool::step(words, worker as u32);
-            done(position, Said::Step { worker }, a)
-        }
-        Item::End => done(position, Said::End, Answer::Moving),
-        Item::SetSize { width, depth } => {
-            let a = pool::set_size(words, width as u32, depth as u32);
-            done(position, Said::SetSize { width, depth }, a)
-        }
-        Item::Bad => Told::Ends(BAD_WORD),
     }
 }
 
-// What a reader of `src` at word `at` has for the replay, at a place and a position of the file: either the reader yields a word, or the file
-// ends, by a fault (after the end word by none). Where there is no word the reader is asked again: its answer, kept for that, would burden every word.
-pub fn next(words: &mut [u32], place: Place, position: u64, src: &[u8], at: usize) -> Told
-    ensures { replayed (next_told position result) words.new ≡ next_of words.old place position (read_at src.now at) }
+// What a reader has for the replay, at a place and a position of the file: either the reader yields a word, or the file ends, by a fault (after the
+// end word by none). Where there is no word the reader is asked again: its answer, kept for that, would burden every word.
+#[tactic(auto, unfolding(crate::specs::Replay::next_of))]
+pub fn next(words: &mut [u32], place: Place, position: u64, reader: Reader<'_>) -> Told
+    ensures { replayed (next_told position result) words.new ≡ next_of words.old place position (read_at reader.entry.src.now reader.entry.at) }
 {
-    let read = read_word(src, at);
-    let Read::Word(word) = read else {
-        return Told::Ends(fault(place, read_word(src, at)));
+    let Read::Word(word) = reader.read() else {
+        return Told::Ends(fault(place, reader.read()));
     };
     next_word(words, place, position, word)
 }

@@ -1,28 +1,26 @@
 -- What stands at a word position, told from the number of bytes: a whole word where four bytes are left, a cut one where fewer are, and nothing past them.
 -- Each by walking down the bytes four at a time, as `reads_of` does.
-use Prim.Native.Nat.{ℕ, zero, suc, ◌+◌, ◌*◌, ◌<◌, ◌≤◌}
-use mathlib.Core.List.{List, [], ◌∷◌}
-use mathlib.Core.Path.{◌≡◌, refl}
-use native.Mathlib.Numerals.{towards_suc}
-use native.Mathlib.Omega.{arith}
-use lib.ListN.{length, get_or}
+use Rattle.std.proofs.Common.{◌≡◌, ℕ, zero, suc, ◌+◌, ◌*◌, ◌<◌, ◌≤◌, List, [], ◌∷◌, length, get_or, refl, arith, w32}
+use Rattle.std.specs.Int.{from_le_bytes}
+use Rattle.std.specs.Simd.{first_chunks}
 use Rattle.runfile.specs.Words.{word_bytes, word_of, reads_of, read_at}
 use Rattle.runfile.specs.declared.word.Read.TheVariants.{Word, Cut, End}
 
--- the word of the four bytes from i
-abbrev pub word_from : List ℕ → ℕ → ℕ
-word_from bytes i = word_of (get_or bytes i 0) (get_or bytes (i + 1) 0) (get_or bytes (i + 2) 0) (get_or bytes (i + 3) 0)
+-- the definition's word is the library's of four bytes
+word_of_four : (a b c d : ℕ) → word_of a b c d ≡ from_le_bytes w32 (a ∷ b ∷ c ∷ d ∷ [])
+word_of_four a b c d = omega arith
 
-pub whole_word : (bytes : List ℕ) (at : ℕ) → word_bytes * at + word_bytes ≤ length bytes → read_at bytes at ≡ Word (word_from bytes (word_bytes * at))
+-- the words are the chunks of four bytes
+pub whole_word : (bytes : List ℕ) (n at : ℕ) → word_bytes * n ≤ length bytes → at < n
+    → read_at bytes at ≡ Word (from_le_bytes w32 (get_or (first_chunks word_bytes n bytes) at []))
 unfolding read_at reads_of
-whole_word [] at h = absurd (omega arith)
-whole_word (a ∷ []) at h = absurd (omega arith)
-whole_word (a ∷ b ∷ []) at h = absurd (omega arith)
-whole_word (a ∷ b ∷ c ∷ []) at h = absurd (omega arith)
-whole_word (a ∷ b ∷ c ∷ d ∷ rest) zero h = refl
-whole_word (a ∷ b ∷ c ∷ d ∷ rest) (suc at) h =
-    let e : word_bytes * suc at ≡ suc (suc (suc (suc (word_bytes * at)))) = omega arith in
-    simp (e, towards_suc) (simp towards_suc at (whole_word rest at (omega arith)))
+whole_word [] (suc n) at l h = absurd (omega arith)
+whole_word (a ∷ []) (suc n) at l h = absurd (omega arith)
+whole_word (a ∷ b ∷ []) (suc n) at l h = absurd (omega arith)
+whole_word (a ∷ b ∷ c ∷ []) (suc n) at l h = absurd (omega arith)
+whole_word (a ∷ b ∷ c ∷ d ∷ rest) (suc n) zero l h = simp (word_of_four a b c d)
+whole_word (a ∷ b ∷ c ∷ d ∷ rest) (suc n) (suc at) l h = whole_word rest n at (omega arith) (omega arith)
+whole_word bytes zero at l h = absurd (omega arith)
 
 pub cut_word : (bytes : List ℕ) (at : ℕ) → word_bytes * at < length bytes → length bytes < word_bytes * at + word_bytes → read_at bytes at ≡ Cut
 unfolding read_at reads_of

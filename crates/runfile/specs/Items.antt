@@ -1,12 +1,15 @@
 -- What a word of a run file says at its place: its kind, in the top four bits, its fields, and spare bits that are zero.
-use Rattle.std.specs.Prelude.{ℕ, ◌/◌, ◌%◌, ◌^◌, eqb}
+use Rattle.std.specs.Prelude.{ℕ, ◌/◌, ◌%◌, ◌^◌, eqb, Option, Some, None, option_map}
 use Rattle.laws.specs.Choice.{cond}
 use Rattle.rules.specs.Make.{shipped}
+use Rattle.rules.specs.declared.Settings.{Settings}
 use Rattle.runfile.specs.declared.item.Opening.{Opening}
 use Rattle.runfile.specs.declared.item.Place.{Place}
 use Rattle.runfile.specs.declared.item.Place.TheVariants.{First, Second, Later, Past}
 use Rattle.runfile.specs.declared.item.Item.{Item}
-use Rattle.runfile.specs.declared.item.Item.TheVariants.{Open, Make, BeginPut, BeginTake, Step, End, SetSize, Bad}
+use Rattle.runfile.specs.declared.item.Item.TheVariants.{Open, Make, Says}
+use Rattle.runfile.specs.declared.item.Said.{Said}
+use Rattle.runfile.specs.declared.item.Said.TheVariants.{BeginPut, BeginTake, Step, End, SetSize}
 
 -- ---- the kinds of words
 -- "Kind 1, first", "Kind 2, second"
@@ -77,31 +80,29 @@ kind_of word = word / 2 ^ kind_bit
 abbrev pub bits : ℕ → ℕ → ℕ → ℕ
 bits low high word = word % 2 ^ high / 2 ^ low
 
--- the item where the spare bits, from `low` to before `high`, are zero
-abbrev pub spare : ℕ → ℕ → ℕ → Item → Item
-spare low high word item = cond (eqb (bits low high word) 0) item Bad
+-- what a word says where the spare bits, from `low` to before `high`, are zero
+abbrev pub spare : {A : Type 0} → ℕ → ℕ → ℕ → A → Option A
+spare low high word said = cond (eqb (bits low high word) 0) (Some said) None
 
--- the item where the word is of this kind
-abbrev pub of_kind : ℕ → ℕ → Item → Item → Item
-of_kind kind word item other = cond (eqb (kind_of word) kind) item other
+-- what it says where it is of this kind
+abbrev pub of_kind : {A : Type 0} → ℕ → ℕ → Option A → Option A → Option A
+of_kind kind word said other = cond (eqb (kind_of word) kind) said other
 
-unfoldable pub first_of : ℕ → Item
+unfoldable pub first_of : ℕ → Option Opening
 first_of word =
     of_kind open_kind word (spare first_spare_bit kind_bit word
-    (Open
     record {
       kind = bits stack_bit stride_bit word;
       width = bits 0 depth_bit word;
       depth = bits depth_bit shift_bit word;
       shift = bits shift_bit stack_bit word;
       stride = bits stride_bit first_spare_bit word;
-    }))
-    Bad
+    })
+    None
 
-unfoldable pub second_of : Opening → ℕ → Item
+unfoldable pub second_of : Opening → ℕ → Option Settings
 second_of o word =
     of_kind make_kind word (spare second_spare_bit kind_bit word
-    (Make
     record {
       kind = o.kind;
       width = o.width;
@@ -111,27 +112,27 @@ second_of o word =
       workers = bits workers_bit second_spare_bit word;
       stride = o.stride;
       edition = shipped;
-    }))
-    Bad
+    })
+    None
 
-abbrev pub worker_in : ℕ → ℕ
-worker_in word = bits worker_bit kind_bit word
+abbrev pub worker_of : ℕ → ℕ
+worker_of word = bits worker_bit kind_bit word
 
-unfoldable pub size_item : ℕ → Item
-size_item word = spare size_spare_bit kind_bit word (SetSize (bits 0 depth_bit word) (bits depth_bit size_spare_bit word))
+unfoldable pub size_of : ℕ → Option Said
+size_of word = spare size_spare_bit kind_bit word (SetSize (bits 0 depth_bit word) (bits depth_bit size_spare_bit word))
 
-unfoldable pub later_of : ℕ → Item
+unfoldable pub later_of : ℕ → Option Said
 later_of word =
-    of_kind begin_put_kind word (BeginPut (worker_in word) (bits 0 worker_bit word))
-    (of_kind begin_take_kind word (spare 0 worker_bit word (BeginTake (worker_in word)))
-    (of_kind step_kind word (spare 0 worker_bit word (Step (worker_in word)))
+    of_kind begin_put_kind word (Some (BeginPut (worker_of word) (bits 0 worker_bit word)))
+    (of_kind begin_take_kind word (spare 0 worker_bit word (BeginTake (worker_of word)))
+    (of_kind step_kind word (spare 0 worker_bit word (Step (worker_of word)))
     (of_kind end_kind word (spare 0 kind_bit word End)
-    (of_kind set_size_kind word (size_item word)
-    Bad))))
+    (of_kind set_size_kind word (size_of word)
+    None))))
 
--- nothing may stand after the end word
-unfoldable pub item_of : Place → ℕ → Item
-item_of First word = first_of word
-item_of (Second opening) word = second_of opening word
-item_of Later word = later_of word
-item_of Past word = Bad
+-- nothing may stand after the end word; where there is none the word is bad
+unfoldable pub item_of : Place → ℕ → Option Item
+item_of First word = option_map Open (first_of word)
+item_of (Second opening) word = option_map Make (second_of opening word)
+item_of Later word = option_map Says (later_of word)
+item_of Past word = None

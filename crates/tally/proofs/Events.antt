@@ -3,7 +3,7 @@
 -- there. So the tally's bound is the pool's from that word on, or that of the greatest size set since; and what is no call is answered 0, so it has no distance and no
 -- item. A take is within the bound by the size of its window, which is the pool's or one that the run has set (`sizes_known`). That holds of each front part of a
 -- file, so a take is within the bound that the tally has just then (`within_fronts`).
-use Rattle.std.proofs.Common.{◌≡◌, ℕ, zero, suc, ◌+◌, ◌≤◌, max, Bool, true, eqb, leb, ◌≢◌, List, [], ◌∷◌, ◌++◌, length, sym, refl, ap, ◌∙◌, subst, append-nil, arith, eq-eqb, le-leb, leb-true}
+use Rattle.std.proofs.Common.{◌≡◌, ℕ, zero, suc, ◌+◌, ◌≤◌, max, Bool, true, eqb, leb, ◌≢◌, Option as Perhaps, Some, None, List, [], ◌∷◌, ◌++◌, length, sym, refl, ap, ◌∙◌, subst, append-nil, arith, eq-eqb, le-leb, leb-true}
 use mathlib.Core.Option.{Option, none, some}
 use native.Mathlib.Decide.{ℕ_discrete}
 use Rattle.laws.specs.Choice.{cond, cases, cond_both, cond_true}
@@ -21,6 +21,7 @@ use Rattle.rules.specs.Run.{Call, begin_put, begin_take, step, set_size, call_of
 use Rattle.rules.specs.Sequential.{bound_by, demand3_rows, most_passed}
 use Rattle.rules.specs.declared.Settings.{Settings}
 use Rattle.rules.specs.declared.Size.{Size}
+use Rattle.rules.specs.declared.Refusal.{Refusal}
 use Rattle.rules.specs.Answers.{Answered}
 use Rattle.rules.specs.declared.Side.{Side}
 use Rattle.rules.specs.declared.Side.TheVariants.{Putting, Taking}
@@ -32,14 +33,15 @@ use Rattle.rules.proofs.Transfer.{related_fit, made_related, related_after}
 use Rattle.rules.proofs.counts.Held.{count_none, count_all}
 use Rattle.rules.proofs.words.Made.{accepted}
 use Rattle.runfile.specs.Items.{item_of}
-use Rattle.runfile.specs.Faults.{fault_of}
+use Rattle.runfile.specs.Faults.{fault_number, fault_of}
 use Rattle.runfile.specs.declared.word.Read.{Read}
 use Rattle.runfile.specs.declared.word.Read.TheVariants.{Word, Cut, End as NoMore}
 use Rattle.runfile.specs.declared.item.Place.TheVariants.{First, Second, Later, Past}
 use Rattle.runfile.specs.declared.item.Item.{Item as Saying}
-use Rattle.runfile.specs.declared.item.Item.TheVariants.{Open, Make, BeginPut, BeginTake, Step, End, SetSize, Bad}
+use Rattle.runfile.specs.declared.item.Item.TheVariants.{Open, Make, Says}
+use Rattle.runfile.specs.declared.item.Said.TheVariants.{BeginPut, BeginTake, Step, End, SetSize}
 use Rattle.runfile.specs.declared.item.Place.{Place}
-use Rattle.replay.specs.Replay.{Asked, nothing, making, calling, asked_of, out_of, item_next, next_of, Happened, goes_on, next_place, place_after, replay_from, replay_of, lent, fault_in, Next}
+use Rattle.replay.specs.Replay.{unless, Event as Done, Asked, nothing, making, calling, asked_of, out_of, item_next, word_next, next_of, Happened, Replay, goes_on, next_place, replay_from, replay_of, lent, fault_in}
 use Rattle.replay.specs.Files.{pool_in, with_call, events_in, calls_in, words_in, RunsOn, RunsOnPool, FrontOf}
 use Rattle.replay.proofs.Files.{files_are_runs}
 use Rattle.tally.specs.Tally.{no_tally, bound_in, passed_in, bound_after, tally_after}
@@ -155,13 +157,12 @@ bound_late : (bound : ℕ) (item : Saying) (a : Answered) (rest : List Size) →
     → max (bound_after bound item (number_of a)) (most_in rest) ≡ max bound (most_in (with_size item a rest))
 bound_late bound (Open opening) a rest h = refl
 bound_late bound (Make g) a rest h = absurd h
-bound_late bound (BeginPut worker value) a rest h = refl
-bound_late bound (BeginTake worker) a rest h = refl
-bound_late bound (Step worker) a rest h = refl
-bound_late bound End a rest h = refl
-bound_late bound (SetSize width depth) a rest h =
+bound_late bound (Says (BeginPut worker value)) a rest h = refl
+bound_late bound (Says (BeginTake worker)) a rest h = refl
+bound_late bound (Says (Step worker)) a rest h = refl
+bound_late bound (Says End) a rest h = refl
+bound_late bound (Says (SetSize width depth)) a rest h =
     cond_both (λ (n : ℕ) (sizes : List Size). max n (most_in rest) ≡ max bound (most_in sizes)) (eqb (number_of a) 0) (λ _. omega (arith, most_more (record { width = width; depth = depth }) rest)) (λ _. refl)
-bound_late bound Bad a rest h = refl
 
 late_bound : (t : Tally) (xs : List Happened) → AllLate xs → (tally_over t xs).bound ≡ max t.bound (most_in (sizes_set xs))
 unfolding tally_over tally_after sizes_set most_in
@@ -184,22 +185,21 @@ sets_more : (item : Saying) (a : Answered) (ws : List ℕ) (rest : List Event) (
     → SetsAtMost (most_in (with_size item a sizes)) (with_call ws (asked_of item) a rest)
 sets_more (Open opening) a ws rest sizes h f width depth e z = h f width depth e z
 sets_more (Make g) a ws rest sizes h f width depth e z = h f width depth e z
-sets_more (BeginPut worker value) a ws rest sizes h zero width depth e z = let w : ◌≡◌ {A = ℕ} 0 1 = cc in absurd (omega arith)
-sets_more (BeginPut worker value) a ws rest sizes h (suc f) width depth e z = h f width depth e z
-sets_more (BeginTake worker) a ws rest sizes h zero width depth e z = let w : ◌≡◌ {A = ℕ} 0 1 = cc in absurd (omega arith)
-sets_more (BeginTake worker) a ws rest sizes h (suc f) width depth e z = h f width depth e z
-sets_more (Step worker) a ws rest sizes h zero width depth e z = let w : ◌≡◌ {A = ℕ} 0 1 = cc in absurd (omega arith)
-sets_more (Step worker) a ws rest sizes h (suc f) width depth e z = h f width depth e z
-sets_more End a ws rest sizes h f width depth e z = h f width depth e z
-sets_more (SetSize width depth) a ws rest sizes h zero width' depth' e z =
+sets_more (Says (BeginPut worker value)) a ws rest sizes h zero width depth e z = let w : ◌≡◌ {A = ℕ} 0 1 = cc in absurd (omega arith)
+sets_more (Says (BeginPut worker value)) a ws rest sizes h (suc f) width depth e z = h f width depth e z
+sets_more (Says (BeginTake worker)) a ws rest sizes h zero width depth e z = let w : ◌≡◌ {A = ℕ} 0 1 = cc in absurd (omega arith)
+sets_more (Says (BeginTake worker)) a ws rest sizes h (suc f) width depth e z = h f width depth e z
+sets_more (Says (Step worker)) a ws rest sizes h zero width depth e z = let w : ◌≡◌ {A = ℕ} 0 1 = cc in absurd (omega arith)
+sets_more (Says (Step worker)) a ws rest sizes h (suc f) width depth e z = h f width depth e z
+sets_more (Says End) a ws rest sizes h f width depth e z = h f width depth e z
+sets_more (Says (SetSize width depth)) a ws rest sizes h zero width' depth' e z =
     let same_width : width ≡ width' = cc in
     let same_depth : depth ≡ depth' = cc in
     rw (eq-eqb (number_of a) 0 z, cond_true (record { width = width; depth = depth } ∷ sizes) sizes, sym same_width, sym same_depth)
     (omega (arith, most_more (record { width = width; depth = depth }) sizes))
-sets_more (SetSize width depth) a ws rest sizes h (suc f) width' depth' e z =
+sets_more (Says (SetSize width depth)) a ws rest sizes h (suc f) width' depth' e z =
     cases (λ (l : List Size). passed_in (record { width = width'; depth = depth' }) ≤ most_in l) (eqb (number_of a) 0) _ _
     (λ _. omega (arith, most_more (record { width = width; depth = depth }) sizes, h f width' depth' e z)) (λ _. h f width' depth' e z)
-sets_more Bad a ws rest sizes h f width depth e z = h f width depth e z
 
 sets_all : (ws : List ℕ) (xs : List Happened) → SetsAtMost (most_in (sizes_set xs)) (events_in ws xs)
 unfolding events_in sizes_set
@@ -366,7 +366,7 @@ pub all_within : (bytes : List ℕ) → Within no_tally (replay_of bytes).events
 all_within bytes = within_fronts no_tally (replay_of bytes).events (λ ys zs e. (known_front bytes ys (zs, e)).close)
 
 -- ---- the fault that ends a file: none has a number above that of a bad word
-fault_of_law : (place : Place) (read : Read) → fault_of place read ≤ bad_word
+fault_of_law : (place : Place) (read : Read) → fault_number (fault_of place read) ≤ bad_word
 fault_of_law place (Word word) = omega arith
 fault_of_law First Cut = omega arith
 fault_of_law (Second opening) Cut = omega arith
@@ -383,23 +383,32 @@ make_number_law ws g =
     let Low : Out → Type 0 = λ o. number_of o.answer ≤ bad_word in
     cases Low _ _ _ (λ _. cases Low _ _ _ (λ _. omega arith) (λ _. omega arith)) (λ _. omega arith)
 
-fault_in_law : (ws : List ℕ) (item : Saying) → fault_in item (out_of ws (asked_of item)).answer ≤ bad_word
+make_fault_law : (g : Settings) (a : Answered) → number_of a ≤ bad_word → fault_number (fault_in (Make g) a) ≤ bad_word
+make_fault_law g (Ok a) h = omega arith
+make_fault_law g (Err refusal) h = h
+
+fault_in_law : (ws : List ℕ) (item : Saying) → fault_number (fault_in item (out_of ws (asked_of item)).answer) ≤ bad_word
 unfolding out_of
 fault_in_law ws (Open opening) = omega arith
-fault_in_law ws (Make g) = make_number_law ws (shipped_from g)
-fault_in_law ws (BeginPut worker value) = omega arith
-fault_in_law ws (BeginTake worker) = omega arith
-fault_in_law ws (Step worker) = omega arith
-fault_in_law ws End = omega arith
-fault_in_law ws (SetSize width depth) = omega arith
-fault_in_law ws Bad = omega arith
+fault_in_law ws (Make g) = make_fault_law g _ (make_number_law ws (shipped_from g))
+fault_in_law ws (Says said) = omega arith
 
-pub faults : (place : Place) (position : ℕ) (ws : List ℕ) (reads : List Read) → (replay_from place position ws reads).end.fault ≤ bad_word
-unfolding replay_from next_of item_next
+unless_law : (fault : Perhaps Refusal) (e : Done) (position : ℕ) (ws : List ℕ) (rest : Replay) → fault_number fault ≤ bad_word → fault_number rest.end.fault ≤ bad_word
+    → fault_number (goes_on position (unless fault e) ws rest).end.fault ≤ bad_word
+unless_law None e position ws rest f h = h
+unless_law (Some refusal) e position ws rest f h = f
+
+faults_word : (position : ℕ) (ws : List ℕ) (said : Perhaps Saying) (rest : Replay) → fault_number rest.end.fault ≤ bad_word
+    → fault_number (goes_on position (word_next ws position said).next (word_next ws position said).words rest).end.fault ≤ bad_word
+unfolding word_next item_next
+faults_word position ws (Some item) rest h = unless_law (fault_in item (out_of ws (asked_of item)).answer) _ position _ rest (fault_in_law ws item) h
+faults_word position ws None rest h = omega arith
+
+pub faults : (place : Place) (position : ℕ) (ws : List ℕ) (reads : List Read) → fault_number (replay_from place position ws reads).end.fault ≤ bad_word
+unfolding replay_from next_of
 faults place position ws [] = fault_of_law place NoMore
 faults place position ws (Cut ∷ reads) = fault_of_law place Cut
 faults place position ws (NoMore ∷ reads) = fault_of_law place NoMore
 faults place position ws (Word word ∷ reads) =
-    let o = out_of ws (asked_of (item_of place word)) in
-    cases (λ (n : Next). (goes_on position n o.words (replay_from (next_place n) (position + 1) o.words reads)).end.fault ≤ bad_word) _ _ _
-    (λ _. faults (place_after (item_of place word) o.answer) (position + 1) o.words reads) (λ _. fault_in_law ws (item_of place word))
+    let r = word_next ws position (item_of place word) in
+    faults_word position ws (item_of place word) _ (faults (next_place r.next) (position + 1) r.words reads)

@@ -7,7 +7,8 @@ use Rattle.rules.specs.declared.Settings.{Settings}
 use Rattle.rules.specs.declared.Size.{Size}
 use Rattle.rules.specs.Answers.{Answered}
 use Rattle.runfile.specs.declared.item.Item.{Item as Saying}
-use Rattle.runfile.specs.declared.item.Item.TheVariants.{Open, Make, BeginPut, BeginTake, Step, End, SetSize, Bad}
+use Rattle.runfile.specs.declared.item.Item.TheVariants.{Open, Make, Says}
+use Rattle.runfile.specs.declared.item.Said.TheVariants.{BeginPut, BeginTake, Step, End, SetSize}
 use Rattle.replay.specs.Replay.{Happened}
 use Rattle.tally.specs.Tally.{passed_in, tally_after}
 use Rattle.tally.specs.declared.Tally.{Tally}
@@ -21,12 +22,11 @@ tally_over t (x ∷ xs) = tally_over (tally_after t x.event) xs
 abbrev pub with_size : Saying → Answered → List Size → List Size
 with_size (Open opening) a rest = rest
 with_size (Make g) a rest = rest
-with_size (BeginPut worker value) a rest = rest
-with_size (BeginTake worker) a rest = rest
-with_size (Step worker) a rest = rest
-with_size End a rest = rest
-with_size (SetSize width depth) a rest = cond (number_of a == 0) (record { width = width; depth = depth } ∷ rest) rest
-with_size Bad a rest = rest
+with_size (Says (BeginPut worker value)) a rest = rest
+with_size (Says (BeginTake worker)) a rest = rest
+with_size (Says (Step worker)) a rest = rest
+with_size (Says End) a rest = rest
+with_size (Says (SetSize width depth)) a rest = cond (number_of a == 0) (record { width = width; depth = depth } ∷ rest) rest
 
 unfoldable pub sizes_set : List Happened → List Size
 sizes_set [] = []

@@ -10,7 +10,8 @@ use Rattle.rules.specs.declared.Settings.{Settings}
 use Rattle.rules.specs.declared.Size.{Size}
 use Rattle.rules.specs.Answers.{Answered}
 use Rattle.runfile.specs.declared.item.Item.{Item}
-use Rattle.runfile.specs.declared.item.Item.TheVariants.{Open, Make, BeginPut, BeginTake, Step, End, SetSize, Bad}
+use Rattle.runfile.specs.declared.item.Item.TheVariants.{Open, Make, Says}
+use Rattle.runfile.specs.declared.item.Said.TheVariants.{BeginPut, BeginTake, Step, End, SetSize}
 use Rattle.replay.specs.Replay.{Event}
 use Rattle.tally.specs.declared.Tally.{Tally}
 
@@ -34,12 +35,11 @@ passed_in size = (size.width - 1) * size.depth
 abbrev pub bound_after : ℕ → Item → ℕ → ℕ
 bound_after bound (Open opening) n = bound
 bound_after bound (Make g) n = bound_in g
-bound_after bound (BeginPut worker value) n = bound
-bound_after bound (BeginTake worker) n = bound
-bound_after bound (Step worker) n = bound
-bound_after bound End n = bound
-bound_after bound (SetSize width depth) n = cond (n == 0) (max bound (passed_in (record { width = width; depth = depth }))) bound
-bound_after bound Bad n = bound
+bound_after bound (Says (BeginPut worker value)) n = bound
+bound_after bound (Says (BeginTake worker)) n = bound
+bound_after bound (Says (Step worker)) n = bound
+bound_after bound (Says End) n = bound
+bound_after bound (Says (SetSize width depth)) n = cond (n == 0) (max bound (passed_in (record { width = width; depth = depth }))) bound
 
 -- 1 put, 2 taken, 3 empty, 4 full; above these are the refusals
 abbrev pub is_refused : Answered → Bool

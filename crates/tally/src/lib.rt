@@ -1,22 +1,23 @@
 // What is counted over the events of a file.
 #![tactic(auto)]
 
-ghost use Rattle.std.specs.Prelude.{◌≡◌, max};
+ghost use Rattle.std.specs.Prelude.{◌≡◌};
 ghost use Rattle.rules.specs.Limits.{Bounds};
-ghost use Rattle.rules.specs.Run.{distance_in};
+ghost use Rattle.rules.specs.Answers.{number_of};
 ghost use Rattle.rules.specs.Sequential.{most_passed};
-ghost use Rattle.replay.specs.Told.{item_said, event_done};
-ghost use Rattle.tally.specs.Tally.{no_tally, bound_in, passed_in, bound_after, wrap_on, tallied};
+ghost use Rattle.runfile.specs.declared.item.Item.TheVariants.{Says};
+ghost use Rattle.replay.specs.Told.{event_done};
+ghost use Rattle.tally.specs.Tally.{bound_in, passed_in, bound_after, tallied};
 
 use image::in_edition;
 use limits::settings_fit;
-use replay::{Done, Said};
+use replay::Done;
 use rules::numbers::SHIPPED;
 use rules::{Answer, Settings};
-use step::answers::number;
+use runfile::item::Said;
 
 // How many operations were put, taken, empty and full, how many calls were refused, the greatest distance, and the bound on one.
-#[derive(Clone, Copy)]
+#[derive(Clone, Copy, Default)]
 pub struct Tally {
     pub puts: u64,
     pub takes: u64,
@@ -27,31 +28,18 @@ pub struct Tally {
     pub bound: u32,
 }
 
-pub fn no_tally() -> Tally
-    ensures { result ≡ no_tally }
-{
-    Tally {
-        puts: 0,
-        takes: 0,
-        empties: 0,
-        fulls: 0,
-        refused: 0,
-        worst: 0,
-        bound: 0,
-    }
-}
-
 // Demand 3's bound.
+#[tactic(auto, unfolding(rules::specs::Sequential::most_passed, laws::specs::Choice::cond))]
 fn most_passed(g: Settings) -> u32
     requires { Bounds g }
     ensures { result ≡ most_passed g }
 {
-    let width = g.width;
-    let depth = g.depth;
-    if g.kind == 0 {
-        return (width - 1) * depth;
-    }
-    (width - 1) * (2 * depth + 2 * g.shift)
+    let row = if g.kind == 0 {
+        g.depth
+    } else {
+        2 * g.depth + 2 * g.shift
+    };
+    (g.width - 1) * row
 }
 
 // The bound of a pool that can be made; a file's is of the shipped edition.
@@ -66,92 +54,57 @@ pub fn bound_in(g: Settings) -> u32
     }
 }
 
-fn distance_in(a: Answer) -> u32
-    ensures { result ≡ distance_in a }
-{
-    match a {
-        Answer::Moving => 0,
-        Answer::Put {
-            value: _,
-            sub: _,
-            row: _,
-            stamp: _,
-        } => 0,
-        Answer::Taken {
-            value: _,
-            sub: _,
-            row: _,
-            stamp: _,
-            distance,
-        } => distance,
-        Answer::Empty => 0,
-        Answer::Full => 0,
-        Answer::Refused(_) => 0,
-    }
-}
-
-fn greater(a: u32, b: u32) -> u32
-    ensures { result ≡ max a b }
-{
-    if a < b { b } else { a }
-}
-
 // What a take from a window of a size may pass over.
 fn passed_in(width: u8, depth: u8) -> u32
     ensures { result ≡ passed_in (record { width = width; depth = depth }) }
 {
-    if width < 1 {
-        return 0;
-    }
-    (width as u32 - 1) * (depth as u32)
+    u32::from(width).saturating_sub(1) * u32::from(depth)
 }
 
-// The bound after a word that is neither of the first two, and whose answer has this number: a size that is set may raise it.
-fn bound_after(bound: u32, said: Said, n: u32) -> u32
-    ensures { result ≡ bound_after bound (item_said said) n }
+// The bound after a word that is neither of the first two: a size that is set may raise it.
+#[tactic(auto, unfolding(laws::specs::Choice::cond))]
+fn bound_after(bound: u32, d: Done) -> u32
+    ensures { result ≡ bound_after bound (Says d.said) (number_of d.answer) }
 {
-    match said {
-        Said::BeginPut {
-            worker: _,
-            value: _,
-        } => bound,
-        Said::BeginTake { worker: _ } => bound,
-        Said::Step { worker: _ } => bound,
-        Said::End => bound,
-        Said::SetSize { width, depth } => {
-            if n == 0 {
-                return greater(bound, passed_in(width, depth));
-            }
-            bound
-        }
+    match (d.said, d.answer) {
+        (Said::SetSize { width, depth }, Ok(Answer::Moving)) => bound.max(passed_in(width, depth)),
+        _ => bound,
     }
-}
-
-// Counts on where something is so.
-fn on(x: u64, so: bool) -> u64
-    ensures { result ≡ wrap_on x so }
-{
-    if so {
-        return std::num::wrapping_add_u64(x, 1);
-    }
-    x
 }
 
 // The tally with an event.
+#[tactic(auto, unfolding(crate::specs::Tally::tallied, laws::specs::Choice::cond))]
 pub fn count(t: Tally, d: Done) -> Tally
     ensures { result ≡ tallied t (event_done d) }
 {
-    let said = d.said;
-    let a = d.answer;
-    let n = number(a);
-    let distance = distance_in(a);
-    Tally {
-        puts: on(t.puts, n == 1),
-        takes: on(t.takes, n == 2),
-        empties: on(t.empties, n == 3),
-        fulls: on(t.fulls, n == 4),
-        refused: on(t.refused, 4 < n),
-        worst: greater(t.worst, distance),
-        bound: bound_after(t.bound, said, n),
+    let bound = bound_after(t.bound, d);
+    match d.answer {
+        Ok(Answer::Moving) => Tally { bound, ..t },
+        Ok(Answer::Put { .. }) => Tally {
+            puts: t.puts.wrapping_add(1),
+            bound,
+            ..t
+        },
+        Ok(Answer::Taken { distance, .. }) => Tally {
+            takes: t.takes.wrapping_add(1),
+            worst: t.worst.max(distance),
+            bound,
+            ..t
+        },
+        Ok(Answer::Empty) => Tally {
+            empties: t.empties.wrapping_add(1),
+            bound,
+            ..t
+        },
+        Ok(Answer::Full) => Tally {
+            fulls: t.fulls.wrapping_add(1),
+            bound,
+            ..t
+        },
+        Err(_) => Tally {
+            refused: t.refused.wrapping_add(1),
+            bound,
+            ..t
+        },
     }
 }

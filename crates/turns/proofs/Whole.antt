@@ -1,9 +1,10 @@
 -- ONE WORD AT A TIME PRINTS THE FILE: the turns over a file, in order, print exactly what the program prints of its replay (`turns_print`).
 -- By induction on the bytes, four at a time: a turn at a word is the first step of `print_from`, if it goes on (`next_prints`). The printer after it
 -- is that of the next word, and its tally counts as `tally_after` does, since no file has 2^64 words.
-use Rattle.std.proofs.Common.{◌≡◌, ℕ, zero, suc, ◌+◌, ◌/◌, ◌%◌, ◌^◌, ◌<◌, ◌≤◌, Bool, true, false, eqb, List, [], ◌∷◌, length, refl, ap, ◌∙◌, mod-eq_of_lt, arith}
+use Rattle.std.proofs.Common.{◌≡◌, ℕ, zero, suc, ◌+◌, ◌/◌, ◌%◌, ◌^◌, ◌<◌, ◌≤◌, Bool, true, false, eqb, Option, Some, None, List, [], ◌∷◌, length, refl, ap, ◌∙◌, mod-eq_of_lt, arith}
 use Rattle.laws.specs.Choice.{cond, cases}
 use Rattle.rules.specs.Answers.{number_of}
+use Rattle.rules.specs.declared.Refusal.{Refusal}
 use Rattle.runfile.specs.Words.{word_of, reads_of, read_at}
 use Rattle.runfile.specs.declared.word.Read.{Read}
 use Rattle.runfile.specs.declared.word.Read.TheVariants.{Word}
@@ -57,9 +58,10 @@ tally_few t e n f =
 
 -- ---- a turn
 -- a program stops at the end of a file
-pub end_ends : (m : Mode) (t : Tally) (position fault : ℕ) (ws : List ℕ) → ends_with (end_printed m t position fault ws) ≡ true
+pub end_ends : (m : Mode) (t : Tally) (position : ℕ) (fault : Option Refusal) (ws : List ℕ) → ends_with (end_printed m t position fault ws) ≡ true
 unfolding end_printed listed_end
-end_ends Listing t position fault ws = cases (λ (x : Printed). ends_with x ≡ true) (eqb fault 0) _ _ (λ _. refl) (λ _. refl)
+end_ends Listing t position None ws = refl
+end_ends Listing t position (Some refusal) ws = refl
 end_ends Summing t position fault ws = refl
 
 -- so nothing comes after it

@@ -1,17 +1,16 @@
 // One word of a run file, printed.
 #![tactic(auto)]
 
-ghost use Rattle.std.specs.Prelude.{◌≡◌, ℕ, ◌+◌, ◌%◌, ◌^◌, List};
+ghost use Rattle.std.specs.Prelude.{◌≡◌, ℕ, List};
 ghost use Rattle.runfile.specs.Words.{read_at};
 ghost use Rattle.replay.specs.Told.{next_told};
-ghost use Rattle.printing.specs.declared.printed.Output.TheVariants.{Quiet};
-ghost use Rattle.tally.specs.Tally.{with_bound};
 ghost use Rattle.turns.specs.Turn.{new_printer, printing, turned, turn_by, turn_of};
 
 use printing::{Mode, Output, print_event};
 use replay::{Told, next, place_after};
 use runfile::item::Place;
-use tally::{Tally, bound_in, count, no_tally};
+use runfile::reader::Reader;
+use tally::{Tally, bound_in, count};
 
 // Where a program is in a file: the next word's place and position, and what is counted.
 #[derive(Clone, Copy)]
@@ -32,59 +31,51 @@ pub struct Turn {
 pub fn start() -> Printer
     ensures { result ≡ new_printer }
 {
-    let tally = no_tally();
     Printer {
         place: Place::First,
         position: 0,
-        tally,
+        tally: Tally::default(),
     }
 }
 
-// The turn of one of the first two words: the place after it, and the bound from it on.
-fn head_turn(p: Printer, place: Place, bound: u32) -> Turn
-    ensures { result ≡ record { printer = record { place = place; position = (p.position + 1) % 2 ^ 64; tally = with_bound p.tally bound }; output = Quiet } }
-{
-    let t = p.tally;
-    let tally = Tally {
-        puts: t.puts,
-        takes: t.takes,
-        empties: t.empties,
-        fulls: t.fulls,
-        refused: t.refused,
-        worst: t.worst,
-        bound,
-    };
-    let printer = Printer {
-        place,
-        position: std::num::wrapping_add_u64(p.position, 1),
-        tally,
-    };
-    Turn {
-        printer,
-        output: Output::Quiet,
-    }
-}
-
-// What is printed of how the file goes on.
+// What is printed of how the file goes on: of the first two words nothing.
 fn print_told(mode: Mode, p: Printer, told: Told) -> Turn
     ensures { (ws : List ℕ) → printing mode result ws ≡ turn_by mode ws p (next_told p.position told) }
 {
-    let before = p.tally;
+    let position = p.position.wrapping_add(1);
     match told {
-        Told::Opens(opening) => head_turn(p, Place::Second(opening), before.bound),
-        Told::Makes(g) => head_turn(p, Place::Later, bound_in(g)),
-        Told::Does(d) => {
-            let said = d.said;
-            let a = d.answer;
-            let place = place_after(said, a);
-            let tally = count(before, d);
-            let output = print_event(mode, tally, d);
-            let printer = Printer {
-                place,
-                position: std::num::wrapping_add_u64(p.position, 1),
-                tally,
+        Told::Opens(opening) => Turn {
+            printer: Printer {
+                place: Place::Second(opening),
+                position,
+                ..p
+            },
+            output: Output::Quiet,
+        },
+        Told::Makes(g) => {
+            let tally = Tally {
+                bound: bound_in(g),
+                ..p.tally
             };
-            Turn { printer, output }
+            Turn {
+                printer: Printer {
+                    place: Place::Later,
+                    position,
+                    tally,
+                },
+                output: Output::Quiet,
+            }
+        }
+        Told::Does(d) => {
+            let tally = count(p.tally, d);
+            Turn {
+                printer: Printer {
+                    place: place_after(d.said),
+                    position,
+                    tally,
+                },
+                output: print_event(mode, tally, d),
+            }
         }
         Told::Ends(fault) => Turn {
             printer: p,
@@ -94,10 +85,10 @@ fn print_told(mode: Mode, p: Printer, told: Told) -> Turn
 }
 
 // The turn of what a reader of `src` finds at word `at`.
+#[tactic(auto, unfolding(crate::specs::Turn::turn_of))]
 pub fn turn_of(words: &mut [u32], mode: Mode, p: Printer, src: &[u8], at: usize) -> Turn
     ensures { turned mode result words.new ≡ turn_of mode words.old p (read_at src.now at) }
 {
-    let place = p.place;
-    let told = next(words, place, p.position, src, at);
+    let told = next(words, p.place, p.position, Reader { src, at });
     print_told(mode, p, told)
 }

@@ -36,14 +36,14 @@ unfolding turn_by
 head_turned m ws p position item = rw (moving_quiet m (tallied p.tally (event position item (Ok Moving))) position item, moving_tally p.tally position item) refl
 
 pub returns-in-Opens : goal.returns-in-Opens
-returns-in-Opens c = λ ws. simp (c.head_turn.ensures, c.in-Opens.is, head_turned)
+returns-in-Opens c = λ ws. simp (c.in-Opens.is, head_turned)
 
 pub returns-in-Makes : goal.returns-in-Makes
-returns-in-Makes c = λ ws. simp (c.head_turn-in-Makes.ensures, c.bound_in.ensures, c.in-Makes.is, head_turned)
+returns-in-Makes c = λ ws. simp (c.bound_in.ensures, c.in-Makes.is, head_turned)
 
 pub returns-in-Does : goal.returns-in-Does
 unfolding turn_by
-returns-in-Does c = λ ws. simp (c.wrapping_add_u64.ensures.value, c.print_event-output.ensures, c.count-tally.ensures, c.place_after-place.ensures, c.in-Does.is)
+returns-in-Does c = λ ws. simp (c.print_event.ensures, c.count-tally.ensures, c.place_after.ensures c.in-Does.d.answer, c.in-Does.is)
 
 pub returns-in-Ends : goal.returns-in-Ends
 unfolding turn_by

@@ -1,5 +1,5 @@
 -- `printing::printed::print_event` meets its contract: each program has an arm of its own. Assumes nothing.
-use mathlib.Core.Path.{◌∙◌}
+use Rattle.std.proofs.Common.{◌∙◌}
 use Rattle.printing.specs.Printings.{event_printed}
 use Rattle.printing.proofs.printed.print_event.Goals as goal
 

@@ -1,20 +1,13 @@
--- `runfile::word::word_at` meets its contract. The laws of `Words` say what stands at a position from the number of bytes, which the tests compare with it;
--- of a whole word the four bytes that are read are the four of the definition. Assumes nothing.
-use mathlib.Core.Path.{sym, ◌∙◌}
-use native.Mathlib.Omega.{arith}
-use Rattle.runfile.proofs.Words.{whole_word, cut_word, past_words}
+-- `runfile::word::word_at` meets its contract: a chunk of four bytes is the word of the definition. Where there is none, the lemmas that the function names
+-- tell what is left. Assumes nothing.
+use Rattle.std.proofs.Common.{arith, length, ◌/◌, []}
+use Rattle.runfile.specs.Words.{word_bytes}
+use Rattle.runfile.proofs.Words.{whole_word}
 use Rattle.runfile.proofs.word.word_at.Goals as goal
 
-pub returns-then-at-whole : goal.returns-then-at-whole
-returns-then-at-whole c =
-    let a = c.args in
-    sym (whole_word a.bytes.now a.at (omega arith) ∙ simp (← c.wide-then-at-whole-3.ensures.0, ← c.wide-then-at-whole-2.ensures.0, ← c.wide-then-at-whole.ensures.0, ← c.wide.ensures.0))
-
-pub returns-then-whole-at : goal.returns-then-whole-at
-returns-then-whole-at c = sym (past_words _ _ (omega arith))
-
-pub returns-then-bytes-eq0 : goal.returns-then-bytes-eq0
-returns-then-bytes-eq0 c = sym (past_words _ _ (omega arith))
-
-pub returns : goal.returns
-returns c = let n = c.if-bytes-eq0.false in sym (cut_word _ _ (omega arith) (omega arith))
+pub returns-in-Some : goal.returns-in-Some
+returns-in-Some c =
+    let bytes = c.args.bytes.now in
+    let at_chunk = c.in-Some.ensures.lookup.3 in
+    let whole = whole_word bytes (length bytes / word_bytes) c.args.at (omega arith) (omega (arith, at_chunk.0, c.as_chunks.ensures.front_len)) in
+    grind (arith, whole, at_chunk.1 [], c.as_chunks.ensures.front, c.from_le_bytes.ensures)
