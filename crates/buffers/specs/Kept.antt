@@ -6,7 +6,6 @@ use Rattle.pieces.specs.Stretch.{stretched}
 use Rattle.pieces.specs.Account.{Account}
 use Rattle.pieces.specs.declared.stretch.Stretch.{Stretch}
 use Rattle.buffers.specs.declared.run.Run.{Run}
-use Rattle.buffers.specs.declared.input.Input.{Input}
 
 -- the account of a run, with the piece in its input, the pool's words and the output
 abbrev pub AccountOf : Mode → Run → List ℕ → List ℕ → List ℕ → Type 0
@@ -50,22 +49,22 @@ pub record FlushedTo (before after : Run) : Type 0 where
   pub remembers : Remembers before after
 
 -- the input is read, behind what was carried over, and the read is counted
-pub record Read (before : Run) (input : Input) (after : Run) : Type 0 where
+pub record Read (before after : Run) : Type 0 where
   pub stretch : after.stretch ≡ before.stretch
   pub carried : after.carried ≡ before.carried
-  pub reads : after.reads ≡ input.reads
+  pub reads : after.reads ≡ (before.reads + 1) % 2 ^ 64
   pub writing : WritesNothing before after
 
--- up to `end`; a read of no bytes is the end of the input
-pub record Fed (before : Run) (input : Input) (after : Run) : Type 0 where
-  pub reading : Read before input after
-  pub read : after.read ≡ (before.read + (input.end - before.carried)) % 2 ^ 64
-  pub ended : after.ended ≡ (input.end - before.carried == 0)
+-- `n` bytes; a read of no bytes is the end of the input
+pub record Fed (before : Run) (n : ℕ) (after : Run) : Type 0 where
+  pub reading : Read before after
+  pub read : after.read ≡ (before.read + n) % 2 ^ 64
+  pub ended : after.ended ≡ (n == 0)
   pub unread : after.unread ≡ before.unread
 
 -- or it can't be read
-pub record Unfed (before : Run) (input : Input) (after : Run) : Type 0 where
-  pub reading : Read before input after
+pub record Unfed (before after : Run) : Type 0 where
+  pub reading : Read before after
   pub read : after.read ≡ before.read
   pub ended : after.ended ≡ before.ended
   pub unread : after.unread ≡ true

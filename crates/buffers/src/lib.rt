@@ -5,6 +5,5 @@ mod input;
 mod output;
 mod run;
 
-pub use input::{Input, carry, fed, next_piece, read_on, unread};
-pub use output::{flush, with_room};
+pub use input::carry;
 pub use run::Run;

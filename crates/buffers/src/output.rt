@@ -10,47 +10,36 @@ use pieces::{Stretch, TURN_BYTES};
 use std::io::Write;
 use streams::write_all;
 
-// Hands what is used of the output to be written, and uses it anew.
-pub fn flush<W: Write>(to: &mut W, out: &[u8], run: Run) -> Run
-    requires { run.stretch.used ≤ length out.now }
-    ensures run { FlushedTo run result }
-    ensures bytes { result.unwritten ≡ false → Appends (W.contents to.old) (W.contents to.new) (take run.stretch.used out.now) }
-{
-    let s = run.stretch;
-    let used = s.used;
-    let printer = s.printer;
-    let mut unwritten = run.unwritten;
-    if !write_all(to, &out[..used]) {
-        unwritten = true;
+impl Run {
+    // Hands what is used of the output to be written, and uses it anew.
+    pub fn flush<W: Write>(self, to: &mut W, out: &[u8]) -> Run
+        requires { self.stretch.used ≤ length out.now }
+        ensures run { FlushedTo self result }
+        ensures bytes { result.unwritten ≡ false → Appends (W.contents to.old) (W.contents to.new) (take self.stretch.used out.now) }
+    {
+        let used = self.stretch.used;
+        let failed = write_all(to, &out[..used]).is_err();
+        Run {
+            stretch: Stretch {
+                used: 0,
+                ..self.stretch
+            },
+            written: self.written.wrapping_add(used as u64),
+            unwritten: self.unwritten || failed,
+            ..self
+        }
     }
-    let stretch = Stretch {
-        printer,
-        at: s.at,
-        used: 0,
-        complete: s.complete,
-    };
-    Run {
-        stretch,
-        carried: run.carried,
-        read: run.read,
-        reads: run.reads,
-        written: std::num::wrapping_add_u64(run.written, used as u64),
-        ended: run.ended,
-        unread: run.unread,
-        unwritten,
-    }
-}
 
-// With room for a turn in the output.
-pub fn with_room<W: Write>(to: &mut W, out: &[u8], run: Run) -> Run
-    requires { (turn_bytes ≤ length out.now) × (run.stretch.used ≤ length out.now) }
-    ensures room { result.stretch.used + turn_bytes ≤ length out.now }
-    ensures same { (result.stretch.at ≡ run.stretch.at) × (result.stretch.complete ≡ run.stretch.complete) × ReadsNothing run result × Remembers run result }
-    ensures keeps { (m : Mode-as-Mode) (piece ws : List ℕ) → Keeps m run piece ws out.now result piece ws out.now }
-{
-    let s = run.stretch;
-    if TURN_BYTES <= out.len() - s.used {
-        return run;
+    // With room for a turn in the output.
+    pub fn with_room<W: Write>(self, to: &mut W, out: &[u8]) -> Run
+        requires { (turn_bytes ≤ length out.now) × (self.stretch.used ≤ length out.now) }
+        ensures room { result.stretch.used + turn_bytes ≤ length out.now }
+        ensures same { (result.stretch.at ≡ self.stretch.at) × (result.stretch.complete ≡ self.stretch.complete) × ReadsNothing self result × Remembers self result }
+        ensures keeps { (m : Mode-as-Mode) (piece ws : List ℕ) → Keeps m self piece ws out.now result piece ws out.now }
+    {
+        if TURN_BYTES <= out.len() - self.stretch.used {
+            return self;
+        }
+        self.flush(to, out)
     }
-    flush(to, out, run)
 }

@@ -1,11 +1,7 @@
 -- The account is kept by a stretch (`print_keeps`): the law of crates/pieces (proofs/Accounts) at the run's fields.
 -- A stretch with room for a turn comes further (`print_on`), and the last turn of the file completes it (`print_last`).
-use Prim.Native.Nat.{ℕ, ◌+◌, ◌-◌, ◌/◌, ◌<◌, ◌≤◌}
-use mathlib.Core.Bool.{Bool, true, false, false≢true}
-use mathlib.Core.List.{List}
-use mathlib.Core.Path.{◌≡◌, ap, ◌∙◌}
-use native.Mathlib.Omega.{arith}
-use lib.ListN.{length}
+use Rattle.std.proofs.Common.{◌≡◌, ℕ, ◌+◌, ◌-◌, ◌/◌, ◌<◌, ◌≤◌, Bool, true, false, List, ap, ◌∙◌, arith, length}
+use Rattle.std.proofs.lemmas.Bool.{false≢true}
 use Rattle.laws.specs.Choice.{cond}
 use Rattle.printing.specs.declared.printed.Mode.{Mode}
 use Rattle.pieces.specs.Stretch.{Stretched, stretched, turn_bytes, turns_in, stretch_from, stretch_of}

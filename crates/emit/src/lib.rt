@@ -5,7 +5,7 @@ ghost use Rattle.std.specs.Prelude.{false, true, ◌≡◌, ◌≤◌, length};
 ghost use Rattle.pieces.specs.Stretch.{turn_bytes, turns_in, stretched, stretch_of};
 ghost use Rattle.buffers.specs.Kept.{Keeps, ReadsNothing, WritesNothing, Remembers};
 
-use buffers::{Run, with_room};
+use buffers::Run;
 use pieces::{print_words, turns_in};
 use printing::Mode;
 use std::io::Write;
@@ -17,17 +17,9 @@ fn print_on(words: &mut [u32], mode: Mode, run: Run, src: &[u8], out: &mut [u8])
     ensures same { ReadsNothing run result × WritesNothing run result }
     ensures inside { result.stretch.used ≤ length out.old }
 {
-    let s = run.stretch;
-    let stretch = print_words(words, mode, s, src, run.ended, out);
     Run {
-        stretch,
-        carried: run.carried,
-        read: run.read,
-        reads: run.reads,
-        written: run.written,
-        ended: run.ended,
-        unread: run.unread,
-        unwritten: run.unwritten,
+        stretch: print_words(words, mode, run.stretch, src, run.ended, out),
+        ..run
     }
 }
 
@@ -48,15 +40,8 @@ pub fn print_piece<W: Write>(
 {
     let turns = turns_in(src, from.ended);
     let mut run = from;
-    loop {
-        let s = run.stretch;
-        if s.complete {
-            break;
-        }
-        if turns <= s.at {
-            break;
-        }
-        let roomy = with_room(to, out, run);
+    while !run.stretch.complete && run.stretch.at < turns {
+        let roomy = run.with_room(to, out);
         run = print_on(words, mode, roomy, src, out);
     }
     run

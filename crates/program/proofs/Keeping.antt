@@ -1,15 +1,11 @@
 -- The account is kept by each step of the loop: by a read (`fed_keeps`), and by the step to the next piece (`carry_keeps`). Each is the law of crates/pieces
 -- (proofs/Accounts) at the run's fields.
 -- No step forgets a failure, the last write neither, so that a run which is over stays so to the end (`flushed_over`).
-use Prim.Native.Nat.{ℕ, zero, suc, ◌+◌, ◌*◌, ◌-◌, ◌/◌, ◌%◌, ◌^◌, ◌≤◌}
-use mathlib.Core.Bool.{Bool, true, false, false≢true}
-use mathlib.Core.List.{List, [], ◌∷◌, ◌++◌}
-use mathlib.Core.Logic.{◌⊎◌, inl, inr}
-use mathlib.Core.Path.{◌≡◌, refl, sym, ap, subst, ◌∙◌}
-use native.Mathlib.Omega.{arith}
-use lib.Dec.{eqb}
-use lib.ListN.{length, take, drop, length-drop, take-append-drop}
-use lib.Seq.{paste, take-take, take-append-le, length-take-le}
+use Rattle.std.proofs.Common.{◌≡◌, ℕ, ◌+◌, ◌*◌, ◌-◌, ◌/◌, ◌%◌, ◌^◌, ◌<◌, ◌≤◌, Bool, true, false, List, [], ◌++◌, ◌⊎◌, inl, inr, ◌==◌, refl, sym, ap, subst, ◌∙◌, arith, length, take, drop, length-drop, length-take-le}
+use Rattle.std.proofs.Math.Seq.{paste}
+use Rattle.std.proofs.lemmas.Bool.{false≢true}
+use Rattle.std.proofs.lemmas.List.{take-append-le, drop-take}
+use lib.Seq.{take-add, take-take}
 use Rattle.laws.specs.Choice.{cond}
 use Rattle.runfile.specs.Words.{word_bytes}
 use Rattle.replay.specs.Replay.{lent}
@@ -20,65 +16,51 @@ use Rattle.pieces.specs.declared.stretch.Stretch.{Stretch}
 use Rattle.pieces.proofs.Accounts.{opens, reads, ends, carries, cut_of, closes}
 use Rattle.buffers.specs.Kept.{AccountOf, Keeps, ReadsNothing, WritesNothing, Remembers, at_start, FlushedTo, Fed, Unfed, most_reads}
 use Rattle.buffers.specs.declared.run.Run.{Run}
-use Rattle.buffers.specs.declared.input.Input.{Input}
 use Rattle.buffers.proofs.Keeping.{remembers_twice, still_remembers, flush_keeps}
 use Rattle.program.specs.Ran.{Left, new_run, over, Ran}
 
 -- nothing is forgotten by a piece that is read and printed, and the read is counted
-pub piece_counts : {run piece printed : Run} {input : Input} → input.reads ≡ run.reads + 1 → Fed run input piece → ReadsNothing piece printed → Remembers piece printed
+pub piece_counts : {run piece printed : Run} {n : ℕ} → run.reads < most_reads → Fed run n piece → ReadsNothing piece printed → Remembers piece printed
     → (printed.reads ≡ run.reads + 1) × Remembers run printed
-piece_counts n f same kept = (same.reads ∙ (f.reading.reads ∙ n), remembers_twice (still_remembers f.unread f.reading.writing) kept)
+piece_counts below f same kept =
+    (same.reads ∙ (f.reading.reads ∙ omega arith), remembers_twice (still_remembers f.unread f.reading.writing) kept)
 
 -- ---- a read
--- what lies in the input after it: what was carried over, and what was read
-read_behind : (carried end : ℕ) (src : List ℕ) → carried ≤ end → end ≤ length src → take end src ≡ take carried src ++ drop carried (take end src)
-read_behind carried end src low high =
-    sym (take-append-drop carried (take end src)) ∙ ap (λ (l : List ℕ). l ++ drop carried (take end src)) (take-take carried end src low)
-
 ended_by : (m : Mode) (read written : ℕ) (b : Bool) (piece : List ℕ) (s : Stretched) → Account m read written false piece s → Account m read written b piece s
 ended_by m read written true piece s a = ends m read written piece s a
 ended_by m read written false piece s a = a
 
-fed_keeps : (before after : Run) (src src' ws out : List ℕ) (input : Input) → Fed before input after → before.ended ≡ false
-    → before.carried ≤ input.end → input.end ≤ length src' → take before.carried src' ≡ take before.carried src
-    → (m : Mode) → Keeps m before (take before.carried src) ws out after (take input.end src') ws out
-fed_keeps before after src src' ws out input f going low high same m a =
-    let end = input.end in
+-- what lies in the input after it are what was carried over, and what was read
+fed_keeps : (before after : Run) (src src' ws out : List ℕ) (n : ℕ) → Fed before n after → before.ended ≡ false
+    → before.carried + n ≤ length src' → take before.carried src' ≡ take before.carried src
+    → (m : Mode) → Keeps m before (take before.carried src) ws out after (take (before.carried + n) src') ws out
+fed_keeps before after src src' ws out n f going fits same m a =
     let c = before.carried in
-    let more = drop c (take end src') in
-    let long : length more ≡ end - c = length-drop c (take end src') ∙ ap (λ (n : ℕ). n - c) (length-take-le end src' high) in
-    let piece : take end src' ≡ take c src ++ more = read_behind c end src' low high ∙ ap (λ (l : List ℕ). l ++ more) same in
+    let more = take n (drop c src') in
+    let long : length more ≡ n = length-take-le n (drop c src') (omega (arith, length-drop c src')) in
+    let piece : take (c + n) src' ≡ take c src ++ more = take-add c n src' ∙ ap (λ (l : List ℕ). l ++ more) same in
     let s = stretched before.stretch ws out in
     let a' : Account m before.read before.written false (take c src) s = rw going at a in
-    let r : Account m ((before.read + (end - c)) % 2 ^ 64) before.written false (take end src') s =
-    subst (λ (l : List ℕ). Account m ((before.read + (end - c)) % 2 ^ 64) before.written false l s) (sym piece)
-    (subst (λ (n : ℕ). Account m ((before.read + n) % 2 ^ 64) before.written false (take c src ++ more) s) long (reads m before.read before.written (take c src) s more a')) in
-    rw (f.reading.stretch, f.read, f.reading.writing.written, f.ended) (ended_by m _ before.written (eqb (end - c) 0) (take end src') s r)
+    let r : Account m ((before.read + n) % 2 ^ 64) before.written false (take (c + n) src') s =
+    subst (λ (l : List ℕ). Account m ((before.read + n) % 2 ^ 64) before.written false l s) (sym piece)
+    (subst (λ (k : ℕ). Account m ((before.read + k) % 2 ^ 64) before.written false (take c src ++ more) s) long (reads m before.read before.written (take c src) s more a')) in
+    rw (f.reading.stretch, f.read, f.reading.writing.written, f.ended) (ended_by m _ before.written (n == 0) (take (c + n) src') s r)
 
 -- ---- the next piece
--- what is carried over are the bytes of the word that the piece cuts
--- a part of a list, from either side
-drop_of_take : (k n : ℕ) (xs : List ℕ) → k ≤ n → n ≤ length xs → drop k (take n xs) ≡ take (n - k) (drop k xs)
-drop_of_take zero n xs low high = let e : n - 0 ≡ n = omega arith in rw e
-drop_of_take (suc k) zero xs low high = absurd (omega arith)
-drop_of_take (suc k) (suc n) [] low high = absurd (omega arith)
-drop_of_take (suc k) (suc n) (x ∷ xs) low high = let e : suc n - suc k ≡ n - k = omega arith in rw e (drop_of_take k n xs (omega arith) (omega arith))
-
 -- bytes that are copied to the front of a list stand there
 front_paste : (src tail : List ℕ) (n : ℕ) → n ≤ length tail → take n (paste src 0 tail n) ≡ take n tail
 front_paste src tail n fits =
     take-append-le n (take n tail) (drop (0 + n) src) (omega (arith, length-take-le n tail fits)) ∙ take-take n n tail (omega arith)
 
+-- what is carried over are the bytes of the word that the piece cuts
 cut_carried : (end : ℕ) (src : List ℕ) → end ≤ length src
     → cut_of (take end src) ≡ take (end % word_bytes) (paste src 0 (drop (end - end % word_bytes) src) (end % word_bytes))
 cut_carried end src fits =
-    let long : length (take end src) ≡ end = length-take-le end src fits in
-    let whole : word_bytes * (length (take end src) / word_bytes) ≡ end - end % word_bytes = rw long (omega arith) in
-    let left : end - (end - end % word_bytes) ≡ end % word_bytes = omega arith in
-    let tail = drop (end - end % word_bytes) src in
-    rw whole
-    (drop_of_take (end - end % word_bytes) end src (omega arith) fits
-    ∙ (rw left (sym (front_paste src tail (end % word_bytes) (omega (arith, length-drop (end - end % word_bytes) src))))))
+    let k = end - end % word_bytes in
+    let cut = end % word_bytes in
+    let whole : word_bytes * (length (take end src) / word_bytes) ≡ k = rw (length-take-le end src fits) (omega arith) in
+    let parts : end ≡ k + cut = omega arith in
+    rw whole (ap (λ (n : ℕ). drop k (take n src)) parts ∙ drop-take k cut src ∙ sym (front_paste src (drop k src) cut (omega (arith, length-drop k src))))
 
 pub carry_keeps : (before after : Run) (src src' ws out : List ℕ) (end : ℕ) → end ≤ length src → before.ended ≡ false
     → (before.stretch.complete ≡ false → before.stretch.at ≡ length (take end src) / word_bytes)
@@ -95,9 +77,9 @@ carry_keeps before after src src' ws out end fits going all pasted s r w c m a =
 
 -- ---- a turn of the loop
 -- the input can't be read: what was carried over is still there
-pub unfed_keeps : (before after : Run) (src src' ws out : List ℕ) (input : Input) → Unfed before input after → take before.carried src' ≡ take before.carried src
+pub unfed_keeps : (before after : Run) (src src' ws out : List ℕ) → Unfed before after → take before.carried src' ≡ take before.carried src
     → (m : Mode) → Left m before src ws out → Left m after src' ws out
-unfed_keeps before after src src' ws out input u same m h =
+unfed_keeps before after src src' ws out u same m h =
     record {
       piece = h.piece;
       carried = λ e. h.carried (sym u.ended ∙ e) ∙ (sym same ∙ rw u.reading.carried);
@@ -105,11 +87,11 @@ unfed_keeps before after src src' ws out input u same m h =
     }
 
 -- a piece is read
-pub left_fed : (before after : Run) (src src' ws out : List ℕ) (input : Input) → Fed before input after → before.ended ≡ false
-    → before.carried ≤ input.end → input.end ≤ length src' → take before.carried src' ≡ take before.carried src
-    → (m : Mode) → Left m before src ws out → AccountOf m after (take input.end src') ws out
-left_fed before after src src' ws out input f going low high same m h =
-    fed_keeps before after src src' ws out input f going low high same m (subst (λ (l : List ℕ). AccountOf m before l ws out) (h.carried going) h.account)
+pub left_fed : (before after : Run) (src src' ws out : List ℕ) (n : ℕ) → Fed before n after → before.ended ≡ false
+    → before.carried + n ≤ length src' → take before.carried src' ≡ take before.carried src
+    → (m : Mode) → Left m before src ws out → AccountOf m after (take (before.carried + n) src') ws out
+left_fed before after src src' ws out n f going fits same m h =
+    fed_keeps before after src src' ws out n f going fits same m (subst (λ (l : List ℕ). AccountOf m before l ws out) (h.carried going) h.account)
 
 -- and the last one of the file is printed
 pub last_left : (run : Run) (src piece ws out : List ℕ) → run.ended ≡ true → (m : Mode) → AccountOf m run piece ws out → Left m run src ws out

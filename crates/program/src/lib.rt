@@ -1,4 +1,4 @@
-// The one loop of all programs that print a run file: it reads the file from standard input in pieces, and writes what is printed to standard output.
+// The one loop of all programs that print a run file: it reads the file from a stream in pieces, and writes what is printed to another.
 #![tactic(auto)]
 
 mod run;

@@ -4,15 +4,16 @@ ghost use Rattle.pieces.specs.Stretch.{turn_bytes};
 ghost use Rattle.buffers.specs.Kept.{Remembers, most_reads};
 ghost use Rattle.program.specs.Ran.{Left, over, new_run, Ran};
 
-use buffers::{Run, carry, fed, flush, next_piece, read_on, unread};
+use buffers::{Run, carry};
 use emit::print_piece;
 use pieces::begin;
 use printing::Mode;
 use replay::lent_words;
 use std::io::{Read, Write};
-use streams::{BUFFER_BYTES, write_all};
+use streams::{BUFFER_BYTES, read_behind, write_all};
 
 // Reads a piece and prints it.
+// Stays: the three areas apart, and no struct of them: nothing else takes all three, and each is lent on by itself.
 fn print_some<R: Read, W: Write>(
     from: &mut R,
     to: &mut W,
@@ -29,45 +30,31 @@ fn print_some<R: Read, W: Write>(
     ensures keeps { Left mode run src.old words.old out.old → Left mode result src.new words.new out.new }
     ensures counts { (result.reads ≡ run.reads + 1) × Remembers run result }
 {
-    let carried = run.carried;
-    let input = read_on(from, src, carried, run.reads);
-    if input.failed {
-        return unread(run, input);
-    }
-    let piece = fed(run, input);
-    let end = input.end;
-    let printed = print_piece(to, words, mode, piece, &src[..end], out);
+    let Ok(n) = read_behind(from, src, run.carried) else {
+        return run.unfed();
+    };
+    let end = run.carried + n;
+    let printed = print_piece(to, words, mode, run.fed(n), &src[..end], out);
     if printed.ended {
         return printed;
     }
     let rest = carry(src, end);
-    next_piece(printed, rest)
+    printed.next_piece(rest)
 }
 
 // Whether a run is over.
 fn is_over(run: Run) -> bool
     ensures { result ≡ over run }
 {
-    let s = run.stretch;
-    if s.complete {
-        return true;
-    }
-    if run.ended {
-        return true;
-    }
-    if run.unread {
-        return true;
-    }
-    run.unwritten
+    run.stretch.complete || run.ended || run.unread || run.unwritten
 }
 
 // Before anything is read.
 fn start() -> Run
     ensures { result ≡ new_run }
 {
-    let stretch = begin();
     Run {
-        stretch,
+        stretch: begin(),
         carried: 0,
         read: 0,
         reads: 0,
@@ -86,14 +73,20 @@ pub fn print_file<R: Read, W: Write>(from: &mut R, to: &mut W, mode: Mode) -> Ru
     let mut src = [0u8; BUFFER_BYTES];
     let mut out = [0u8; BUFFER_BYTES];
     let mut run = start();
-    // Nothing says that the input ends: the reads are counted, up to a number that no run comes to.
-    while run.reads < u64::MAX {
+    // Nothing says that the input ends: there are as many reads as can be counted, which no run comes to.
+    for _ in 0..u64::MAX {
         if is_over(run) {
             break;
         }
         run = print_some(from, to, &mut words, mode, run, &mut src, &mut out);
     }
-    flush(to, &out, run)
+    run.flush(to, &out)
+}
+
+// Writes a line of two parts. Where it can't be written, nothing can tell that.
+fn tell<W: Write>(to: &mut W, name: &[u8], what: &[u8]) {
+    let _ = write_all(to, name);
+    let _ = write_all(to, what);
 }
 
 // Tells on a stream what could not be read or written.
@@ -101,11 +94,9 @@ pub fn complain<W: Write>(to: &mut W, run: Run, name: &[u8])
     ensures { run.unread ≡ false → run.unwritten ≡ false → W.contents to.new ≡ W.contents to.old }
 {
     if run.unread {
-        write_all(to, name);
-        write_all(to, b": cannot read standard input\n");
+        tell(to, name, b": cannot read standard input\n");
     }
     if run.unwritten {
-        write_all(to, name);
-        write_all(to, b": cannot write standard output\n");
+        tell(to, name, b": cannot write standard output\n");
     }
 }

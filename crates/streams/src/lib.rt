@@ -2,58 +2,44 @@
 // What a stream gives and takes is a matter of the stream. Where a type of streams says which bytes it has left to give, or holds, the clauses are about those bytes.
 #![tactic(auto)]
 
-ghost use Rattle.std.specs.Prelude.{◌≡◌, ◌≤◌, true, length, take};
+ghost use Rattle.std.specs.Prelude.{◌≡◌, ◌+◌, ◌≤◌, length, take, IfOk};
 ghost use Rattle.streams.specs.Behind.{ReadBehind};
 ghost use Rattle.streams.specs.Written.{WrittenTo};
 
+use std::io;
 use std::io::{Read, Write};
 
 // How many bytes the areas have that programs read into and write from.
 pub const BUFFER_BYTES: usize = 65536;
 
-// What a read leaves: where its bytes end in the area, and whether it failed.
-#[derive(Clone, Copy)]
-pub struct Got {
-    pub end: usize,
-    pub failed: bool,
-}
-
-// Reads on behind the first `at` bytes of the area, in one read. One that fails brings no byte.
-pub fn read_behind<R: Read>(from: &mut R, area: &mut [u8], at: usize) -> Got
+// Reads on behind the first `at` bytes of the area, in one read, and returns how many bytes that brought. One that fails brings none.
+pub fn read_behind<R: Read>(from: &mut R, area: &mut [u8], at: usize) -> io::Result<usize>
     requires { at ≤ length area.old }
-    ensures behind { (at ≤ result.end) × (result.end ≤ length area.old) × (take at area.new ≡ take at area.old) }
-    ensures nothing { result.failed ≡ true → result.end ≡ at }
+    ensures fits { IfOk result (λ n. at + n ≤ length area.old) }
+    ensures before { take at area.new ≡ take at area.old }
     ensures bytes { ReadBehind (R.remaining from.old) (R.remaining from.new) at result area.new }
 {
-    let (n, failed) = match from.read(&mut area[at..]) {
-        Ok(n) => (n, false),
-        Err(_) => (0, true),
-    };
-    Got {
-        end: at + n,
-        failed,
-    }
+    from.read(&mut area[at..])
 }
 
-// Writes all of the bytes and returns true, or stops at the first write that takes none or fails and returns false, when some of them may have been written.
-pub fn write_all<W: Write>(to: &mut W, bytes: &[u8]) -> bool
+// Writes all of the bytes, or stops at the first write that takes none or fails, when some of them may have been written.
+// Stays: std's own `write_all` says nothing of the bytes where it fails (`OnOk`), and goes on after a write that a signal interrupts.
+pub fn write_all<W: Write>(to: &mut W, bytes: &[u8]) -> io::Result<()>
     ensures { WrittenTo (W.contents to.old) (W.contents to.new) bytes.now result }
 {
-    let mut done: usize = 0;
-    while done < bytes.len() {
-        match to.write(&bytes[done..]) {
-            Ok(0) => return false,
-            Ok(n) => done += n,
-            Err(_) => return false,
+    let mut rest = bytes;
+    while !rest.is_empty() {
+        match to.write(rest)? {
+            0 => return Err(io::Error::from(io::ErrorKind::WriteZero)),
+            n => rest = &rest[n..],
         }
     }
-    true
+    Ok(())
 }
 
 #[cfg(test)]
 mod tests {
     use super::*;
-    use std::io;
     use std::test::Fail;
 
     // Gives and takes a byte at a time, so many of them, and fails from then on.
@@ -101,9 +87,9 @@ mod tests {
             held: Vec::new(rt.alloc()),
             left: 5,
         };
-        assert!(rt; write_all(&mut to, b"hello"));
-        assert!(rt; write_all(&mut to, b""));
-        assert!(rt; !write_all(&mut to, b"!"));
+        assert!(rt; write_all(&mut to, b"hello").is_ok());
+        assert!(rt; write_all(&mut to, b"").is_ok());
+        assert!(rt; write_all(&mut to, b"!").is_err());
         assert_eq!(rt; to.held.as_slice(), b"hello".as_slice());
         Ok(())
     }
@@ -114,7 +100,7 @@ mod tests {
             held: Vec::new(rt.alloc()),
             left: 3,
         };
-        assert!(rt; !write_all(&mut to, b"hello"));
+        assert!(rt; write_all(&mut to, b"hello").is_err());
         assert_eq!(rt; to.held.as_slice(), b"hel".as_slice());
         Ok(())
     }
@@ -126,11 +112,9 @@ mod tests {
             left: 1,
         };
         let mut area = *b"abc";
-        let got = read_behind(&mut from, &mut area, 2);
-        assert!(rt; got.end == 3 && !got.failed);
+        assert!(rt; matches!(read_behind(&mut from, &mut area, 2), Ok(1)));
         assert_eq!(rt; area, *b"abx");
-        let got = read_behind(&mut from, &mut area, 1);
-        assert!(rt; got.end == 1 && got.failed);
+        assert!(rt; read_behind(&mut from, &mut area, 1).is_err());
         assert_eq!(rt; area, *b"abx");
     }
 
@@ -138,10 +122,8 @@ mod tests {
     fn memory_is_read_to_its_end(rt: HostRuntime) {
         let mut from = b"de".as_slice();
         let mut area = *b"abcabc";
-        let got = read_behind(&mut from, &mut area, 3);
-        assert!(rt; got.end == 5 && !got.failed);
+        assert!(rt; matches!(read_behind(&mut from, &mut area, 3), Ok(2)));
         assert_eq!(rt; area, *b"abcdec");
-        let got = read_behind(&mut from, &mut area, 5);
-        assert!(rt; got.end == 5 && !got.failed);
+        assert!(rt; matches!(read_behind(&mut from, &mut area, 5), Ok(0)));
     }
 }

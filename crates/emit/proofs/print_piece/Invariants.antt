@@ -3,11 +3,17 @@ use Rattle.std.proofs.Common.{◌≡◌, ◌-◌, ◌≤◌, true, length}
 use Rattle.buffers.specs.Kept.{Keeps, ReadsNothing, Remembers}
 use Rattle.emit.proofs.print_piece.Given as goal
 
-abbrev pub invariant-loop-mode : goal.invariant-loop-mode
-invariant-loop-mode g l =
+abbrev pub invariant-loop-run : goal.invariant-loop-run
+invariant-loop-run g l =
     let from = l.initial.run in
-    (l.run.stretch.used ≤ length l.initial.out) × (l.run.stretch.at ≤ l.turns) × ReadsNothing from l.run × Remembers from l.run
-    × (from.ended ≡ true → l.run.stretch.at ≡ l.turns → l.run.stretch.complete ≡ true) × Keeps l.mode from l.src l.initial.words l.initial.out l.run l.src l.words l.out
+    record {
+      inside : l.run.stretch.used ≤ length l.initial.out;
+      turns : l.run.stretch.at ≤ l.turns;
+      reading : ReadsNothing from l.run;
+      remembers : Remembers from l.run;
+      completes : from.ended ≡ true → l.run.stretch.at ≡ l.turns → l.run.stretch.complete ≡ true;
+      keeps : Keeps l.mode from l.src l.initial.words l.initial.out l.run l.src l.words l.out;
+    }
 
-abbrev pub decreases-loop-mode : goal.decreases-loop-mode
-decreases-loop-mode g l = l.turns - l.run.stretch.at
+abbrev pub decreases-loop-run : goal.decreases-loop-run
+decreases-loop-run g l = l.turns - l.run.stretch.at
