@@ -1,8 +1,0 @@
--- `pool::export::pool_begin_put` meets its contract: begin put is what is asked of the worker.
-use Rattle.laws.specs.Choice.{cond}
-use Rattle.calls.specs.Called.{called}
-use Rattle.pool.proofs.export.pool_begin_put.Goals as goal
-
-pub returns : goal.returns
-unfolding called cond
-returns c = c.call.ensures
