@@ -7,6 +7,7 @@ ghost use Rattle.std.specs.Io.KnownBytes.{Consumes, IsAtEnd};
 ghost use Rattle.mover.specs.MovesInput.{MovesInput};
 
 use moves::leads_on;
+use rules::Refusal;
 use saved::{MOST_BYTES, move_file};
 use std::env::FillError;
 use std::io::{Read, Write};
@@ -19,7 +20,7 @@ use streams::{BUFFER_BYTES, read_behind, write_all};
 enum Fault {
     Usage,
     Unread,
-    Refused(u32),
+    Refused(Refusal),
     Unwritten,
 }
 
@@ -32,7 +33,7 @@ impl fmt::Display for Fault {
                 "mover: call it as 'mover 1 2 <OLD >NEW', from one edition to the next or back: 0 1, 1 0, 1 2 or 2 1"
             ),
             Fault::Unread => write!(f, "mover: cannot read standard input"),
-            Fault::Refused(number) => write!(f, "{number}"),
+            Fault::Refused(refusal) => write!(f, "{}", refusal.number()),
             Fault::Unwritten => write!(f, "mover: cannot write standard output"),
         }
     }
@@ -87,11 +88,8 @@ fn move_input<R: Read, W: Write>(from: &mut R, to: &mut W, old: u32, new: u32) -
         return Err(Fault::Unread);
     };
     let mut out = [0u8; MOST_BYTES];
-    let moved = move_file(&src[..end], old, &mut out, new);
-    if moved.number != 0 {
-        return Err(Fault::Refused(moved.number));
-    }
-    write_all(to, &out[..moved.used]).map_err(|_| Fault::Unwritten)
+    let used = move_file(&src[..end], old, &mut out, new).map_err(Fault::Refused)?;
+    write_all(to, &out[..used]).map_err(|_| Fault::Unwritten)
 }
 
 // Moves what the arguments ask for.
