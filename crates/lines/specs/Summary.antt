@@ -1,9 +1,10 @@
 -- The lines of a summary, as bytes.
-use Rattle.std.specs.Prelude.{ℕ, List, [], ◌∷◌, ◌++◌, eqb}
-use Rattle.laws.specs.Choice.{cond}
+use Rattle.std.specs.Prelude.{ℕ, List, [], ◌∷◌, ◌++◌, Option, None, Some}
+use Rattle.rules.specs.Answers.{refusal_number}
 use Rattle.rules.specs.Limits.{step_limit}
 use Rattle.lines.specs.Text.{ascii}
 use Rattle.lines.specs.Templates.{filled}
+use Rattle.rules.specs.declared.Refusal.{Refusal}
 use Rattle.lines.specs.declared.summary.Summary.{Summary}
 
 -- "whole or faulty"
@@ -13,8 +14,12 @@ whole_text = ascii "whole\n"
 abbrev pub faulty_text : List ℕ
 faulty_text = ascii "faulty # at #\n"
 
-unfoldable pub first_line : Summary → List ℕ
-first_line s = cond (eqb s.fault 0) whole_text (filled faulty_text (s.fault ∷ s.words ∷ []))
+abbrev pub first_line_of : Option Refusal → ℕ → List ℕ
+first_line_of None words = whole_text
+first_line_of (Some fault) words = filled faulty_text (refusal_number fault ∷ words ∷ [])
+
+abbrev pub first_line : Summary → List ℕ
+first_line s = first_line_of s.fault s.words
 
 -- the other lines
 abbrev pub counts_text : List ℕ

@@ -4,15 +4,16 @@ ghost use Rattle.lines.specs.Area.{put, used_part};
 ghost use Rattle.lines.specs.Summary.{first_line, counts_lines, summary_text, first_line_bytes, summary_bytes};
 
 use crate::tail::Tail;
+use rules::Refusal;
 use rules::numbers::STEP_LIMIT;
 
 // A summary's area: 20 digits of each of its 14 numbers and 104 bytes of templates are at most 384.
 pub const SUMMARY_BYTES: usize = 512;
 
-// What a summary says. `fault` is the number of the fault that ended the file, 0 for a whole one, and `words` how many words are before it.
+// What a summary says. `fault` is the fault that ended the file, if one did, and `words` how many words are before it.
 #[derive(Clone, Copy)]
 pub struct Summary {
-    pub fault: u32,
+    pub fault: Option<Refusal>,
     pub words: u64,
     pub puts: u64,
     pub takes: u64,
@@ -55,10 +56,12 @@ fn put_first(lines: &mut Tail<'_>, s: Summary)
     requires { first_line_bytes ≤ lines.old.room }
     ensures { lines.new ≡ put lines.old (first_line s) }
 {
-    if s.fault == 0 {
-        lines.put_text(b"whole\n")
-    } else {
-        lines.put_filled(b"faulty # at #\n", &[s.fault as u64, s.words])
+    match s.fault {
+        None => lines.put_text(b"whole\n"),
+        Some(fault) => lines.put_filled(
+            b"faulty # at #\n",
+            &[u64::from(fault.number()), s.words],
+        ),
     }
 }
 

@@ -11,7 +11,6 @@ use Rattle.rules.specs.declared.Stamp.{Stamp}
 use Rattle.rules.specs.Answers.{Answered}
 use Rattle.rules.specs.declared.Answer.TheVariants.{Moving, Put, Taken, Empty, Full}
 use Rattle.rules.specs.declared.Refusal.{Refusal}
-use Rattle.runfile.specs.Faults.{fault_number}
 use Rattle.runfile.specs.declared.item.Item.{Item}
 use Rattle.runfile.specs.declared.item.Item.TheVariants.{Open, Make, Says}
 use Rattle.runfile.specs.declared.item.Said.TheVariants.{BeginPut, BeginTake, Step, End, SetSize}
@@ -72,7 +71,7 @@ abbrev pub summary_end : Tally → ℕ → Option Refusal → List ℕ → Print
 summary_end t position fault ws =
     Totals
     record {
-      fault = fault_number fault;
+      fault = fault;
       words = position;
       puts = t.puts;
       takes = t.takes;

@@ -29,7 +29,7 @@ fn sum_end(words: &[u32], t: Tally, position: u64, fault: Option<Refusal>) -> Pr
     ensures { result ≡ summary_end t position fault words.now }
 {
     Printed::Totals(Summary {
-        fault: fault.map_or(0, Refusal::number),
+        fault,
         words: position,
         puts: t.puts,
         takes: t.takes,

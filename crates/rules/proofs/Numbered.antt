@@ -1,4 +1,4 @@
--- The numbers of answers and refusals: an answer's is 4 at the most, a refusal's is above, and no two refusals have one.
+-- The numbers of answers and refusals: an answer's is 4 at the most, a refusal's is above and 33 at the most, and no two refusals have one.
 use Rattle.std.proofs.Common.{ℕ, ◌≡◌, ◌≤◌, ◌<◌, refl, arith}
 use Rattle.std.specs.Prelude.{Ok}
 use Rattle.laws.specs.Choice.{cond}
@@ -22,6 +22,21 @@ number_high OverBound = omega arith
 number_high WrongEdition = omega arith
 number_high OffSize = omega arith
 number_high Excepted = omega arith
+
+pub number_low : (r : Refusal) → refusal_number r ≤ 33
+number_low TooFewWords = omega arith
+number_low OffLimits = omega arith
+number_low NotFit = omega arith
+number_low NoSuchWorker = omega arith
+number_low WorkerBusy = omega arith
+number_low WorkerIdle = omega arith
+number_low StepsSpent = omega arith
+number_low FileCut = omega arith
+number_low BadWord = omega arith
+number_low OverBound = omega arith
+number_low WrongEdition = omega arith
+number_low OffSize = omega arith
+number_low Excepted = omega arith
 
 pub answer_low : (a : Answer) → number_of (Ok a) ≤ 4
 answer_low Moving = omega arith
