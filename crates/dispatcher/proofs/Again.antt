@@ -7,7 +7,7 @@ use Rattle.std.specs.Prelude.{Err, Ok, Result}
 use Rattle.laws.specs.Choice.{cond, both}
 use Rattle.dispatcher.specs.Moved.{window_moved}
 use Rattle.rules.proofs.Fitness.{found_fit, found_unfit}
-use Rattle.rules.specs.Fit.{Checked, Unfit, Fit, checked_of, fitness_of}
+use Rattle.rules.specs.Fit.{Unfit, Fit, checked_of, fitness_of}
 use Rattle.rules.specs.Layout.{top_at, mark_at, settings_of}
 use Rattle.rules.specs.Make.{shipped}
 use Rattle.rules.specs.declared.Refusal.{Refusal}

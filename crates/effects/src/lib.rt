@@ -9,7 +9,9 @@ ghost use Rattle.rules.specs.Window.{read_from};
 ghost use Rattle.rules.specs.Worker.{zero_slot};
 ghost use Rattle.rules.specs.Effects.{next_of, hop_of, keep_of, refused_of, moved_of, restart_of, finished_of, nothing_for, with_pass};
 
-use rules::{Effect, Outcome, Phase, Refusal, Row, Settings, Side, Slot, Span, Stamp, View, Worker};
+use rules::{
+    Effect, Outcome, Phase, Refusal, Row, Settings, Side, Slot, Span, Stamp, View, Worker,
+};
 use worker::{fresh_slot, seen_slot, slot_of};
 
 // The index after `x`, of so many.

@@ -58,10 +58,7 @@ fn put_first(lines: &mut Tail<'_>, s: Summary)
 {
     match s.fault {
         None => lines.put_text(b"whole\n"),
-        Some(fault) => lines.put_filled(
-            b"faulty # at #\n",
-            &[u64::from(fault.number()), s.words],
-        ),
+        Some(fault) => lines.put_filled(b"faulty # at #\n", &[u64::from(fault.number()), s.words]),
     }
 }
 

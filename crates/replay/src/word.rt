@@ -89,7 +89,8 @@ fn next_word(words: &mut [u32], place: Place, position: u64, word: u32) -> Told
 pub fn next(words: &mut [u32], place: Place, position: u64, reader: Reader<'_>) -> Told
     ensures { replayed (next_told position result) words.new ≡ next_of words.old place position (read_at reader.entry.src.now reader.entry.at) }
 {
-    let Read::Word(word) = reader.read() else {
+    let read = reader.read();
+    let Read::Word(word) = read else {
         return Told::Ends(fault(place, reader.read()));
     };
     next_word(words, place, position, word)

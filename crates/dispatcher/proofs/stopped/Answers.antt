@@ -1,5 +1,5 @@
 -- `dispatcher::stopped` meets its contract: nobody is busy, or the count has run out, or the next step is refused.
-use Rattle.std.proofs.Common.{sym, ◌∙◌, ◌<◌, arith}
+use Rattle.std.proofs.Common.{sym, ◌<◌, arith}
 use Rattle.rounds.proofs.Turns.{turns_none, turns_out, turns_refused}
 use Rattle.dispatcher.proofs.stopped.Goals as goal
 

@@ -1,5 +1,5 @@
 -- `dispatcher::turn_from` meets its contract: the first busy worker of those still to be looked at is the first of all.
-use Rattle.std.proofs.Common.{◌<◌, ◌≤◌, ◌≡◌, ◌-◌}
+use Rattle.std.proofs.Common.{◌<◌, ◌≡◌, ◌-◌}
 use Rattle.rounds.specs.Dispatch.{busy_from}
 use Rattle.dispatcher.proofs.turn_from.Given as goal
 

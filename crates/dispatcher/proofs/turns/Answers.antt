@@ -2,7 +2,6 @@
 -- turns still to come, from where they are, are the whole of them.
 use Rattle.std.proofs.Common.{ℕ, ◌≡◌, ◌<◌, ◌+◌, ◌-◌, sym, ap, subst, ◌∙◌, arith}
 use native.Mathlib.Nat.{mod-lt}
-use Rattle.std.specs.Prelude.{Some}
 use Rattle.dispatcher.proofs.Again.{fit_again, unfit_again}
 use Rattle.rounds.proofs.Loop.{stays_fit, left_settings, turns_left, turns_over}
 use Rattle.rounds.proofs.Turns.{has_turn, turns_none, turns_out}
