@@ -10,7 +10,8 @@ use rules::{Row, Stamp};
 pub const LINE_BYTES: usize = 96;
 
 // The eight numbers of a line. A run file's worker is below 64, so a byte holds it; with 32 bits a line could pass the area.
-#[derive(Clone, Copy)]
+// Stays: numbers, the answer's or the refusal's among them: a line prints these, and nothing else is asked of them.
+#[derive(Clone, Copy, Default)]
 pub struct Entry {
     pub position: u64,
     pub number: u32,

@@ -10,6 +10,7 @@ use turns::{Printer, start};
 pub const TURN_BYTES: usize = SUMMARY_BYTES;
 
 // How far a program is: its printer, the position of the next word in the lent bytes, the bytes of output used, and whether all is printed.
+// Stays: a flag beside counts that all hold whether it is set or not: what was used is still to be written when all is printed.
 #[derive(Clone, Copy)]
 pub struct Stretch {
     pub printer: Printer,

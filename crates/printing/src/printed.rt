@@ -9,7 +9,7 @@ ghost use Rattle.printing.specs.Outputs.{Outputs, stops_after};
 
 use lines::{Entry, Summary};
 use replay::Done;
-use rules::{Answer, Refusal, Row, Stamp};
+use rules::{Answer, Refusal};
 use runfile::item::Said;
 use tally::Tally;
 
@@ -66,11 +66,7 @@ pub fn plain_entry(position: u64, number: u32, worker: u8) -> Entry
         position,
         number,
         worker,
-        value: 0,
-        sub: 0,
-        row: Row(0),
-        stamp: Stamp(0),
-        distance: 0,
+        ..Entry::default()
     }
 }
 

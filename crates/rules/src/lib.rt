@@ -18,6 +18,7 @@ pub struct Version(pub u32);
 
 // A pool's settings, words 0 to 5, 10 and 11. Kind 0 is a queue (paper 01's line), 1 a stack (its pile). The edition says how many words a
 // worker has, and whether a queue's windows have sizes of their own.
+// Stays: kind and edition are numbers: the lent words may hold any, and `settings_of` says of all words what they hold; C's make takes any too.
 #[derive(Clone, Copy, Debug, PartialEq, Eq)]
 pub struct Settings {
     pub kind: u32,
@@ -143,6 +144,7 @@ pub struct Worker {
 
 // A worker's words as they lie, but for its failed commits; `number` is the phase's. An edition that does not have the last two, of the
 // window seen, reads them as zero and drops them.
+// Stays: the phase is a number here, as the lent words hold it, whatever it is (`slot_at`); `Worker` has the phase that it stands for.
 #[derive(Clone, Copy, Debug, Default, PartialEq, Eq)]
 pub struct Slot {
     pub number: u32,

@@ -51,6 +51,7 @@ fn put_new(words: &mut [u32], g: Settings, n: usize)
 }
 
 // Makes a new pool of the settings in the lent words, of the shipped edition.
+// Stays: each setting is an argument, as the papers and the C interface have it.
 #[tactic(auto, unfolding(rules::specs::Make::make_of, laws::specs::Choice::cond))]
 pub fn make(
     words: &mut [u32],

@@ -40,7 +40,8 @@ fn fit_step(words: &mut [u32], g: Settings, i: u32) -> Result<Answer, Refusal>
 }
 
 // A step of worker `i` of a fit pool: its answer's number, with the five fields written. All of a step is behind it, and it becomes a part of the one function
-// behind begins and steps (crate calls). It returns a number, in a register; an answer, and settings handed to it, would go through memory at every step.
+// behind begins and steps (crate calls).
+// Stays: it returns a number, in a register, as C wants it; an answer, and settings handed to it, would go through memory at every step.
 pub fn fit_answer(words: &mut [u32], i: u32, five: &mut [u32; 5]) -> u32
     requires { checked_of shipped words.old ≡ Fit (settings_of words.old) }
     ensures { returned result words.new five.new ≡ returned_of (fit_step words.old (settings_of words.old) i) }
