@@ -79,7 +79,9 @@ pub fn check_source(words: &[u32], edition: u32) -> Result<(), Refusal>
     check_by(words, edition, Refusal::WrongEdition)
 }
 
-// The settings of a fit pool of the shipped edition.
+// The settings of a fit pool of the shipped edition. It becomes a part of its callers: else the settings would go through memory at every call, and the
+// compiler would not know their edition.
+#[inline(always)]
 pub fn fit_settings(words: &[u32]) -> Result<Settings, Refusal>
     ensures { result ≡ settings_found (checked_of shipped words.now) }
 {

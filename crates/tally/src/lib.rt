@@ -42,7 +42,9 @@ fn most_passed(g: Settings) -> u32
     (g.width - 1) * row
 }
 
-// The bound of a pool that can be made; a file's is of the shipped edition.
+// The bound of a pool that can be made; a file's is of the shipped edition. It stays a call, once in a file: inlined, it would have the compiler lay
+// what is told of every word out as these settings' words.
+#[inline(never)]
 pub fn bound_in(g: Settings) -> u32
     ensures { result ≡ bound_in g }
 {
