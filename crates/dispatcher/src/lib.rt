@@ -35,6 +35,7 @@ fn turn_from(words: &[u32], g: Settings, from: u32) -> Option<u32>
 }
 
 // What the turns come to with an answer of worker `j`, by its number, which is not 0, and its five fields.
+// Stays: a number and fields, as the one function behind all steps hands them on (crate calls).
 fn ended(j: u32, n: u32, five: [u32; 5]) -> Result<Dispatched, Refusal>
     ensures { result ≡ ended_of j n five }
 {

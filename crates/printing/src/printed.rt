@@ -90,6 +90,7 @@ fn plain_of(d: Done, number: u32) -> Entry
 }
 
 // What the lister prints of an event. The answer 0, of most words, has no line: it is told first, and asks for nothing else.
+// Stays: the numbers of the answers stand here again, as a line prints them and `listed_of` has them.
 fn listed(bound: u32, d: Done) -> Output
     ensures { Outputs result (listed_of bound (event_done d)) }
 {

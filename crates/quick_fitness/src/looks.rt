@@ -116,6 +116,7 @@ pub fn plain_windows(words: &[u32], g: Settings) -> bool
 
 // Whether sub `j` is fit, and of a queue its last taken row not below a bottom. Each kind reads the words for itself: read before the test, they would have
 // the compiler do both tests at every sub.
+// Stays: beside `sub_fit`, of which this is a quick part: it says nothing where it says no.
 fn plain_sub(words: &[u32], g: Settings, bottom: u32, j: u32) -> bool
     requires { (needed g ≤ length words.now) × (j < g.width) }
     ensures { result ≡ true → sub_fit g bottom (first_of words.now j) (second_of words.now j) ≡ true }

@@ -52,6 +52,7 @@ const WORKER_BIT: u32 = 22;
 const SIZE_SPARE_BIT: u32 = 12;
 
 // The settings that the first word holds; kind 1 is a stack (paper 01's pile).
+// Stays: the kind is a number, as in the settings that make takes.
 #[derive(Clone, Copy)]
 pub struct Opening {
     pub kind: u32,

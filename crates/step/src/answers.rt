@@ -52,7 +52,8 @@ pub fn answered(a: Result<Answer, Refusal>, five: &mut [u32; 5]) -> u32
     number(a)
 }
 
-// The final answer that has a number and five fields.
+// The final answer that has a number and five fields: any number but 1 to 3 stands for 4.
+// Stays: numbers, as the one function behind all steps hands them on (crate calls).
 pub fn final_answer(n: u32, five: [u32; 5]) -> Answer
     ensures { result ≡ final_of n five }
 {

@@ -30,6 +30,7 @@ fn look_effect(words: &[u32], g: Settings, kept: Slot, side: Side) -> Effect
     window(g, v, side)
 }
 
+// Stays: a look, a read and a commit are functions of their own, each called in one place, so that the compiler inlines it there.
 fn look(words: &mut [u32], g: Settings, at: usize, side: Side) -> Result<Answer, Refusal>
     requires ready { Ready g words.old at }
     requires at_value { get_or words.old (phase_at at) 0 ≡ number_for side window_phase }

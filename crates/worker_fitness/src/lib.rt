@@ -137,6 +137,7 @@ fn word_fit(g: Settings, width: u32, k: usize, x: u32) -> bool
 }
 
 // Whether every word of every worker is fit, in the shipped edition.
+// Stays: loops of its own, both left by label with what was found: paper 01 names the form.
 pub fn every_fit(words: &[u32], g: Settings) -> bool
     requires bounds { Bounds g }
     requires g_in_bounds { (needed g ≤ length words.now) × (g.edition ≡ shipped) }
