@@ -7,7 +7,7 @@ use Rattle.lines.specs.Area.{Written, line_bytes, put}
 use Rattle.lines.specs.Text.{ascii}
 use Rattle.lines.specs.Templates.{filled, marks}
 use Rattle.lines.specs.declared.line.Entry.{Entry}
-use Rattle.lines.proofs.Area.{put_put, put_none}
+use Rattle.lines.proofs.Area.{put_put, put_none, put_room}
 use Rattle.lines.proofs.Behind.{last_taken}
 use Rattle.lines.proofs.Decimal.{decimal_most}
 use Rattle.lines.proofs.Templates.{filled_most}
@@ -36,11 +36,11 @@ line_none w xs =
 
 -- one number more: there is room for the byte and the number
 pub record Step (w now : Written) (xs rest : List ℕ) (after x : ℕ) : Type 0 where
-  pub byte_room : 0 < now.room
-  pub number_room : length (decimal x) ≤ (put now (after ∷ [])).room
+  pub byte_room : 0 < length now.room
+  pub number_room : length (decimal x) ≤ length (put now (after ∷ [])).room
   pub put_both : LineFrom w (put (put now (after ∷ [])) (decimal x)) xs rest space
 
-pub line_step : (w now : Written) (xs left rest : List ℕ) (after x : ℕ) → length (line_of xs) ≤ w.room → LineFrom w now xs left after → left ≡ rest ++ (x ∷ [])
+pub line_step : (w now : Written) (xs left rest : List ℕ) (after x : ℕ) → length (line_of xs) ≤ length w.room → LineFrom w now xs left after → left ≡ rest ++ (x ∷ [])
     → Step w now xs rest after x
 unfolding line_of
 line_step w now xs left rest after x fits h e =
@@ -48,11 +48,11 @@ line_step w now xs left rest after x fits h e =
     let (parts, all) = last_taken xs left rest x h.all e in
     let part = line_part xs (length rest) in
     let long = ap (λ (l : List ℕ). length (line_of l)) parts ∙ line_length x behind in
-    let here = ap (λ (t : Written). t.room) h.stands in
+    let here = ap (λ (t : Written). length t.room) h.stands ∙ put_room w (line_of behind) in
     let put_two = put_put now (after ∷ []) (decimal x) ∙ (ap (λ (t : Written). put t (decimal x ++ (after ∷ []))) h.stands ∙ put_put w (line_of behind) (decimal x ++ (after ∷ []))) in
     record {
       byte_room = omega arith;
-      number_room = omega arith;
+      number_room = omega (arith, put_room now (after ∷ []));
       put_both = record { all = all; next = sym (ap after_of parts); stands = put_two ∙ rw (parts, h.next) (simp append_assoc) };
     }
 
@@ -87,7 +87,10 @@ pub closing_marks : marks closing_template ≡ 2
 unfolding marks cond
 closing_marks = refl
 
--- 10 digits each, 12 bytes of text and the newline
-pub closing_fits : (held worst : ℕ) → held < 2 ^ 32 → worst < 2 ^ 32 → length (closing_of held worst) ≤ line_bytes
+-- 15 bytes of template, and at most 20 digits for each of the two numbers
+abbrev pub closing_most : ℕ
+closing_most = 55
+
+pub closing_fits : (held worst : ℕ) → held < 2 ^ 32 → worst < 2 ^ 32 → length (closing_of held worst) ≤ closing_most
 closing_fits held worst h w =
     rw (← closing_filled held worst) (omega (arith, filled_most closing_template (held ∷ worst ∷ []) closing_marks (omega arith, (omega arith, tt))))

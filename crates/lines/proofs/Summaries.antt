@@ -1,5 +1,5 @@
 -- Every summary fits its area: its template has as many marks as numbers, and each number has at most 20 digits.
-use Rattle.std.proofs.Common.{ℕ, ◌≡◌, ◌^◌, ◌<◌, ◌≤◌, List, [], ◌∷◌, length, refl, arith, length-append}
+use Rattle.std.proofs.Common.{ℕ, ◌≡◌, ◌^◌, ◌<◌, ◌≤◌, [], ◌∷◌, length, refl, arith, length-append}
 use Rattle.laws.specs.Choice.{cond}
 use Rattle.rules.proofs.Numbered.{number_low}
 use Rattle.rules.specs.Answers.{refusal_number}

@@ -9,7 +9,7 @@ use Rattle.rules.specs.Statement.{All}
 use Rattle.lines.specs.Lines.{decimal}
 use Rattle.lines.specs.Area.{Written, put}
 use Rattle.lines.specs.Templates.{mark, filled, marks}
-use Rattle.lines.proofs.Area.{put_put, put_none}
+use Rattle.lines.proofs.Area.{put_put, put_none, put_room}
 use Rattle.lines.proofs.Behind.{last_taken}
 use Rattle.lines.proofs.Decimal.{decimal_most}
 
@@ -85,17 +85,17 @@ behind_all w now bs xs bytes numbers h e =
     let none : length numbers ≡ 0 = omega (arith, ap marks empty, h.a_number_each, no_marks) in
     rw (e, none) at h.stands
 
-module _ (w now : Written) (bs xs bytes numbers : List ℕ) (h : Behind w now bs xs bytes numbers) (room : length (filled bs xs) ≤ w.room) where
+module _ (w now : Written) (bs xs bytes numbers : List ℕ) (h : Behind w now bs xs bytes numbers) (room : length (filled bs xs) ≤ length w.room) where
   behind_text : List ℕ
   behind_text = filled (drop (length bytes) bs) (drop (length numbers) xs)
 
   -- there is room for the last piece of what is left, filled
-  piece_room : (front piece : List ℕ) → filled bytes numbers ≡ front ++ piece → length piece ≤ now.room
+  piece_room : (front piece : List ℕ) → filled bytes numbers ≡ front ++ piece → length piece ≤ length now.room
   unfolding behind_text
   piece_room front piece e =
       let parts = filled_append bytes (drop (length bytes) bs) numbers (drop (length numbers) xs) h.a_number_each in
       let whole : filled bs xs ≡ filled bytes numbers ++ behind_text = (rw (h.bytes_all, h.numbers_all) at parts) in
-      let here = ap (λ (t : Written). t.room) h.stands in
+      let here = ap (λ (t : Written). length t.room) h.stands ∙ put_room w behind_text in
       omega (arith, simp length-append at (ap length whole), simp length-append at (ap length e))
 
   piece_put : (piece : List ℕ) → put now piece ≡ put w (piece ++ behind_text)
@@ -107,7 +107,7 @@ module _ (w now : Written) (bs xs bytes numbers : List ℕ) (h : Behind w now bs
     byte_left : (b ≡ mark → ⊥) → marks rest ≡ length numbers
     byte_left plain = omega (arith, ap marks last ∙ marks_append rest (b ∷ []), marks_byte b [] plain, no_marks, h.a_number_each)
 
-    pub byte_room : (b ≡ mark → ⊥) → 0 < now.room
+    pub byte_room : (b ≡ mark → ⊥) → 0 < length now.room
     byte_room plain =
         let parts = filled_append rest (b ∷ []) numbers [] (byte_left plain) in
         piece_room (filled rest numbers) (b ∷ [])
@@ -132,7 +132,7 @@ module _ (w now : Written) (bs xs bytes numbers : List ℕ) (h : Behind w now bs
       others_left : marks rest ≡ length others
       others_left = omega (arith, ap marks last ∙ marks_append rest (b ∷ []), marks_mark b [] is, no_marks, h.a_number_each, ap length taken, length-append others (x ∷ []))
 
-      pub number_room : length (decimal x) ≤ now.room
+      pub number_room : length (decimal x) ≤ length now.room
       number_room =
           let parts = filled_append rest (b ∷ []) others (x ∷ []) others_left in
           piece_room (filled rest others) (decimal x)

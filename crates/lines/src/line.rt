@@ -1,6 +1,6 @@
 // The lines of a listing: each fills the end of a lent area, and only the used part is handed back.
 ghost use Rattle.std.specs.Prelude.{◌≡◌, ◌≤◌, length};
-ghost use Rattle.lines.specs.Area.{line_bytes, used_part};
+ghost use Rattle.lines.specs.Area.{line_bytes, put_last, used_part};
 ghost use Rattle.lines.specs.Lines.{line_of, numbers_of, closing_of};
 
 use crate::tail::Tail;
@@ -23,15 +23,13 @@ pub struct Entry {
     pub distance: u32,
 }
 
-// The line of an entry, as the used part of the area; nothing of an area of fewer than 96 bytes.
-pub fn entry_text<'a>(area: &'a mut [u8], e: Entry) -> &'a [u8]
-    ensures text { result.now ≡ used_part line_bytes area.old (line_of (numbers_of e)) }
-    ensures short { length result.now ≤ line_bytes }
+// Puts the line of an entry, where there is room for the longest.
+fn put_entry(line: &mut Tail<'_>, e: Entry)
+    ensures { line.new ≡ put_last line_bytes line.old (line_of (numbers_of e)) }
 {
-    if area.len() < LINE_BYTES {
-        return &[];
+    if line.room() < LINE_BYTES {
+        return;
     }
-    let mut line = Tail::new(area);
     line.put_line(&[
         e.position,
         e.number as u64,
@@ -42,6 +40,25 @@ pub fn entry_text<'a>(area: &'a mut [u8], e: Entry) -> &'a [u8]
         e.stamp.0 as u64,
         e.distance as u64,
     ]);
+}
+
+// Puts the closing line, likewise.
+fn put_closing(line: &mut Tail<'_>, held: u32, worst: u32)
+    ensures { line.new ≡ put_last line_bytes line.old (closing_of held worst) }
+{
+    if line.room() < LINE_BYTES {
+        return;
+    }
+    line.put_filled(b"held # worst #\n", &[held as u64, worst as u64]);
+}
+
+// The line of an entry, as the used part of the area; nothing of an area of fewer than 96 bytes.
+pub fn entry_text<'a>(area: &'a mut [u8], e: Entry) -> &'a [u8]
+    ensures text { result.now ≡ used_part line_bytes area.old (line_of (numbers_of e)) }
+    ensures short { length result.now ≤ line_bytes }
+{
+    let mut line = Tail::new(area);
+    put_entry(&mut line, e);
     line.text()
 }
 
@@ -50,10 +67,7 @@ pub fn closing_text<'a>(area: &'a mut [u8], held: u32, worst: u32) -> &'a [u8]
     ensures text { result.now ≡ used_part line_bytes area.old (closing_of held worst) }
     ensures short { length result.now ≤ line_bytes }
 {
-    if area.len() < LINE_BYTES {
-        return &[];
-    }
     let mut line = Tail::new(area);
-    line.put_filled(b"held # worst #\n", &[held as u64, worst as u64]);
+    put_closing(&mut line, held, worst);
     line.text()
 }

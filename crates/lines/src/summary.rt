@@ -1,6 +1,6 @@
 // The lines of a summary.
 ghost use Rattle.std.specs.Prelude.{◌≡◌, ◌≤◌, length};
-ghost use Rattle.lines.specs.Area.{put, used_part};
+ghost use Rattle.lines.specs.Area.{put, put_last, used_part};
 ghost use Rattle.lines.specs.Summary.{first_line, counts_lines, summary_text, first_line_bytes, summary_bytes};
 
 use crate::tail::Tail;
@@ -29,7 +29,7 @@ pub struct Summary {
 
 // Puts the lines of the counts.
 fn put_counts(lines: &mut Tail<'_>, s: Summary)
-    requires { summary_bytes ≤ lines.old.room }
+    requires { summary_bytes ≤ length lines.old.room }
     ensures { lines.new ≡ put lines.old (counts_lines s) }
 {
     lines.put_filled(
@@ -53,7 +53,7 @@ fn put_counts(lines: &mut Tail<'_>, s: Summary)
 
 // Puts the first line.
 fn put_first(lines: &mut Tail<'_>, s: Summary)
-    requires { first_line_bytes ≤ lines.old.room }
+    requires { first_line_bytes ≤ length lines.old.room }
     ensures { lines.new ≡ put lines.old (first_line s) }
 {
     match s.fault {
@@ -62,16 +62,23 @@ fn put_first(lines: &mut Tail<'_>, s: Summary)
     }
 }
 
+// Puts a summary, where there is room for the longest.
+fn put_summary(lines: &mut Tail<'_>, s: Summary)
+    ensures { lines.new ≡ put_last summary_bytes lines.old (summary_text s) }
+{
+    if lines.room() < SUMMARY_BYTES {
+        return;
+    }
+    put_counts(lines, s);
+    put_first(lines, s);
+}
+
 // A summary, as the used part of the area; nothing of an area of fewer than 512 bytes.
 pub fn summary_text<'a>(area: &'a mut [u8], s: Summary) -> &'a [u8]
     ensures text { result.now ≡ used_part summary_bytes area.old (summary_text s) }
     ensures short { length result.now ≤ summary_bytes }
 {
-    if area.len() < SUMMARY_BYTES {
-        return &[];
-    }
     let mut lines = Tail::new(area);
-    put_counts(&mut lines, s);
-    put_first(&mut lines, s);
+    put_summary(&mut lines, s);
     lines.text()
 }

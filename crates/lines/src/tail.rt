@@ -9,7 +9,7 @@ use std::marker::Model;
 // Stands for a number in a template.
 const MARK: u8 = b'#';
 
-// A clause sees the text and the room before it.
+// A clause sees the text, and the bytes of the area before it.
 #[derive(Drop)]
 pub struct Tail<'a> {
     area: &'a mut [u8],
@@ -17,12 +17,12 @@ pub struct Tail<'a> {
 }
 
 impl<'a> Model for Tail<'a> {
-    ghost use Rattle.std.specs.Prelude.{◌≤◌, length, drop};
+    ghost use Rattle.std.specs.Prelude.{◌≤◌, length, take, drop};
     ghost use Rattle.lines.specs.Area.{Written, written};
 
     ghost Value = { Written };
 
-    ghost view = { λ t. written t.at (drop t.at t.area.now) };
+    ghost view = { λ t. written (take t.at t.area.now) (drop t.at t.area.now) };
 
     ghost invariant = { λ t. t.at ≤ length t.area.now };
 }
@@ -30,15 +30,22 @@ impl<'a> Model for Tail<'a> {
 impl<'a> Tail<'a> {
     // An area with no text yet.
     pub fn new(area: &'a mut [u8]) -> Tail<'a>
-        ensures { result ≡ written (length area.old) [] }
+        ensures { result ≡ written area.old [] }
     {
         let at = area.len();
         Tail { area, at }
     }
 
+    // How many bytes of the area are before the text.
+    pub fn room(&self) -> usize
+        ensures { result ≡ length self.now.room }
+    {
+        self.at
+    }
+
     // Puts a byte before the text.
     pub fn put_byte(&mut self, b: u8)
-        requires { 0 < self.old.room }
+        requires { 0 < length self.old.room }
         ensures { self.new ≡ put self.old (b ∷ []) }
     {
         self.at -= 1;
@@ -47,7 +54,7 @@ impl<'a> Tail<'a> {
 
     // Puts a text before it.
     pub fn put_text(&mut self, text: &[u8])
-        requires { length text.now ≤ self.old.room }
+        requires { length text.now ≤ length self.old.room }
         ensures { self.new ≡ put self.old text.now }
     {
         let end = self.at;
@@ -58,7 +65,7 @@ impl<'a> Tail<'a> {
     // Puts the decimal digits of `x` before it.
     // Stays: the kit's `itoa` puts two digits at a time, and prints a line of mostly short numbers more slowly (12 % of the lister's time on a stack's file).
     pub fn put_number(&mut self, x: u64)
-        requires { length (decimal x) ≤ self.old.room }
+        requires { length (decimal x) ≤ length self.old.room }
         ensures { self.new ≡ put self.old (decimal x) }
     {
         let mut rest = x;
@@ -71,7 +78,7 @@ impl<'a> Tail<'a> {
 
     // Puts a line of numbers: a space between two, and a newline after the last.
     pub fn put_line(&mut self, numbers: &[u64])
-        requires { length (line_of numbers.now) ≤ self.old.room }
+        requires { length (line_of numbers.now) ≤ length self.old.room }
         ensures { self.new ≡ put self.old (line_of numbers.now) }
     {
         let mut after = b'\n';
@@ -85,7 +92,7 @@ impl<'a> Tail<'a> {
     // Puts a template, with a number in the place of each mark.
     pub fn put_filled(&mut self, template: &[u8], numbers: &[u64])
         requires a_number_each { marks template.now ≡ length numbers.now }
-        requires room { length (filled template.now numbers.now) ≤ self.old.room }
+        requires room { length (filled template.now numbers.now) ≤ length self.old.room }
         ensures { self.new ≡ put self.old (filled template.now numbers.now) }
     {
         let mut left = numbers;

@@ -3,7 +3,7 @@
 use Rattle.std.proofs.Common.{◌+◌, ◌/◌, ◌%◌, [], ◌∷◌, length, sym, ap, ◌∙◌, arith, length-append}
 use Rattle.lines.specs.Area.{Written, put}
 use Rattle.lines.specs.Lines.{decimal}
-use Rattle.lines.proofs.Area.{put_put}
+use Rattle.lines.proofs.Area.{put_put, put_room}
 use Rattle.lines.proofs.Decimal.{one_digit, more_digits}
 use Rattle.lines.proofs.tail.Tail.put_number.Goals as goal
 
@@ -19,7 +19,7 @@ loop-rest-preserved c =
     let more = more_digits l.rest c.loop-rest-test.true (omega arith) in
     let next = ap (λ (w : Written). put w (decimal (l.rest / 10))) c.put_byte.ensures ∙ put_put l.self ((48 + l.rest % 10) ∷ []) (decimal (l.rest / 10)) in
     record {
-      room = omega (arith, l.invariant.room, simp length-append at (ap length more), ap (λ (w : Written). w.room) c.put_byte.ensures);
+      room = omega (arith, l.invariant.room, simp length-append at (ap length more), ap (λ (w : Written). length w.room) c.put_byte.ensures ∙ put_room l.self ((48 + l.rest % 10) ∷ []));
       whole = next ∙ (ap (put l.self) (sym more) ∙ l.invariant.whole);
     }
 

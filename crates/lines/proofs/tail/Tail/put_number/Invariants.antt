@@ -8,7 +8,7 @@ use Rattle.lines.proofs.tail.Tail.put_number.Given as goal
 abbrev pub invariant-loop-rest : goal.invariant-loop-rest
 invariant-loop-rest l =
     record {
-      room : length (decimal l.rest) ≤ l.self.room;
+      room : length (decimal l.rest) ≤ length l.self.room;
       whole : put l.self (decimal l.rest) ≡ put l.initial.self (decimal l.x);
     }
 
