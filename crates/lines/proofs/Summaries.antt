@@ -1,5 +1,5 @@
 -- Every summary fits its area: its template has as many marks as numbers, and each number has at most 20 digits.
-use Rattle.std.proofs.Common.{ℕ, ◌≡◌, ◌^◌, ◌<◌, ◌≤◌, [], ◌∷◌, length, refl, arith, length-append}
+use Rattle.std.proofs.Common.{ℕ, ◌≡◌, ◌+◌, ◌^◌, ◌<◌, ◌≤◌, List, [], ◌∷◌, length, refl, arith, length-append}
 use Rattle.laws.specs.Choice.{cond}
 use Rattle.rules.proofs.Numbered.{number_low}
 use Rattle.rules.specs.Answers.{refusal_number}
@@ -24,11 +24,15 @@ Held s =
     (s.words < 2 ^ 64) × (s.puts < 2 ^ 64) × (s.takes < 2 ^ 64) × (s.empties < 2 ^ 64) × (s.fulls < 2 ^ 64)
     × (s.refused < 2 ^ 64) × (s.held < 2 ^ 32) × (s.worst < 2 ^ 32) × (s.bound < 2 ^ 32) × (s.lost < 2 ^ 64) × (s.steps < 2 ^ 32)
 
+-- the numbers of the counts in any template of 12 marks
+pub filled_counts_most : (template : List ℕ) (s : Summary) → marks template ≡ 12 → Held s → length (filled template (counts_of s)) ≤ length template + 240
+filled_counts_most template s marked (w, p, t, e, u, r, h, x, b, l, n) =
+    let most = filled_most template (counts_of s) marked (w, (p, (t, (e, (u, (r, (omega arith, (omega arith, (omega arith, (l, (omega arith, (omega arith, tt)))))))))))) in
+    omega arith
+
 pub counts_most : (s : Summary) → Held s → length (counts_lines s) ≤ 330
 unfolding counts_lines
-counts_most s (w, p, t, e, u, r, h, x, b, l, n) =
-    let most = filled_most counts_text (counts_of s) counts_marks (w, (p, (t, (e, (u, (r, (omega arith, (omega arith, (omega arith, (l, (omega arith, (omega arith, tt)))))))))))) in
-    omega arith
+counts_most s h = omega (arith, filled_counts_most counts_text s counts_marks h)
 
 pub faulty_most : (fault : Refusal) (words : ℕ) → words < 2 ^ 64 → length (filled faulty_text (refusal_number fault ∷ words ∷ [])) ≤ first_line_bytes
 faulty_most fault words w =

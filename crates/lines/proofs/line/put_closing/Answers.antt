@@ -1,20 +1,25 @@
 -- `lines::line::put_closing` meets its contract: the template with the two numbers is the closing line, and has room where the longest line has. Assumes nothing.
-use Rattle.std.proofs.Common.{◌∙◌, arith}
+use Rattle.std.proofs.Common.{[], ◌∷◌, refl, ◌∙◌, arith}
+use Rattle.laws.specs.Choice.{cond}
 use Rattle.lines.specs.Area.{line_bytes}
+use Rattle.lines.specs.Templates.{marks}
 use Rattle.lines.proofs.Area.{last_none, last_put}
-use Rattle.lines.proofs.Lines.{closing_filled, closing_marks, closing_fits}
+use Rattle.lines.proofs.Lines.{closing_template, closing_filled}
+use Rattle.lines.proofs.Templates.{filled_most}
 use Rattle.lines.proofs.line.put_closing.Goals as goal
 
 pub returns-then-room-lt-LINE_BYTES : goal.returns-then-room-lt-LINE_BYTES
 returns-then-room-lt-LINE_BYTES c = last_none line_bytes _ _ (omega (arith, c.room.ensures, c.if-room-lt-LINE_BYTES.true))
 
 pub put_filled-requires-clause-a_number_each : goal.put_filled-requires-clause-a_number_each
-put_filled-requires-clause-a_number_each c = closing_marks
+unfolding marks cond
+put_filled-requires-clause-a_number_each c = refl
 
 pub put_filled-requires-clause-room : goal.put_filled-requires-clause-room
+unfolding marks cond
 put_filled-requires-clause-room c =
-    let fits = closing_fits c.args.held c.args.worst (omega arith) (omega arith) in
-    rw closing_filled (omega (arith, c.room.ensures, c.if-room-lt-LINE_BYTES.false))
+    let most = filled_most closing_template (c.args.held ∷ c.args.worst ∷ []) refl (omega arith, (omega arith, tt)) in
+    omega (arith, c.room.ensures, c.if-room-lt-LINE_BYTES.false)
 
 pub returns : goal.returns
 returns c =

@@ -19,8 +19,8 @@ loop-rest-preserved c =
     let more = more_digits l.rest c.loop-rest-test.true (omega arith) in
     let next = ap (λ (w : Written). put w (decimal (l.rest / 10))) c.put_byte.ensures ∙ put_put l.self ((48 + l.rest % 10) ∷ []) (decimal (l.rest / 10)) in
     record {
-      room = omega (arith, l.invariant.room, simp length-append at (ap length more), ap (λ (w : Written). length w.room) c.put_byte.ensures ∙ put_room l.self ((48 + l.rest % 10) ∷ []));
       whole = next ∙ (ap (put l.self) (sym more) ∙ l.invariant.whole);
+      room = omega (arith, l.invariant.room, simp length-append at (ap length more), ap (λ (w : Written). length w.room) c.put_byte.ensures ∙ put_room l.self ((48 + l.rest % 10) ∷ []));
     }
 
 pub put_byte-requires-2 : goal.put_byte-requires-2

@@ -8,8 +8,8 @@ use Rattle.lines.proofs.tail.Tail.put_number.Given as goal
 abbrev pub invariant-loop-rest : goal.invariant-loop-rest
 invariant-loop-rest l =
     record {
-      room : length (decimal l.rest) ≤ length l.self.room;
       whole : put l.self (decimal l.rest) ≡ put l.initial.self (decimal l.x);
+      room : length (decimal l.rest) ≤ length l.self.room;
     }
 
 abbrev pub decreases-loop-rest : goal.decreases-loop-rest
