@@ -87,10 +87,7 @@ pub closing_marks : marks closing_template ≡ 2
 unfolding marks cond
 closing_marks = refl
 
--- 15 bytes of template, and at most 20 digits for each of the two numbers
-abbrev pub closing_most : ℕ
-closing_most = 55
-
-pub closing_fits : (held worst : ℕ) → held < 2 ^ 32 → worst < 2 ^ 32 → length (closing_of held worst) ≤ closing_most
+-- 15 bytes of template, and at most 20 digits for each of its two marks
+pub closing_fits : (held worst : ℕ) → held < 2 ^ 32 → worst < 2 ^ 32 → length (closing_of held worst) ≤ line_bytes
 closing_fits held worst h w =
     rw (← closing_filled held worst) (omega (arith, filled_most closing_template (held ∷ worst ∷ []) closing_marks (omega arith, (omega arith, tt))))

@@ -12,4 +12,4 @@ returns-clause-text c = c.text.ensures ∙ text_last _ _ _ _ _ c.new-line.ensure
 pub returns-clause-short : goal.returns-clause-short
 returns-clause-short c =
     rw (c.text.ensures ∙ text_last _ _ _ _ _ c.new-line.ensures c.put_closing.ensures)
-    (used_most line_bytes c.args.area.now (closing_of c.args.held c.args.worst) (omega (arith, closing_fits c.args.held c.args.worst (omega arith) (omega arith))))
+    (used_most line_bytes c.args.area.now (closing_of c.args.held c.args.worst) (closing_fits c.args.held c.args.worst (omega arith) (omega arith)))
