@@ -1,5 +1,5 @@
 // The input: what a read brings behind the bytes that are carried over, from a piece to the next.
-ghost use Rattle.std.specs.Prelude.{◌≡◌, ◌-◌, ◌%◌, ◌≤◌, length, drop};
+ghost use Rattle.std.specs.Prelude.{◌≡◌, ◌-◌, ◌%◌, ◌≤◌, length, drop, MatchResult};
 ghost use Rattle.std.proofs.Math.Seq.{paste};
 ghost use Rattle.runfile.specs.Words.{word_bytes};
 ghost use Rattle.buffers.specs.Kept.{ReadsNothing, WritesNothing, at_start, Read, Fed, Unfed};
@@ -7,6 +7,7 @@ ghost use Rattle.buffers.specs.Kept.{ReadsNothing, WritesNothing, at_start, Read
 use crate::run::Run;
 use pieces::Stretch;
 use runfile::word::WORD_BYTES;
+use std::io;
 
 impl Run {
     // After a read, whatever it brought.
@@ -21,7 +22,7 @@ impl Run {
     }
 
     // After a read that brought `n` bytes. A read of no bytes is the end of the input.
-    pub fn fed(self, n: usize) -> Run
+    fn fed(self, n: usize) -> Run
         ensures { Fed self n result }
     {
         Run {
@@ -32,12 +33,22 @@ impl Run {
     }
 
     // After a read that failed: the input can't be read.
-    pub fn unfed(self) -> Run
+    fn unfed(self) -> Run
         ensures { Unfed self result }
     {
         Run {
             unread: true,
             ..self.counted()
+        }
+    }
+
+    // After a read. The input can't be read where that failed, and nowhere else: a read that brought bytes, which would then be lost, has not.
+    pub fn after(self, read: io::Result<usize>) -> Run
+        ensures { MatchResult read (λ n. Fed self n result) (λ _. Unfed self result) }
+    {
+        match read {
+            Ok(n) => self.fed(n),
+            Err(_) => self.unfed(),
         }
     }
 

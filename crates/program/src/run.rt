@@ -30,11 +30,13 @@ fn print_some<R: Read, W: Write>(
     ensures keeps { Left mode run src.old words.old out.old → Left mode result src.new words.new out.new }
     ensures counts { (result.reads ≡ run.reads + 1) × Remembers run result }
 {
-    let Ok(n) = read_behind(from, src, run.carried) else {
-        return run.unfed();
+    let read = read_behind(from, src, run.carried);
+    let piece = run.after(read);
+    let Ok(n) = read else {
+        return piece;
     };
     let end = run.carried + n;
-    let printed = print_piece(to, words, mode, run.fed(n), &src[..end], out);
+    let printed = print_piece(to, words, mode, piece, &src[..end], out);
     if printed.ended {
         return printed;
     }
