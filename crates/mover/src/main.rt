@@ -24,17 +24,16 @@ enum Fault {
     Unwritten,
 }
 
-// The line that tells it.
+// The line that tells it, with its end, so that a text is written at once.
 impl fmt::Display for Fault {
     fn fmt<W: fmt::Write>(&self, f: &mut fmt::Formatter<W>) -> fmt::Result {
         match self {
-            Fault::Usage => write!(
-                f,
-                "mover: call it as 'mover 1 2 <OLD >NEW', from one edition to the next or back: 0 1, 1 0, 1 2 or 2 1"
+            Fault::Usage => f.write_str(
+                "mover: call it as 'mover 1 2 <OLD >NEW', from one edition to the next or back: 0 1, 1 0, 1 2 or 2 1\n",
             ),
-            Fault::Unread => write!(f, "mover: cannot read standard input"),
-            Fault::Refused(refusal) => write!(f, "{}", refusal.number()),
-            Fault::Unwritten => write!(f, "mover: cannot write standard output"),
+            Fault::Unread => f.write_str("mover: cannot read standard input\n"),
+            Fault::Refused(refusal) => writeln!(f, "{}", refusal.number()),
+            Fault::Unwritten => f.write_str("mover: cannot write standard output\n"),
         }
     }
 }
@@ -92,14 +91,35 @@ fn move_input<R: Read, W: Write>(from: &mut R, to: &mut W, old: u32, new: u32) -
     write_all(to, &out[..used]).map_err(|_| Fault::Unwritten)
 }
 
-// Moves what the arguments ask for.
-fn run(rt: &HostRuntime) -> Result<(), Fault> {
-    let (old, new) = editions(rt).ok_or(Fault::Usage)?;
-    move_input(&mut rt.stdin(), &mut rt.stdout(), old, new)
+// Tells it on a stream. Where that can't be written, nothing can tell it.
+fn tell<E: Write>(errors: &mut E, fault: Fault) {
+    let _ = write!(errors, "{fault}");
+}
+
+// Moves a pool, and tells on a stream of its own why it was not moved, or not written whole: no word of that is written where the pool is.
+fn move_told<R: Read, W: Write, E: Write>(
+    from: &mut R,
+    to: &mut W,
+    errors: &mut E,
+    old: u32,
+    new: u32,
+)
+    ensures { MovesInput old new (R.remaining from.old) (R.remaining from.new) (W.contents to.old) (W.contents to.new) }
+{
+    if let Err(fault) = move_input(from, to, old, new) {
+        tell(errors, fault);
+    }
 }
 
 fn main(rt: HostRuntime) {
-    if let Err(fault) = run(&rt) {
-        let _ = writeln!(rt.stderr(), "{fault}");
+    match editions(&rt) {
+        Some((old, new)) => move_told(
+            &mut rt.stdin(),
+            &mut rt.stdout(),
+            &mut rt.stderr(),
+            old,
+            new,
+        ),
+        None => tell(&mut rt.stderr(), Fault::Usage),
     }
 }
