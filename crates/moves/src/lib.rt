@@ -1,7 +1,8 @@
 // A move of a pool from one edition to another, from a lent area into another, for all words of both. The source is lent for reading.
 #![tactic(auto)]
 
-ghost use Rattle.std.specs.Prelude.{◌≡◌, ◌<◌, ◌≤◌, length};
+ghost use Rattle.std.specs.Prelude.{◌≡◌, ◌+◌, ◌<◌, ◌≤◌, length, drop};
+ghost use Rattle.std.proofs.Math.Seq.{paste};
 ghost use Rattle.rules.specs.Answers.{out};
 ghost use Rattle.rules.specs.Fit.{source_checked, FitPool};
 ghost use Rattle.rules.specs.Layout.{worker_words, needed};
@@ -70,13 +71,23 @@ fn move_workers(from: &[u32], g: Settings, to: &mut [u32], h: Settings)
     }
 }
 
+// Copies `n` words of the source, from its word `at` on, to where the target has its word `start`.
+// Stays a loop: of the standard library's copy the compiler makes a call of C's `memmove`, which the archive for C would then want from outside.
+fn copy(from: &[u32], at: usize, to: &mut [u32], start: usize, n: usize)
+    requires { (at + n ≤ length from.now) × (start + n ≤ length to.old) }
+    ensures { to.new ≡ paste to.old start (drop at from.now) n }
+{
+    for k in 0..n {
+        to[start + k] = from[at + k];
+    }
+}
+
 // The head and the subs, but for the edition.
 fn move_head(from: &[u32], g: Settings, to: &mut [u32], h: Settings)
     requires { Areas from.now g to.old h }
     ensures { to.new ≡ head_moved from.now g to.old h }
 {
-    let n = sub_at(g.width);
-    to[..n].copy_from_slice(&from[..n]);
+    copy(from, 0, to, 0, sub_at(g.width));
     to[EDITION] = h.edition;
 }
 
@@ -84,10 +95,8 @@ fn move_cells(from: &[u32], g: Settings, to: &mut [u32], h: Settings)
     requires { Areas from.now g to.old h }
     ensures { to.new ≡ cells_moved from.now g to.old h }
 {
-    let at = sub_cells_at(g, 0);
-    let start = sub_cells_at(h, 0);
     let n = CELL_WORDS * (g.width as usize * g.rows as usize);
-    to[start..start + n].copy_from_slice(&from[at..at + n]);
+    copy(from, sub_cells_at(g, 0), to, sub_cells_at(h, 0), n);
 }
 
 fn move_words(from: &[u32], g: Settings, to: &mut [u32], h: Settings)
