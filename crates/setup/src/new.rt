@@ -1,29 +1,42 @@
 // Make.
-ghost use Rattle.std.specs.Prelude.{◌≡◌, ◌≤◌, length};
+ghost use Rattle.std.specs.Prelude.{◌≡◌, ◌+◌, ◌∷◌, [], ◌≤◌, length};
 ghost use Rattle.std.proofs.lemmas.List.Edits.{sets};
 ghost use Rattle.rules.specs.Answers.{out};
 ghost use Rattle.rules.specs.Layout.{windows_at, needed};
 ghost use Rattle.rules.specs.Limits.{Bounds};
 ghost use Rattle.rules.specs.Make.{settings_from, new_windows, indexed, made_words, make_of};
 
-use image::{put_head, windows_at, words_needed, worker_at};
+use image::{
+    LIVE, NEXT_DEPTH, NEXT_WIDTH, PAIRS, SIZE_SET, put_head, windows_at, words_needed, worker_at,
+};
 use limits::settings_fit;
 use queue_windows::has_windows;
 use rules::numbers::SHIPPED;
 use rules::{Answer, Refusal, Settings};
 use slots::put_index;
 
-// A queue has the words of windows where windows have sizes of their own: one is live, both put window and take window, and has the pool's size, like the
-// next, and none was set.
+// One window is live, both put window and take window, and has the pool's size, like the next, and none was set.
+// Stays: each word by its name, which `image` alone gives a place.
+fn put_first_window(words: &mut [u32], g: Settings, at: usize)
+    requires { at + 6 ≤ length words.old }
+    ensures { words.new ≡ sets words.old at (g.width ∷ g.depth ∷ 0 ∷ 1 ∷ g.width ∷ g.depth ∷ []) }
+{
+    words[at + NEXT_WIDTH] = g.width;
+    words[at + NEXT_DEPTH] = g.depth;
+    words[at + SIZE_SET] = 0;
+    words[at + LIVE] = 1;
+    words[at + PAIRS] = g.width;
+    words[at + PAIRS + 1] = g.depth;
+}
+
+// A queue has these words where windows have sizes of their own.
 fn put_windows(words: &mut [u32], g: Settings)
     requires bounds { Bounds g }
     requires g_in_bounds { needed g ≤ length words.old }
     ensures { words.new ≡ sets words.old (windows_at g) (new_windows g) }
 {
     if has_windows(g) {
-        let at = windows_at(g);
-        let first = [g.width, g.depth, 0, 1, g.width, g.depth];
-        words[at..at + first.len()].copy_from_slice(&first);
+        put_first_window(words, g, windows_at(g));
     }
 }
 
