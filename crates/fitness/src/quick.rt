@@ -17,7 +17,7 @@ use rules::{Refusal, Settings};
 use worker_fitness::every_fit;
 
 // Why what is behind the head is not fit, if it is not: by quick looks where no size was set, and by the whole check of it where they do not tell,
-// which reads the settings itself. Handed to it, they would be kept for it at every call.
+// which is handed the words alone, in a new slice, and reads the settings itself. Handed to it, they would be kept for it at every call.
 fn quick_body(words: &[u32], g: Settings) -> Result<(), Refusal>
     requires bounds { Bounds g }
     requires head_words_in_bounds { (head_words ≤ length words.now) × (g.edition ≡ shipped) }
@@ -34,7 +34,7 @@ fn quick_body(words: &[u32], g: Settings) -> Result<(), Refusal>
     {
         return Ok(());
     }
-    check_body(words)
+    check_body(&words[..])
 }
 
 // The same with the head, of the shipped edition, which is told to the compiler.
