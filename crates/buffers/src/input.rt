@@ -22,7 +22,7 @@ impl Run {
     }
 
     // After a read that brought `n` bytes. A read of no bytes is the end of the input.
-    fn fed(self, n: usize) -> Run
+    pub fn fed(self, n: usize) -> Run
         ensures { Fed self n result }
     {
         Run {
@@ -42,7 +42,7 @@ impl Run {
         }
     }
 
-    // After a read. The input can't be read where that failed, and nowhere else: a read that brought bytes, which would then be lost, has not.
+    // After a read. The input can't be read where that failed, and nowhere else, so that no read that brought bytes is taken for a failed one.
     pub fn after(self, read: io::Result<usize>) -> Run
         ensures { MatchResult read (λ n. Fed self n result) (λ _. Unfed self result) }
     {

@@ -56,8 +56,8 @@ fn segment_reported(words: &[u32], g: Settings, j: u32, x: Segment, kind: u32, s
 }
 
 // The same of both segments. Whether the second has cells is asked once, before the first is gone through: a sub with one alone
-// costs less so. It becomes a part of each of its calls, where the kind is a number: as a call of its own, takes past windows of several sizes took up to
-// 1.5 times as long.
+// costs less so. It becomes a part of each of its calls, where the kind is a number: where it was a call of its own, takes past windows of several sizes took
+// up to 1.5 times as long.
 #[inline(always)]
 fn segments_reported(words: &[u32], g: Settings, j: u32, x: Segments, kind: u32, s: Stamp) -> u32
     requires fit_pool { FitPool g words.now }

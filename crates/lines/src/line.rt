@@ -23,7 +23,7 @@ pub struct Entry {
     pub distance: u32,
 }
 
-// Puts the line of an entry where there is room for the longest, and nothing elsewhere.
+// Puts the line of an entry where there is room for the longest, and else nothing.
 // Stays: beside `entry_text`, which lends the area on and so cannot say what the rest of it holds.
 fn put_entry(line: &mut Tail<'_>, e: Entry)
     ensures { line.new ≡ put_last line_bytes line.old (line_of (numbers_of e)) }

@@ -62,7 +62,7 @@ fn put_first(lines: &mut Tail<'_>, s: Summary)
     }
 }
 
-// Puts a summary where there is room for the longest, and nothing elsewhere.
+// Puts a summary where there is room for the longest, and else nothing.
 // Stays: beside `summary_text`, which lends the area on and so cannot say what the rest of it holds.
 fn put_summary(lines: &mut Tail<'_>, s: Summary)
     ensures { lines.new ≡ put_last summary_bytes lines.old (summary_text s) }

@@ -106,7 +106,7 @@ impl<'a> Tail<'a> {
         }
     }
 
-    // What was put, as bytes of the area.
+    // What was put, as bytes of the area. It lends the area on, and so says nothing of the bytes before.
     pub fn text(self) -> &'a [u8]
         ensures { result.now ≡ self.entry.text }
     {
