@@ -10,7 +10,7 @@ ghost use Rattle.rules.specs.Layout.{settings_of};
 ghost use Rattle.rules.specs.Make.{shipped};
 ghost use Rattle.rules.specs.Step.{fit_step};
 
-use crate::asked::Asked;
+use crate::asked::{Asked, Asks};
 use crate::begin::fit_begin;
 use fitness::quick_check;
 use image::shipped_settings;
@@ -41,10 +41,11 @@ fn begun(words: &mut [u32], side: Side, i: u32, value: u32, five: &mut [u32; 5])
 
 // Does what is asked of worker `i`: the answer's number, with the five fields written.
 // Stays a number, with fields beside it: the C interface returns it, and it becomes the body of each exported function.
-pub fn call(words: &mut [u32], asked: Asked, i: u32, value: u32, five: &mut [u32; 5]) -> u32
-    requires { asked ≡ CheckedStep → checked_of shipped words.old ≡ Fit (settings_of words.old) }
-    ensures { returned result words.new five.new ≡ returned_of (called asked words.old i value) }
+pub fn call<A: Asks>(words: &mut [u32], what: A, i: u32, value: u32, five: &mut [u32; 5]) -> u32
+    requires { A.unchecked what → checked_of shipped words.old ≡ Fit (settings_of words.old) }
+    ensures { returned result words.new five.new ≡ returned_of (called (A.asked what) words.old i value) }
 {
+    let asked = what.asked();
     if let Err(refusal) = check(words, asked) {
         return answered(Err(refusal), five);
     }

@@ -5,6 +5,6 @@ mod asked;
 mod begin;
 mod entry;
 
-pub use asked::Asked;
+pub use asked::{Asked, Asks};
 pub use begin::{begin_put, begin_take};
 pub use entry::{call, next_answer};

@@ -65,9 +65,9 @@ fn came_to(r: Result<Dispatched, Refusal>, six: &mut [u32; 6]) -> u32
     *six = [0; 6];
     match r {
         Ok(Dispatched::Finished { worker, answer }) => {
-            let [value, sub, row, stamp, distance] = fields(Ok(answer));
+            let [value, sub, row, stamp, distance] = fields::<Refusal>(Ok(answer));
             *six = [value, sub, row, stamp, distance, worker];
-            number(Ok(answer))
+            number::<Refusal>(Ok(answer))
         }
         Ok(Dispatched::NoneBusy) => 5,
         Ok(Dispatched::RanOut { next }) => {

@@ -27,7 +27,7 @@ use Rattle.lines.specs.Lines.{digits_of, decimal, line_of, closing_of}
 use Rattle.rules.specs.Run.{call_of}
 use Rattle.replay.specs.Replay.{out_of, item_next, word_next, next_of as nextEvent, replay_from, replay_of}
 use Rattle.tally.specs.Tally.{bound_in, tally_after}
-use Rattle.printing.specs.Printings.{item_entry, answer_printed, listed_of, listed_end, event_printed, end_printed}
+use Rattle.printing.specs.Printings.{item_entry, answer_printed_by, listed_by, listed_end, event_printed_by, end_numbered}
 use Rattle.printing.specs.Print.{print_from, printed_of, text_of, print_of, listing_of}
 use Rattle.printing.specs.declared.printed.Mode.TheVariants.{Listing}
 use Rattle.printing.specs.declared.printed.Printed.{Printed}
@@ -52,7 +52,7 @@ take_line = Line (item_entry 9 2 0 7 0 (record { 0 = 1 }) (record { 0 = 1 }) 0)
 -- of the words that are answered 0 nothing is printed
 lines_are : printed_of Listing file
     ≡ Nothing ∷ Nothing ∷ Nothing ∷ Nothing ∷ Nothing ∷ put_line ∷ Nothing ∷ Nothing ∷ Nothing ∷ take_line ∷ Nothing ∷ Closing 0 0 ∷ []
-unfolding stored file queue_put_commit queue_take_commit seen_fit worker_fit windows_fit band_count band_of held_bands windows_words windowed size_fit sizes_of bottom_of level_of seen_by hop_of cond all_below put_item put_sub put_landed put_shifted put_raised put_dropped count_lost put_worker taken_of apply_by apply_of slot_begin fit_begin checked_begin begin_of check_rule commit_by queue_commit stack_commit confirmed_of confirm_by queue_confirm stack_confirm view_of next_of sub_fit subs_fit phase_fit workers_fit body_checked head_checked checked_by items_above held_sub held_below count_items distance_of settings_fit zeroed indexed made_words make_of miss_of queue_put_read queue_take_read stack_read shift_by queue_shift stack_shift rule_by rule_of slot_step fit_step checked_step step_of window_rule slot_at put_slot queue_phase stack_phase phase_of encode_phase encode first_of second_of later_of item_of reads_of read_at most_passed bound_in tally_after held_by held_of worker_words call_of out_of item_next word_next nextEvent replay_from replay_of answer_printed listed_of listed_end event_printed end_printed print_from printed_of put_line take_line
+unfolding stored file queue_put_commit queue_take_commit seen_fit worker_fit windows_fit band_count band_of held_bands windows_words windowed size_fit sizes_of bottom_of level_of seen_by hop_of cond all_below put_item put_sub put_landed put_shifted put_raised put_dropped count_lost put_worker taken_of apply_by apply_of slot_begin fit_begin checked_begin begin_of check_rule commit_by queue_commit stack_commit confirmed_of confirm_by queue_confirm stack_confirm view_of next_of sub_fit subs_fit phase_fit workers_fit body_checked head_checked checked_by items_above held_sub held_below count_items distance_of settings_fit zeroed indexed made_words make_of miss_of queue_put_read queue_take_read stack_read shift_by queue_shift stack_shift rule_by rule_of slot_step fit_step checked_step step_of window_rule slot_at put_slot queue_phase stack_phase phase_of encode_phase encode first_of second_of later_of item_of reads_of read_at most_passed bound_in tally_after held_by held_of worker_words call_of out_of item_next word_next nextEvent replay_from replay_of answer_printed_by listed_by listed_end event_printed_by end_numbered print_from printed_of put_line take_line
 lines_are = refl
 
 -- "5 1 0 7 0 1 1 0", "9 2 0 7 0 1 1 0", "held 0 worst 0", a newline after each

@@ -27,7 +27,7 @@ use Rattle.replay.specs.Files.{with_call, events_in}
 use Rattle.replay.proofs.Files.{positions_count}
 use Rattle.lines.specs.declared.line.Entry.{Entry}
 use Rattle.tally.specs.Tally.{no_tally, count_on, tally_after}
-use Rattle.printing.specs.Printings.{worker_in, answer_printed, listed_of, listed_end, event_printed, end_printed, ends_with}
+use Rattle.printing.specs.Printings.{worker_in, answer_printed, answer_printed_by, listed_by, listed_end, event_printed_by, end_printed, end_numbered, ends_with}
 use Rattle.printing.specs.Print.{print_then, print_from, printed_of}
 use Rattle.tally.specs.Bound.{tally_over}
 use Rattle.printing.specs.Quotes.{line_if, lines_if, only, listed_if, listed, item_on, items_listed, greatest, last_of, answer_line, end_of, ListsAll, NotOver, NeverOver, DistancesWithin, TakesArePuts, ClosingAddsUp, SummaryCounts}
@@ -57,7 +57,7 @@ entry_of position worker a =
 -- every answer but 0 has one, with its number
 one_line : (among : ℕ → Bool) (position worker : ℕ) (a : Answered) → among 0 ≡ false
     → line_if among (answer_printed position worker a) ≡ cond (among (number_of a)) (entry_of position worker a ∷ []) []
-unfolding answer_printed cond
+unfolding answer_printed_by cond
 one_line among position worker (Ok Moving) none = rw none
 one_line among position worker (Ok (Put value sub row stamp)) none = refl
 one_line among position worker (Ok (Taken value sub row stamp distance)) none = refl
@@ -66,7 +66,7 @@ one_line among position worker (Ok Full) none = refl
 one_line among position worker (Err k) none = refl
 
 answer_goes : (position worker : ℕ) (a : Answered) → ends_with (answer_printed position worker a) ≡ false
-unfolding answer_printed
+unfolding answer_printed_by
 answer_goes position worker (Ok Moving) = refl
 answer_goes position worker (Ok (Put value sub row stamp)) = refl
 answer_goes position worker (Ok (Taken value sub row stamp distance)) = refl
@@ -139,7 +139,7 @@ print_last x = cases (λ (l : List Printed). x ∷ l ≡ x ∷ []) (ends_with x)
 -- they all have their lines
 lists_from : (t : Tally) (xs : List Happened) (end : Ending) → Within t xs
     → print_from Listing t xs end ≡ map answer_line xs ++ (end_printed Listing (tally_over t xs) end.position end.fault end.words ∷ [])
-unfolding print_from tally_over event_printed listed_of cond
+unfolding print_from tally_over event_printed_by listed_by cond
 lists_from t [] end h = print_last _
 lists_from t (x ∷ xs) end h =
     rw (le-ltb (tally_after t x.event).bound (distance_in x.event.answer) h.0, answer_goes x.event.position (worker_in x.event.item) x.event.answer)
@@ -148,7 +148,7 @@ lists_from t (x ∷ xs) end h =
 -- while the summary prints nothing of them
 sums_from : (t : Tally) (xs : List Happened) (end : Ending)
     → print_from Summing t xs end ≡ map (λ (x : Happened). Nothing) xs ++ (end_printed Summing (tally_over t xs) end.position end.fault end.words ∷ [])
-unfolding print_from tally_over event_printed cond
+unfolding print_from tally_over event_printed_by cond
 sums_from t [] end = print_last _
 sums_from t (x ∷ xs) end = ap (λ (l : List Printed). Nothing ∷ l) (sums_from (tally_after t x.event) xs end)
 
@@ -165,7 +165,7 @@ lines_end among [] x e = rw e
 lines_end among (y ∷ ys) x e = ap (λ (l : List Entry). line_if among y ++ l) (lines_end among ys x e)
 
 end_no_line : (among : ℕ → Bool) (t : Tally) (position : ℕ) (fault : Option Refusal) (ws : List ℕ) → line_if among (end_printed Listing t position fault ws) ≡ []
-unfolding end_printed listed_end
+unfolding end_numbered listed_end
 end_no_line among t position None ws = refl
 end_no_line among t position (Some refusal) ws = refl
 
@@ -225,7 +225,7 @@ worst_is bytes = rw (lines_are (only 2) bytes) (worst_over no_tally (replay_of b
 -- a closing line's two numbers
 closing_is : (t : Tally) (position : ℕ) (fault : Option Refusal) (ws : List ℕ) (held worst : ℕ) → end_printed Listing t position fault ws ≡ Closing held worst
     → (held_of shipped ws ≡ held) × (t.worst ≡ worst)
-unfolding end_printed listed_end
+unfolding end_numbered listed_end
 closing_is t position None ws held worst e = (cc, cc)
 closing_is t position (Some refusal) ws held worst e = let z : ◌≡◌ {A = ℕ} 0 1 = cc in absurd (omega arith)
 
@@ -237,7 +237,7 @@ closing_adds_up bytes held worst e =
 
 -- ---- no listing stops with a 30
 end_not_over : (t : Tally) (position : ℕ) (fault : Option Refusal) (ws : List ℕ) → fault_number fault ≤ bad_word → NotOver (end_printed Listing t position fault ws)
-unfolding end_printed listed_end
+unfolding end_numbered listed_end
 end_not_over t position None ws l e u over = let z : ◌≡◌ {A = ℕ} 0 1 = cc in absurd (omega arith)
 end_not_over t position (Some refusal) ws l e u over = let same : refusal_number refusal ≡ e.number = cc in omega arith
 
@@ -255,7 +255,7 @@ never_over bytes =
 
 -- ---- the summary
 pub summary_counts : SummaryCounts
-unfolding printed_of end_printed tally_after
+unfolding printed_of end_numbered tally_after
 summary_counts bytes =
     let r = replay_of bytes in
     let t = tally_over no_tally r.events in

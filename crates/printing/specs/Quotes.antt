@@ -108,7 +108,7 @@ ClosingAddsUp =
     → (held + length (listed 2 bytes) ≡ length (listed 1 bytes)) × (worst ≡ greatest (listed 2 bytes))
 
 -- ---- the summary has the same numbers, of a file that ends in a fault too: it counts the lines of the listing
-pub record Counts (bytes : List ℕ) (s : Summary) : Type 0 where
+pub record Counts (bytes : List ℕ) (s : Summary ℕ) : Type 0 where
   pub puts : s.puts ≡ length (listed 1 bytes)
   pub takes : s.takes ≡ length (listed 2 bytes)
   pub empties : s.empties ≡ length (listed 3 bytes)
@@ -120,4 +120,4 @@ pub record Counts (bytes : List ℕ) (s : Summary) : Type 0 where
   pub bound : (g : Settings) → pool_in (replay_of bytes).events ≡ some g → s.bound ≡ bound_of g (replay_of bytes).events
 
 abbrev pub SummaryCounts : Type 0
-SummaryCounts = (bytes : List ℕ) → (s : Summary) × (last_of (printed_of Summing bytes) ≡ Totals s) × Counts bytes s
+SummaryCounts = (bytes : List ℕ) → (s : Summary ℕ) × (last_of (printed_of Summing bytes) ≡ Totals s) × Counts bytes s

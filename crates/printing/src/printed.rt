@@ -3,13 +3,12 @@ ghost use Rattle.std.specs.Prelude.{◌≡◌, ltb};
 ghost use Rattle.laws.specs.Choice.{cond};
 ghost use Rattle.rules.specs.Answers.{over_bound};
 ghost use Rattle.runfile.specs.declared.item.Item.TheVariants.{Says};
-ghost use Rattle.replay.specs.Told.{event_done};
-ghost use Rattle.printing.specs.Printings.{worker_in, plain, listed_of, event_printed};
+ghost use Rattle.printing.specs.Printings.{worker_in, plain, listed_by, event_printed_by};
 ghost use Rattle.printing.specs.Outputs.{Outputs, stops_after};
 
 use lines::{Entry, Summary};
 use replay::Done;
-use rules::{Answer, Refusal};
+use rules::{Answer, Refusal, RefusalNumber};
 use runfile::item::Said;
 use tally::Tally;
 
@@ -28,20 +27,20 @@ pub enum Printed {
     Line(Entry),
     Last(Entry),
     Closing { held: u32, worst: u32 },
-    Totals(Summary),
+    Totals(Summary<u32>),
 }
 
-// What is handed on of a word: the line of an event, or the fault that ends the file, if there is one.
+// What is handed on of a word: the line of an event, or the fault that ends the file, if there is one. `R` is a refusal, or what stands for one.
 #[derive(Clone, Copy)]
-pub enum Output {
+pub enum Output<R = Refusal> {
     Quiet,
     Line(Entry),
     Last(Entry),
-    End(Option<Refusal>),
+    End(Option<R>),
 }
 
 // Whether a program stops after an output.
-pub fn ends(x: Output) -> bool
+pub fn ends<R: RefusalNumber>(x: Output<R>) -> bool
     ensures { result ≡ stops_after x }
 {
     matches!(x, Output::Last(_) | Output::End(_))
@@ -72,7 +71,7 @@ pub fn plain_entry(position: u64, number: u32, worker: u8) -> Entry
 
 // The line of a take: 30 in its place where the distance is above the bound.
 #[tactic(auto, unfolding(laws::specs::Choice::cond))]
-fn taken_line(bound: u32, line: Entry) -> Output
+fn taken_line<R>(bound: u32, line: Entry) -> Output<R>
     ensures { result ≡ cond (ltb bound line.distance) (Output.Last (plain line.position over_bound line.worker)) (Output.Line line) }
 {
     if bound < line.distance {
@@ -83,16 +82,16 @@ fn taken_line(bound: u32, line: Entry) -> Output
 }
 
 // The entry of an event of this number, its last five fields 0.
-fn plain_of(d: Done, number: u32) -> Entry
+fn plain_of<R: RefusalNumber>(d: Done<R>, number: u32) -> Entry
     ensures { result ≡ plain d.position number (worker_in (Says d.said)) }
 {
     plain_entry(d.position, number, worker_in(d.said))
 }
 
 // What the lister prints of an event. The answer 0, of most words, has no line: it is told first, and asks for nothing else.
-// Stays: the numbers of the answers stand here again, as a line prints them and `listed_of` has them.
-fn listed(bound: u32, d: Done) -> Output
-    ensures { Outputs result (listed_of bound (event_done d)) }
+// Stays: the numbers of the answers stand here again, as a line prints them and `answer_printed_by` has them.
+fn listed<R: RefusalNumber>(bound: u32, d: Done<R>) -> Output<R>
+    ensures { Outputs result (listed_by R.number bound d.position (Says d.said) d.answer) }
 {
     let answer = match d.answer {
         Ok(answer) => answer,
@@ -135,8 +134,8 @@ fn listed(bound: u32, d: Done) -> Output
 }
 
 // What a program prints of an event, with a tally that has counted it.
-pub fn print_event(mode: Mode, t: Tally, d: Done) -> Output
-    ensures { Outputs result (event_printed mode t (event_done d)) }
+pub fn print_event<R: RefusalNumber>(mode: Mode, t: Tally, d: Done<R>) -> Output<R>
+    ensures { Outputs result (event_printed_by R.number mode t d.position (Says d.said) d.answer) }
 {
     match mode {
         Mode::Listing => listed(t.bound, d),

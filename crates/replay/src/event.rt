@@ -3,12 +3,13 @@
 use rules::{Answer, Refusal, Settings};
 use runfile::item::{Opening, Said};
 
-// What a word after the first two did: its position, what it says, and what the call that it makes comes to, `Moving` where it makes none.
+// What a word after the first two did: its position, what it says, and what the call that it makes comes to, `Moving` where it makes none. `R` is what it may be
+// refused by, or what stands for that.
 #[derive(Clone, Copy)]
-pub struct Done {
+pub struct Done<R = Refusal> {
     pub position: u64,
     pub said: Said,
-    pub answer: Result<Answer, Refusal>,
+    pub answer: Result<Answer, R>,
 }
 
 // How a file goes on: its first word is read, the pool is made, a later word did what it says, or the file ends, by a fault or by none.

@@ -1,5 +1,5 @@
 -- The numbers of answers and refusals: an answer's is 4 at the most, a refusal's is above and 33 at the most, and no two refusals have one.
-use Rattle.std.proofs.Common.{ℕ, ◌≡◌, ◌≤◌, ◌<◌, refl, arith}
+use Rattle.std.proofs.Common.{◌≡◌, ◌≤◌, ◌<◌, refl, arith}
 use Rattle.std.specs.Prelude.{Ok}
 use Rattle.laws.specs.Choice.{cond}
 use Rattle.rules.specs.Answers.{number_of, refusal_number, refusal_numbered}

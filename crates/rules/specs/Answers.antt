@@ -96,25 +96,32 @@ refusal_numbered n =
 abbrev pub Answered : Type 0
 Answered = Result Answer Refusal
 
+-- its number, by the number of what stands for a refusal
+abbrev pub number_by : {R : Type 0} → (R → ℕ) → Result Answer R → ℕ
+number_by number (Ok Moving) = 0
+number_by number (Ok (Put value sub row stamp)) = 1
+number_by number (Ok (Taken value sub row stamp distance)) = 2
+number_by number (Ok Empty) = 3
+number_by number (Ok Full) = 4
+number_by number (Err refusal) = number refusal
+
 abbrev pub number_of : Answered → ℕ
-number_of (Ok Moving) = 0
-number_of (Ok (Put value sub row stamp)) = 1
-number_of (Ok (Taken value sub row stamp distance)) = 2
-number_of (Ok Empty) = 3
-number_of (Ok Full) = 4
-number_of (Err refusal) = refusal_number refusal
+number_of a = number_by refusal_number a
 
 abbrev pub no_fields : List ℕ
 no_fields = 0 ∷ 0 ∷ 0 ∷ 0 ∷ 0 ∷ []
 
 -- value, sub, row, stamp, distance
+abbrev pub fields_by : {R : Type 0} → Result Answer R → List ℕ
+fields_by (Ok Moving) = no_fields
+fields_by (Ok (Put value sub row stamp)) = value ∷ sub ∷ row.0 ∷ stamp.0 ∷ 0 ∷ []
+fields_by (Ok (Taken value sub row stamp distance)) = value ∷ sub ∷ row.0 ∷ stamp.0 ∷ distance ∷ []
+fields_by (Ok Empty) = no_fields
+fields_by (Ok Full) = no_fields
+fields_by (Err refusal) = no_fields
+
 abbrev pub fields_of : Answered → List ℕ
-fields_of (Ok Moving) = no_fields
-fields_of (Ok (Put value sub row stamp)) = value ∷ sub ∷ row.0 ∷ stamp.0 ∷ 0 ∷ []
-fields_of (Ok (Taken value sub row stamp distance)) = value ∷ sub ∷ row.0 ∷ stamp.0 ∷ distance ∷ []
-fields_of (Ok Empty) = no_fields
-fields_of (Ok Full) = no_fields
-fields_of (Err refusal) = no_fields
+fields_of a = fields_by a
 
 -- the final answer that has a number, 1 to 4, and five fields
 unfoldable pub final_of : ℕ → List ℕ → Answer

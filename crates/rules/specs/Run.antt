@@ -1,6 +1,7 @@
 -- "One at a time": a list of calls, its run, and an operation's own steps, by positions in the list.
-use Rattle.std.specs.Prelude.{ℕ, ◌≤◌, ◌<◌, ◌≡◌, List, [], ◌∷◌, get_or, Err}
-use Rattle.rules.specs.Answers.{Out, number_of, fields_of}
+use Rattle.std.specs.Prelude.{ℕ, ◌≤◌, ◌<◌, ◌≡◌, List, [], ◌∷◌, get_or, Err, Result}
+use Rattle.rules.specs.declared.Answer.{Answer}
+use Rattle.rules.specs.Answers.{Out, number_of, fields_by, fields_of}
 use Rattle.rules.specs.Begin.{begin_put_of, begin_take_of}
 use Rattle.rules.specs.Step.{step_of}
 use Rattle.rules.specs.Resize.{set_size_of}
@@ -64,8 +65,11 @@ value_in a = get_or (fields_of a) 0 0
 abbrev pub stamp_in : Answered → ℕ
 stamp_in a = get_or (fields_of a) 3 0
 
+abbrev pub distance_by : {R : Type 0} → Result Answer R → ℕ
+distance_by a = get_or (fields_by a) 4 0
+
 abbrev pub distance_in : Answered → ℕ
-distance_in a = get_or (fields_of a) 4 0
+distance_in a = distance_by a
 
 -- ---- operations
 -- an answer 1 to 4, which finishes an operation

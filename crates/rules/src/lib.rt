@@ -2,7 +2,10 @@
 #![tactic(auto)]
 
 pub mod numbers;
+mod refusal_number;
 mod refusals;
+
+pub use refusal_number::RefusalNumber;
 
 // A row of a sub, from 1.
 #[derive(Clone, Copy, Debug, Default, PartialEq, Eq, PartialOrd, Ord)]

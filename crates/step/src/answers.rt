@@ -1,12 +1,12 @@
 // The number of an answer or of a refusal, and its five fields.
 ghost use Rattle.std.specs.Prelude.{◌≡◌};
-ghost use Rattle.rules.specs.Answers.{number_of, fields_of, final_of};
+ghost use Rattle.rules.specs.Answers.{number_by, fields_by, final_of};
 
-use rules::{Answer, Refusal, Row, Stamp};
+use rules::{Answer, RefusalNumber, Row, Stamp};
 
 // The number of what a call comes to.
-pub fn number(a: Result<Answer, Refusal>) -> u32
-    ensures { result ≡ number_of a }
+pub fn number<R: RefusalNumber>(a: Result<Answer, R>) -> u32
+    ensures { result ≡ number_by R.number a }
 {
     match a {
         Ok(Answer::Moving) => 0,
@@ -19,8 +19,8 @@ pub fn number(a: Result<Answer, Refusal>) -> u32
 }
 
 // Value, sub, row, stamp and distance; zeros where it names none.
-pub fn fields(a: Result<Answer, Refusal>) -> [u32; 5]
-    ensures { result ≡ fields_of a }
+pub fn fields<R: RefusalNumber>(a: Result<Answer, R>) -> [u32; 5]
+    ensures { result ≡ fields_by a }
 {
     match a {
         Ok(
@@ -45,8 +45,8 @@ pub fn fields(a: Result<Answer, Refusal>) -> [u32; 5]
 }
 
 // Writes the five fields of what a call comes to; its number.
-pub fn answered(a: Result<Answer, Refusal>, five: &mut [u32; 5]) -> u32
-    ensures { (result ≡ number_of a) × (five.new ≡ fields_of a) }
+pub fn answered<R: RefusalNumber>(a: Result<Answer, R>, five: &mut [u32; 5]) -> u32
+    ensures { (result ≡ number_by R.number a) × (five.new ≡ fields_by a) }
 {
     *five = fields(a);
     number(a)

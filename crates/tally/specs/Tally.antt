@@ -1,10 +1,10 @@
 -- What is counted over the events of a file: operations finished by kind, calls refused, the greatest distance, and the bound on one.
 use Rattle.std.specs.Prelude.{ℕ, ◌+◌, ◌-◌, ◌*◌, ◌%◌, ◌^◌, max, Bool, ◌==◌, nat_lt}
 use Rattle.laws.specs.Choice.{cond}
-use Rattle.rules.specs.Answers.{number_of}
+use Rattle.rules.specs.Answers.{number_by, number_of}
 use Rattle.rules.specs.Limits.{settings_fit}
 use Rattle.rules.specs.Make.{shipped_from}
-use Rattle.rules.specs.Run.{distance_in}
+use Rattle.rules.specs.Run.{distance_by, distance_in}
 use Rattle.rules.specs.Sequential.{most_passed}
 use Rattle.rules.specs.declared.Settings.{Settings}
 use Rattle.rules.specs.declared.Size.{Size}
@@ -13,6 +13,7 @@ use Rattle.runfile.specs.declared.item.Item.{Item}
 use Rattle.runfile.specs.declared.item.Item.TheVariants.{Open, Make, Says}
 use Rattle.runfile.specs.declared.item.Said.TheVariants.{BeginPut, BeginTake, Step, End, SetSize}
 use Rattle.replay.specs.Replay.{Event}
+use Rattle.replay.specs.declared.event.Done.{Done}
 use Rattle.tally.specs.declared.Tally.{Tally}
 
 abbrev pub no_tally : Tally
@@ -45,19 +46,22 @@ bound_after bound (Says (SetSize width depth)) n = cond (n == 0) (max bound (pas
 abbrev pub is_refused : Answered → Bool
 is_refused a = nat_lt 4 (number_of a)
 
--- a tally with an event, by a way of counting on where something is so
-abbrev pub tally_by : (ℕ → Bool → ℕ) → Tally → Event → Tally
-tally_by on t e =
-    let n = number_of e.answer in
+-- a tally with a word that has an answer of this number and distance, by a way of counting on where something is so
+abbrev pub tally_on : (ℕ → Bool → ℕ) → Tally → Item → ℕ → ℕ → Tally
+tally_on on t item n distance =
     record {
       puts = on t.puts (n == 1);
       takes = on t.takes (n == 2);
       empties = on t.empties (n == 3);
       fulls = on t.fulls (n == 4);
-      refused = on t.refused (is_refused e.answer);
-      worst = max t.worst (distance_in e.answer);
-      bound = bound_after t.bound e.item n;
+      refused = on t.refused (nat_lt 4 n);
+      worst = max t.worst distance;
+      bound = bound_after t.bound item n;
     }
+
+-- with an event
+abbrev pub tally_by : (ℕ → Bool → ℕ) → Tally → Event → Tally
+tally_by on t e = tally_on on t e.item (number_of e.answer) (distance_in e.answer)
 
 abbrev pub count_on : ℕ → Bool → ℕ
 count_on x b = x + cond b 1 0
@@ -71,3 +75,7 @@ wrap_on x b = cond b ((x + 1) % 2 ^ 64) x
 
 unfoldable pub tallied : Tally → Event → Tally
 tallied t e = tally_by wrap_on t e
+
+-- that, where what stands for a refusal has a number of its own: it counts as the number says
+unfoldable pub counted_by : {R : Type 0} → (R → ℕ) → Tally → Done R → Tally
+counted_by number t d = tally_on wrap_on t (Says d.said) (number_by number d.answer) (distance_by d.answer)

@@ -3,18 +3,18 @@
 
 ghost use Rattle.std.specs.Prelude.{◌≡◌};
 ghost use Rattle.rules.specs.Limits.{Bounds};
-ghost use Rattle.rules.specs.Answers.{number_of};
+ghost use Rattle.rules.specs.Run.{distance_by};
 ghost use Rattle.rules.specs.Sequential.{most_passed};
 ghost use Rattle.runfile.specs.declared.item.Item.TheVariants.{Says};
-ghost use Rattle.replay.specs.Told.{event_done};
-ghost use Rattle.tally.specs.Tally.{bound_in, passed_in, bound_after, tallied};
+ghost use Rattle.tally.specs.Tally.{bound_in, passed_in, bound_after, counted_by};
 
 use image::in_edition;
 use limits::settings_fit;
 use replay::Done;
 use rules::numbers::SHIPPED;
-use rules::{Answer, Settings};
+use rules::{Answer, RefusalNumber, Settings};
 use runfile::item::Said;
+use step::answers::number;
 
 // How many operations were put, taken, empty and full, how many calls were refused, the greatest distance, and the bound on one.
 #[derive(Clone, Copy, Default)]
@@ -63,49 +63,58 @@ fn passed_in(width: u8, depth: u8) -> u32
     u32::from(width).saturating_sub(1) * u32::from(depth)
 }
 
-// The bound after a word that is neither of the first two: a size that is set may raise it.
+// The bound after a word that is neither of the first two and has an answer of this number: a size that is set may raise it.
 #[tactic(auto, unfolding(laws::specs::Choice::cond))]
-fn bound_after(bound: u32, d: Done) -> u32
-    ensures { result ≡ bound_after bound (Says d.said) (number_of d.answer) }
+fn bound_after(bound: u32, said: Said, number: u32) -> u32
+    ensures { result ≡ bound_after bound (Says said) number }
 {
-    match (d.said, d.answer) {
-        (Said::SetSize { width, depth }, Ok(Answer::Moving)) => bound.max(passed_in(width, depth)),
+    match (said, number) {
+        (Said::SetSize { width, depth }, 0) => bound.max(passed_in(width, depth)),
         _ => bound,
     }
 }
 
-// The tally with an event.
-#[tactic(auto, unfolding(crate::specs::Tally::tallied, laws::specs::Choice::cond))]
-pub fn count(t: Tally, d: Done) -> Tally
-    ensures { result ≡ tallied t (event_done d) }
+// The distance that an answer names, or 0.
+fn distance_in<R: RefusalNumber>(answer: Result<Answer, R>) -> u32
+    ensures { result ≡ distance_by answer }
 {
-    let bound = bound_after(t.bound, d);
-    match d.answer {
-        Ok(Answer::Moving) => Tally { bound, ..t },
-        Ok(Answer::Put { .. }) => Tally {
+    match answer {
+        Ok(Answer::Taken { distance, .. }) => distance,
+        _ => 0,
+    }
+}
+
+// The tally with an event.
+#[tactic(auto, unfolding(crate::specs::Tally::counted_by, laws::specs::Choice::cond))]
+pub fn count<R: RefusalNumber>(t: Tally, d: Done<R>) -> Tally
+    ensures { result ≡ counted_by R.number t d }
+{
+    let n = number(d.answer);
+    let t = Tally {
+        worst: t.worst.max(distance_in(d.answer)),
+        bound: bound_after(t.bound, d.said, n),
+        ..t
+    };
+    match n {
+        0 => t,
+        1 => Tally {
             puts: t.puts.wrapping_add(1),
-            bound,
             ..t
         },
-        Ok(Answer::Taken { distance, .. }) => Tally {
+        2 => Tally {
             takes: t.takes.wrapping_add(1),
-            worst: t.worst.max(distance),
-            bound,
             ..t
         },
-        Ok(Answer::Empty) => Tally {
+        3 => Tally {
             empties: t.empties.wrapping_add(1),
-            bound,
             ..t
         },
-        Ok(Answer::Full) => Tally {
+        4 => Tally {
             fulls: t.fulls.wrapping_add(1),
-            bound,
             ..t
         },
-        Err(_) => Tally {
+        _ => Tally {
             refused: t.refused.wrapping_add(1),
-            bound,
             ..t
         },
     }

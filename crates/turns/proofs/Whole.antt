@@ -2,7 +2,7 @@
 -- By induction on the bytes, four at a time: a turn at a word is the first step of `print_from`, if it goes on (`next_prints`). The printer after it
 -- is that of the next word, and its tally counts as `tally_after` does, since no file has 2^64 words.
 use Rattle.std.proofs.Common.{◌≡◌, ℕ, zero, suc, ◌+◌, ◌/◌, ◌%◌, ◌^◌, ◌<◌, ◌≤◌, Bool, true, false, eqb, Option, Some, None, List, [], ◌∷◌, length, refl, ap, ◌∙◌, mod-eq_of_lt, arith}
-use Rattle.laws.specs.Choice.{cond, cases}
+use Rattle.laws.specs.Choice.{cond}
 use Rattle.rules.specs.Answers.{number_of}
 use Rattle.rules.specs.declared.Refusal.{Refusal}
 use Rattle.runfile.specs.Words.{word_of, reads_of, read_at}
@@ -10,7 +10,7 @@ use Rattle.runfile.specs.declared.word.Read.{Read}
 use Rattle.runfile.specs.declared.word.Read.TheVariants.{Word}
 use Rattle.replay.specs.Replay.{lent, next_of, goes_on, next_place, replay_from, replay_of, place_after, Event, Next, goes, ends}
 use Rattle.tally.specs.Tally.{is_refused, count_on, wrap_on, tally_after, tallied}
-use Rattle.printing.specs.Printings.{listed_end, event_printed, end_printed, ends_with}
+use Rattle.printing.specs.Printings.{listed_end, event_printed, end_printed, end_numbered, ends_with}
 use Rattle.printing.specs.Print.{print_then, print_from, printed_of}
 use Rattle.turns.specs.Turn.{new_printer, turn_by, turn_of}
 use Rattle.turns.specs.Turns.{turns_from, turns_of}
@@ -59,7 +59,7 @@ tally_few t e n f =
 -- ---- a turn
 -- a program stops at the end of a file
 pub end_ends : (m : Mode) (t : Tally) (position : ℕ) (fault : Option Refusal) (ws : List ℕ) → ends_with (end_printed m t position fault ws) ≡ true
-unfolding end_printed listed_end
+unfolding end_numbered listed_end
 end_ends Listing t position None ws = refl
 end_ends Listing t position (Some refusal) ws = refl
 end_ends Summing t position fault ws = refl

@@ -8,6 +8,7 @@ use Rattle.tally.specs.Tally.{no_tally, tallied}
 use Rattle.printing.specs.Printings.{event_printed, end_printed}
 use Rattle.printing.specs.Outputs.{printed_by}
 use Rattle.printing.specs.declared.printed.Output.{Output}
+use Rattle.rules.specs.declared.Refusal.{Refusal}
 use Rattle.printing.specs.declared.printed.Mode.{Mode}
 use Rattle.printing.specs.declared.printed.Printed.{Printed}
 use Rattle.turns.specs.declared.Printer.{Printer}
@@ -27,7 +28,7 @@ pub record Turned : Type 0 where
   pub words : List ℕ
 
 -- the output of a program that is where its printer says, with the pool's words
-abbrev pub shown : Mode → List ℕ → Printer → Output → Printed
+abbrev pub shown : Mode → List ℕ → Printer → Output Refusal → Printed
 shown m ws p x = printed_by (λ fault. end_printed m p.tally p.position fault ws) x
 
 -- the code's turn, with the pool's words after it

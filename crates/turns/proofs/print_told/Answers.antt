@@ -4,8 +4,8 @@ use Rattle.laws.specs.Choice.{cond}
 use Rattle.rules.specs.declared.Answer.TheVariants.{Moving}
 use Rattle.runfile.specs.declared.item.Item.{Item}
 use Rattle.replay.specs.Replay.{event, goes, place_after}
-use Rattle.tally.specs.Tally.{with_bound, bound_after, tallied}
-use Rattle.printing.specs.Printings.{answer_printed, listed_of, event_printed}
+use Rattle.tally.specs.Tally.{with_bound, bound_after, tallied, counted_by}
+use Rattle.printing.specs.Printings.{answer_printed_by, listed_by, event_printed, event_printed_by}
 use Rattle.turns.specs.Turn.{turn_by}
 use Rattle.printing.specs.declared.printed.Mode.{Mode}
 use Rattle.printing.specs.declared.printed.Mode.TheVariants.{Listing, Summing}
@@ -22,7 +22,7 @@ moving_tally t position item = let worst : max t.worst 0 ≡ t.worst = omega ari
 
 -- and has no line
 moving_quiet : (m : Mode) (t : Tally) (position : ℕ) (item : Item) → event_printed m t (event position item (Ok Moving)) ≡ Nothing
-unfolding event_printed listed_of answer_printed cond
+unfolding event_printed_by listed_by answer_printed_by cond
 moving_quiet Listing t position item = rw (le-ltb t.bound 0 (omega arith)) refl
 moving_quiet Summing t position item = refl
 
@@ -42,7 +42,7 @@ pub returns-in-Makes : goal.returns-in-Makes
 returns-in-Makes c = λ ws. simp (c.bound_in.ensures, c.in-Makes.is, head_turned)
 
 pub returns-in-Does : goal.returns-in-Does
-unfolding turn_by
+unfolding turn_by tallied counted_by
 returns-in-Does c = λ ws. simp (c.print_event.ensures, c.count-tally.ensures, c.place_after.ensures c.in-Does.d.answer, c.in-Does.is)
 
 pub returns-in-Ends : goal.returns-in-Ends

@@ -1,5 +1,5 @@
 -- `calls::entry::next_answer` meets its contract: a step of a pool that is known to be fit is asked for.
-use Rattle.std.proofs.Common.{sym, ap, ◌∙◌}
+use Rattle.std.proofs.Common.{ap, ◌∙◌}
 use Rattle.rules.specs.Answers.{returned_of}
 use Rattle.rules.specs.Fit.{Checked}
 use Rattle.rules.specs.Step.{checked_step, step_of}

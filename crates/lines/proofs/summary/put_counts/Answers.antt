@@ -8,12 +8,12 @@ use Rattle.lines.proofs.summary.put_counts.Goals as goal
 
 pub put_filled-requires-clause-a_number_each : goal.put_filled-requires-clause-a_number_each
 unfolding marks cond
-put_filled-requires-clause-a_number_each c = refl
+put_filled-requires-clause-a_number_each g c = refl
 
 pub put_filled-requires-clause-room : goal.put_filled-requires-clause-room
 unfolding marks cond
-put_filled-requires-clause-room c = omega (arith, filled_counts_most counts_text c.args.s refl (omega (arith, c.well_formed)), c.requires)
+put_filled-requires-clause-room g c = omega (arith, filled_counts_most counts_text c.args.s refl (omega (arith, c.well_formed)), c.requires)
 
 pub returns : goal.returns
 unfolding counts_lines
-returns c = c.put_filled.ensures
+returns g c = c.put_filled.ensures

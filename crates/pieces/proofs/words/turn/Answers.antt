@@ -2,6 +2,7 @@
 use Rattle.std.proofs.Common.{◌≡◌, ℕ, ◌+◌, ◌-◌, ◌≤◌, Bool, List, ◌++◌, length, take, drop, refl, sym, ◌∙◌, arith, append-nil, append_assoc, length-drop, ap}
 use Rattle.std.proofs.lemmas.List.{take_rest, drop_all}
 use Rattle.std.proofs.Math.Seq.{drop-drop}
+use Rattle.rules.specs.declared.Refusal.{Refusal}
 use Rattle.printing.specs.Printings.{ends_with}
 use Rattle.printing.specs.Outputs.{stops_after}
 use Rattle.turns.specs.Turn.{shown}
@@ -14,7 +15,7 @@ use Rattle.pieces.specs.Stretch.{put_at, stretched, turn_put, stretch_turn}
 use Rattle.pieces.proofs.words.turn.Goals as goal
 
 -- a program stops after an output where it stops after what is printed of it
-shown_ends : (m : Mode) (ws : List ℕ) (p : Printer) (x : Output) → ends_with (shown m ws p x) ≡ stops_after x
+shown_ends : (m : Mode) (ws : List ℕ) (p : Printer) (x : Output Refusal) → ends_with (shown m ws p x) ≡ stops_after x
 shown_ends m ws p Quiet = refl
 shown_ends m ws p (Line e) = refl
 shown_ends m ws p (Last e) = refl

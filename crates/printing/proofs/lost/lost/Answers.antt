@@ -1,5 +1,5 @@
 -- `printing::lost::lost` meets its contract: words that are fit are counted worker by worker; of other words none. Assumes nothing.
-use Rattle.std.proofs.Common.{◌≡◌, ℕ, List, Ok, ap, sym, ◌∙◌}
+use Rattle.std.proofs.Common.{ap, sym, ◌∙◌}
 use Rattle.rules.proofs.Fitness.{fit_head, fit_pool, found_settings, found_refusal}
 use Rattle.rules.specs.Fit.{Checked, checked_of}
 use Rattle.rules.specs.Make.{shipped}

@@ -1,0 +1,2 @@
+-- The theorem on what a number asks for.
+pub mod Numbers
