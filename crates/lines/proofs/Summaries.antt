@@ -1,6 +1,9 @@
 -- Every summary fits its area: its template has as many marks as numbers, and each number has at most 20 digits.
 use Rattle.std.proofs.Common.{ℕ, ◌≡◌, ◌+◌, ◌^◌, ◌<◌, ◌≤◌, List, [], ◌∷◌, length, refl, arith, length-append}
 use Rattle.laws.specs.Choice.{cond}
+use Rattle.rules.proofs.Numbered.{number_low}
+use Rattle.rules.specs.Answers.{refusal_number}
+use Rattle.rules.specs.declared.Refusal.{Refusal}
 use Rattle.std.specs.Prelude.{Option, None, Some}
 use Rattle.lines.specs.Templates.{marks, filled}
 use Rattle.lines.specs.Summary.{faulty_text, counts_text, counts_of, first_line, first_line_of, counts_lines, summary_text, first_line_bytes, summary_bytes}
@@ -31,8 +34,8 @@ pub counts_most : {R : Type 0} (s : Summary R) → Held s → length (counts_lin
 unfolding counts_lines
 counts_most s h = omega (arith, filled_counts_most counts_text s counts_marks h)
 
-pub faulty_most : (fault words : ℕ) → fault < 2 ^ 64 → words < 2 ^ 64 → length (filled faulty_text (fault ∷ words ∷ [])) ≤ first_line_bytes
-faulty_most fault words f w = let most = filled_most faulty_text (fault ∷ words ∷ []) faulty_marks (f, (w, tt)) in omega arith
+pub faulty_most_by : (fault words : ℕ) → fault < 2 ^ 64 → words < 2 ^ 64 → length (filled faulty_text (fault ∷ words ∷ [])) ≤ first_line_bytes
+faulty_most_by fault words f w = let most = filled_most faulty_text (fault ∷ words ∷ []) faulty_marks (f, (w, tt)) in omega arith
 
 module _ {R : Type 0} (number : R → ℕ) where
   -- the number of a fault as the code puts it
@@ -42,11 +45,25 @@ module _ {R : Type 0} (number : R → ℕ) where
 
   first_line_most : (fault : Option R) (words : ℕ) → HeldFault fault → words < 2 ^ 64 → length (first_line_of number fault words) ≤ first_line_bytes
   first_line_most None words f w = omega arith
-  first_line_most (Some fault) words f w = faulty_most (number fault) words f w
+  first_line_most (Some fault) words f w = faulty_most_by (number fault) words f w
 
-  pub first_most : (s : Summary R) → HeldFault s.fault → Held s → length (first_line number s) ≤ first_line_bytes
-  first_most s f h = first_line_most s.fault s.words f h.0
+  pub first_most_by : (s : Summary R) → HeldFault s.fault → Held s → length (first_line number s) ≤ first_line_bytes
+  first_most_by s f h = first_line_most s.fault s.words f h.0
 
-  pub summary_fits : (s : Summary R) → length (first_line number s) ≤ first_line_bytes → Held s → length (summary_text number s) ≤ summary_bytes
+  pub summary_fits_by : (s : Summary R) → length (first_line number s) ≤ first_line_bytes → Held s → length (summary_text number s) ≤ summary_bytes
   unfolding summary_text
-  summary_fits s first h = omega (arith, length-append (first_line number s) (counts_lines s), counts_most s h)
+  summary_fits_by s first h = omega (arith, length-append (first_line number s) (counts_lines s), counts_most s h)
+
+-- ---- where the fault is a refusal: its number is low, so nothing is asked of it
+pub faulty_most : (fault : Refusal) (words : ℕ) → words < 2 ^ 64 → length (filled faulty_text (refusal_number fault ∷ words ∷ [])) ≤ first_line_bytes
+faulty_most fault words w = faulty_most_by (refusal_number fault) words (omega (arith, number_low fault)) w
+
+fault_held : (fault : Option Refusal) → HeldFault refusal_number fault
+fault_held None = tt
+fault_held (Some fault) = omega (arith, number_low fault)
+
+pub first_most : (s : Summary Refusal) → Held s → length (first_line refusal_number s) ≤ first_line_bytes
+first_most s h = first_most_by refusal_number s (fault_held s.fault) h
+
+pub summary_fits : (s : Summary Refusal) → Held s → length (summary_text refusal_number s) ≤ summary_bytes
+summary_fits s h = summary_fits_by refusal_number s (first_most s h) h

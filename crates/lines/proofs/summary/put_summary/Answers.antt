@@ -3,7 +3,7 @@ use Rattle.std.proofs.Common.{ℕ, ◌≡◌, List, ◌++◌, length, ap, ◌∙
 use Rattle.lines.specs.Area.{Written, put}
 use Rattle.lines.specs.Summary.{counts_lines, summary_text, summary_bytes}
 use Rattle.lines.proofs.Area.{put_put, put_room, last_none, last_put}
-use Rattle.lines.proofs.Summaries.{counts_most, summary_fits}
+use Rattle.lines.proofs.Summaries.{counts_most, summary_fits_by}
 use Rattle.lines.proofs.summary.put_summary.Goals as goal
 
 pub returns-then-room-lt-SUMMARY_BYTES-clause-lines : goal.returns-then-room-lt-SUMMARY_BYTES-clause-lines
@@ -38,5 +38,5 @@ returns-clause-short g c =
     omega (
       arith,
       text ∙ length-append (summary_text g.R.RefusalNumber.number s) lines.text,
-      summary_fits g.R.RefusalNumber.number s c.put_first.ensures.short (omega (arith, c.well_formed)),
+      summary_fits_by g.R.RefusalNumber.number s c.put_first.ensures.short (omega (arith, c.well_formed)),
     )
