@@ -1,8 +1,8 @@
 -- WHAT IS QUOTED OF A LISTING, the statements. They hold of every run file, whatever its bytes, and are over its lines alone, as a planner reads them.
-use Rattle.std.specs.Prelude.{ℕ, ◌+◌, ◌≤◌, max, Bool, List, [], ◌∷◌, ◌++◌, map, ◌≢◌, ◌≡◌, eqb, ltb, length}
+use Rattle.std.specs.Prelude.{ℕ, ◌+◌, ◌≤◌, max, Bool, List, [], ◌∷◌, ◌++◌, map, ◌≢◌, ◌≡◌, eqb, ltb, length, option_map}
 use Rattle.std.proofs.Math.Option.{some}
 use Rattle.laws.specs.Choice.{cond}
-use Rattle.rules.specs.Answers.{over_bound}
+use Rattle.rules.specs.Answers.{refusal_number, over_bound}
 use Rattle.rules.specs.Consequences.{has_stamp}
 use Rattle.rules.specs.Held.{Item, count_items}
 use Rattle.rules.specs.Statement.{All}
@@ -107,8 +107,9 @@ ClosingAddsUp =
     (bytes : List ℕ) (held worst : ℕ) → last_of (printed_of Listing bytes) ≡ Closing held worst
     → (held + length (listed 2 bytes) ≡ length (listed 1 bytes)) × (worst ≡ greatest (listed 2 bytes))
 
--- ---- the summary has the same numbers, of a file that ends in a fault too: it counts the lines of the listing
+-- ---- the summary has the same numbers, of a file that ends in a fault too: it counts the lines of the listing, and names the fault by its number
 pub record Counts (bytes : List ℕ) (s : Summary ℕ) : Type 0 where
+  pub fault : s.fault ≡ option_map refusal_number (replay_of bytes).end.fault
   pub puts : s.puts ≡ length (listed 1 bytes)
   pub takes : s.takes ≡ length (listed 2 bytes)
   pub empties : s.empties ≡ length (listed 3 bytes)
