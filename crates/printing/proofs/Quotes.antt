@@ -27,7 +27,7 @@ use Rattle.replay.specs.Files.{with_call, events_in}
 use Rattle.replay.proofs.Files.{positions_count}
 use Rattle.lines.specs.declared.line.Entry.{Entry}
 use Rattle.tally.specs.Tally.{no_tally, count_on, tally_after}
-use Rattle.printing.specs.Printings.{worker_in, answer_printed, answer_printed_by, listed_by, listed_end, event_printed_by, numbered, end_printed, end_numbered, ends_with}
+use Rattle.printing.specs.Printings.{worker_in, answer_printed, answer_printed_by, listed_by, listed_end, event_printed_by, end_printed, end_numbered, ends_with}
 use Rattle.printing.specs.Print.{print_then, print_from, printed_of}
 use Rattle.tally.specs.Bound.{tally_over}
 use Rattle.printing.specs.Quotes.{line_if, lines_if, only, listed_if, listed, item_on, items_listed, greatest, last_of, answer_line, end_of, ListsAll, NotOver, NeverOver, DistancesWithin, TakesArePuts, ClosingAddsUp, SummaryCounts}
@@ -36,7 +36,7 @@ use Rattle.printing.specs.declared.printed.Mode.TheVariants.{Listing, Summing}
 use Rattle.printing.specs.declared.printed.Printed.{Printed}
 use Rattle.printing.specs.declared.printed.Printed.TheVariants.{Nothing, Closing}
 use Rattle.tally.proofs.Events.{Quiet, AllQuiet, no_distance, Close, Within, known_file, all_within, faults}
-use Rattle.std.specs.Prelude.{Option, option_map, Some, None, Ok, Err}
+use Rattle.std.specs.Prelude.{Option, Some, None, Ok, Err}
 use Rattle.rules.specs.declared.Refusal.{Refusal}
 use Rattle.runfile.specs.Faults.{fault_number}
 
@@ -254,11 +254,6 @@ never_over bytes =
     (answers_not_over (replay_of bytes).events (end_of Listing bytes) (end_not_over _ _ _ _ (faults First 0 lent (reads_of bytes))))
 
 -- ---- the summary
--- a fault's number is that of the refusal that it is
-fault_numbered : (fault : Option Refusal) → numbered refusal_number fault ≡ option_map refusal_number fault
-fault_numbered None = refl
-fault_numbered (Some refusal) = refl
-
 pub summary_counts : SummaryCounts
 unfolding printed_of end_numbered tally_after
 summary_counts bytes =
@@ -273,7 +268,7 @@ summary_counts bytes =
       _,
       ap last_of (sums_from no_tally r.events r.end) ∙ last_end (map (λ (x : Happened). Nothing) r.events) (end_of Summing bytes),
       record {
-        fault = fault_numbered r.end.fault;
+        fault = refl;
         puts = omega arith;
         takes = omega arith;
         empties = omega (arith, lines (λ t. t.empties) (only 3) (λ t e. refl) refl);

@@ -1,5 +1,5 @@
 -- THE PRINTINGS of a replay: what each program prints of an event, and of the end of the file. A new program is a case of `Mode` with its lines here.
-use Rattle.std.specs.Prelude.{ℕ, Bool, true, false, List, [], ltb, get_or, Option, Some, None, Result, Ok, Err}
+use Rattle.std.specs.Prelude.{ℕ, Bool, true, false, List, [], ltb, get_or, Option, Some, None, option_map, Result, Ok, Err}
 use Rattle.laws.specs.Choice.{cond}
 use Rattle.rules.specs.Answers.{refusal_number, over_bound}
 use Rattle.rules.specs.Held.{held_of}
@@ -101,8 +101,7 @@ event_printed m t e = event_printed_by refusal_number m t e.position e.item e.an
 
 -- the number of a fault, if there is one
 abbrev pub numbered : {R : Type 0} → (R → ℕ) → Option R → Option ℕ
-numbered number None = None
-numbered number (Some refusal) = Some (number refusal)
+numbered number fault = option_map number fault
 
 -- and of the end of a file: the position where it ends, the fault's number, if there is one, and the pool's words
 unfoldable pub end_numbered : Mode → Tally → ℕ → Option ℕ → List ℕ → Printed
